@@ -52,8 +52,8 @@ impl NameSet {
         ensures ok { OnOk result ((u : _) → is_among u self.new ≡ (bytes_eq name.now u || is_among u self.old)) }
         ensures err { OnErr result (self.new ≡ self.old) }
     {
-        let name = Vec::from_slice(self.alloc, name)?;
-        Ok(self.names.insert(NameKey::owned(name))?)
+        let key = NameKey::copied(self.alloc, name)?;
+        Ok(self.names.insert(key)?)
     }
 }
 

@@ -9,7 +9,7 @@ mod tree;
 use crate::calls::{DirError, Dirs};
 use crate::changes::{Paths, add_file, add_name};
 use crate::count::Count;
-use crate::files::{is_same, release_one, shown_row};
+use crate::files::{Kept, is_same, release_one, shown_row};
 use crate::image::ImageFile;
 use crate::paths::{File, Path, Place};
 use crate::rows::{Row, RowRef, copied_row};
@@ -67,7 +67,7 @@ impl IndexDirs {
         }
     }
 
-    /// Folders with files, which are made in their order; their bytes are moved in. No directory is in order yet.
+    /// Folders with files, which are made in their order; their names and their bytes are moved in. No directory is in order yet.
     /// `NotFound` or `Exists` at the first file whose folder is not there or whose path was met before. `NoMemory` may come in
     /// place of either.
     pub fn from_image(
@@ -95,19 +95,18 @@ impl IndexDirs {
         if file.path.folder >= self.folders {
             return Err(DirError::NotFound);
         }
+        let number = self.slots.make_room()?;
+        if !self.names.add_owned(self.alloc, file.path, number)? {
+            return Err(DirError::Exists);
+        }
         let made = File {
             bytes: file.bytes,
             stamp: file.stamp,
         };
-        if !add_file(
-            &mut self.names,
-            &mut self.slots,
-            self.alloc,
-            &file.path,
-            made,
-        )? {
-            return Err(DirError::Exists);
-        }
+        self.slots.push(Kept {
+            file: made,
+            names: 1,
+        });
         Ok(())
     }
 }

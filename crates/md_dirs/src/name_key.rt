@@ -1,5 +1,5 @@
 // Names as keys of a hash table.
-ghost use Rattle.std.specs.Prelude.{◌≡◌, ◌∷◌, [], Some, List, ℕ};
+ghost use Rattle.std.specs.Prelude.{◌≡◌, ◌≤◌, ◌∷◌, [], Some, IfOk, List, ℕ, length};
 ghost use Rattle.std.specs.Cmp.{partial_equiv_from_equiv};
 ghost use Rattle.std.specs.Cmp.Lexicographic.{nat_list_eq_equiv, nat_list_cmp_total, texts_ties, texts_po, bytes_decides};
 ghost use Rattle.std.specs.Str.{bytes_eq};
@@ -7,6 +7,7 @@ ghost use Rattle.std.proofs.Common.{ap, refl};
 ghost use Rattle.md_dirs.specs.Index.{name_cmp};
 ghost use Rattle.md_dirs.specs.NameKey.{held_bytes};
 
+use std::alloc::{AllocError, Global};
 use std::cmp::Ordering;
 use std::hash::{Hash, Hasher};
 use std::marker::Model;
@@ -18,22 +19,82 @@ pub(crate) enum Held<'a> {
     Lent(&'a [u8]),
 }
 
+impl Held<'_> {
+    /// The bytes, lent.
+    pub(crate) fn as_slice(&self) -> &[u8]
+        ensures { result.now ≡ held_bytes self.now }
+    {
+        match self {
+            Held::Owned(name) => name.as_slice(),
+            Held::Lent(name) => *name,
+        }
+    }
+}
+
+/// How many bytes a name has at most that lies in its key itself. The unique names of usual deliverers have fewer.
+const SHORT: usize = 54;
+
+/// The bytes of a short name, in place.
+#[derive(Drop)]
+pub(crate) struct Short {
+    bytes: [u8; SHORT],
+    len: u8,
+}
+
+impl Model for Short {
+    ghost use Rattle.std.specs.Prelude.{List, ℕ, take, ◌≤◌};
+
+    ghost Value = { List ℕ };
+
+    ghost view = { λ s. take s.len s.bytes };
+
+    ghost invariant = { λ s. s.len ≤ 54 };
+}
+
+impl Short {
+    // A copy of a name that is short enough.
+    fn of(name: &[u8]) -> Short
+        requires { length name.now ≤ SHORT }
+        ensures { result ≡ name.now }
+    {
+        let mut bytes = [0; SHORT];
+        bytes[..name.len()].copy_from_slice(name);
+        Short {
+            bytes,
+            len: name.len() as u8,
+        }
+    }
+
+    fn as_slice(&self) -> &[u8]
+        ensures { result.now ≡ self.now }
+    {
+        &self.bytes[..self.len as usize]
+    }
+}
+
+/// How a key has its bytes: a short name that it owns lies in the key itself.
+#[derive(Drop)]
+pub(crate) enum Kept<'a> {
+    Short(Short),
+    Held(Held<'a>),
+}
+
 /// A name as the key of a hash table: owned in the table, lent to look one up.
 ///
 /// Its bytes go to the hasher at once, where `Vec<u8>` and `&[u8]` write each alone. A table of `NameKey<'static>` is asked for
 /// `&NameKey::lent(name)`, which takes no memory.
 #[derive(Drop)]
 pub struct NameKey<'a> {
-    held: Held<'a>,
+    kept: Kept<'a>,
 }
 
 impl<'a> Model for NameKey<'a> {
     ghost use Rattle.std.specs.Prelude.{List, ℕ};
-    ghost use Rattle.md_dirs.specs.NameKey.{held_bytes};
+    ghost use Rattle.md_dirs.specs.NameKey.{kept_bytes};
 
     ghost Value = { List ℕ };
 
-    ghost view = { λ k. held_bytes k.held };
+    ghost view = { λ k. kept_bytes k.kept };
 }
 
 impl<'a> NameKey<'a> {
@@ -41,34 +102,44 @@ impl<'a> NameKey<'a> {
     pub fn owned(name: Vec<u8>) -> Self
         ensures { result ≡ name.items }
     {
-        NameKey {
-            held: Held::Owned(name),
+        NameKey::held(Held::Owned(name))
+    }
+
+    /// A key whose bytes are copied: into the key itself where they are at most 54. It is refused only when out of memory.
+    pub fn copied(alloc: Global, name: &[u8]) -> Result<Self, AllocError>
+        ensures { IfOk result (λ key. key ≡ name.now) }
+    {
+        if name.len() > SHORT {
+            return Ok(NameKey::owned(Vec::from_slice(alloc, name)?));
         }
+        Ok(NameKey {
+            kept: Kept::Short(Short::of(name)),
+        })
     }
 
     /// A key whose bytes are lent. It takes no memory.
     pub fn lent(name: &'a [u8]) -> Self
         ensures { result ≡ name.now }
     {
-        NameKey {
-            held: Held::Lent(name),
-        }
+        NameKey::held(Held::Lent(name))
     }
 
     // A key of bytes that are owned or lent.
     pub(crate) fn held(held: Held<'a>) -> Self
         ensures { result ≡ held_bytes held.entry }
     {
-        NameKey { held }
+        NameKey {
+            kept: Kept::Held(held),
+        }
     }
 
     /// The bytes, lent.
     pub fn as_slice(&self) -> &[u8]
         ensures { result.now ≡ self.now }
     {
-        match &self.held {
-            Held::Owned(name) => name.as_slice(),
-            Held::Lent(name) => *name,
+        match &self.kept {
+            Kept::Short(name) => name.as_slice(),
+            Kept::Held(held) => held.as_slice(),
         }
     }
 }

@@ -66,10 +66,7 @@ impl<'a> Named<'a> {
     pub fn name(&self) -> &[u8]
         ensures { result.now ≡ self.now.0 }
     {
-        match &self.name {
-            Held::Owned(name) => name.as_slice(),
-            Held::Lent(name) => *name,
-        }
+        self.name.as_slice()
     }
 
     /// The unique part of the name.

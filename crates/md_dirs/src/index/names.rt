@@ -371,6 +371,27 @@ impl Names {
         Ok(true)
     }
 
+    /// The same of a name that is moved in.
+    pub fn add_owned(&mut self, name: Vec<u8>, file: usize) -> Result<bool, AllocError>
+        ensures new { IfOk result (λ is_new. is_new ≡ is_none (finmap.get self.old name.items)) }
+        ensures ok { IfOk result (λ is_new. self.new ≡ if is_new then finmap.insert self.old name.items file else self.old) }
+        ensures err { OnErr result (self.new ≡ self.old) }
+    {
+        let row = Named::owned(name, file);
+        if file_beside(&self.others, row.name()).is_some() {
+            return Ok(false);
+        }
+        let Some((_, there)) = row_like(&self.table, &row) else {
+            add_row(&mut self.table, &mut self.order, row)?;
+            return Ok(true);
+        };
+        if there.is(row.name()) {
+            return Ok(false);
+        }
+        self.others.insert(row.into_key(), file)?;
+        Ok(true)
+    }
+
     /// Gives a name to a file, also in place of the one that it named. The name is copied. When out of memory, nothing has changed.
     pub fn put(&mut self, alloc: Global, name: &[u8], file: usize) -> Result<(), AllocError>
         ensures ok { OnOk result (self.new ≡ finmap.insert self.old name.now file) }

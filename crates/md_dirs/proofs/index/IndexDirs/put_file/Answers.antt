@@ -1,7 +1,7 @@
-use Rattle.std.proofs.Common.{◌∙◌, sym}
+use Rattle.std.proofs.Common.{ℕ, ◌≡◌, ◌∙◌, Option, Some, None, true, is_none, refl, sym}
 use Rattle.md_dirs.specs.declared.paths.File.{File}
 use Rattle.md_dirs.specs.declared.image.ImageFile.{ImageFile}
-use Rattle.md_dirs.proofs.Hashed.{counted-made, absent}
+use Rattle.md_dirs.proofs.Hashed.{counted-made}
 use Rattle.md_dirs.specs.Slots.{slots_of}
 use Rattle.md_dirs.proofs.index.IndexDirs.put_file.Goals as goal
 
@@ -9,10 +9,14 @@ use Rattle.md_dirs.proofs.index.IndexDirs.put_file.Goals as goal
 abbrev made_of : ImageFile → File
 made_of file = record { bytes = file.bytes; stamp = file.stamp }
 
+none-is : (number : Option ℕ) → is_none number ≡ true → number ≡ None
+none-is None is = refl
+none-is (Some n) is = cc
+
 pub invariant_of-self-2 : goal.invariant_of-self-2
 invariant_of-self-2 c =
     let s = c.self.inside in
-    let names = rw c.if-not-branch.false at c.in_ok-add_file.ensures.names in
-    let slots = rw c.if-not-branch.false at c.in_ok-add_file.ensures.slots in
-    let none = absent _ (sym c.in_ok-add_file.ensures.new ∙ c.if-not-branch.false) in
-    rw (names, slots) (counted-made s.folders s.names (slots_of s.slots) c.self.invariant c.args.file.path (made_of c.args.file) c.if-file-self.false none)
+    let added = rw c.if-not-branch.false at c.in_ok-add_owned.ensures.ok in
+    let none = none-is _ (sym c.in_ok-add_owned.ensures.new ∙ c.if-not-branch.false) in
+    rw (added, c.push.ensures, c.in_ok-number.ensures.same, c.in_ok-number.ensures.number)
+    (counted-made s.folders s.names (slots_of s.slots) c.self.invariant c.args.file.path (made_of c.args.file) c.if-file-self.false none)
