@@ -16,6 +16,7 @@ pub(crate) mod log;
 pub(crate) mod looking;
 pub(crate) mod looks;
 pub(crate) mod reading;
+pub(crate) mod room;
 pub(crate) mod run;
 pub(crate) mod settle;
 pub(crate) mod step;

@@ -3,6 +3,7 @@ ghost use Rattle.std.specs.Prelude.{◌≡◌, ◌++◌, ◌∷◌, [], OnOk};
 ghost use Rattle.std.specs.Option.{option_to_list};
 ghost use Rattle.md_core.specs.Worlds.{HasRoom};
 
+use crate::world::room::make_room;
 use md_jobs::{Effect, Event};
 use std::alloc::{AllocError, Global};
 
@@ -31,9 +32,9 @@ impl Log {
             × (self.new.effects.items ≡ self.old.effects.items) }
         ensures room { OnOk result (HasRoom self.new) }
     {
-        self.events.reserve(1)?;
-        self.marks.reserve(1)?;
-        self.effects.reserve(1)
+        make_room(&mut self.events)?;
+        make_room(&mut self.marks)?;
+        make_room(&mut self.effects)
     }
 
     /// Adds a step, for which there is room.

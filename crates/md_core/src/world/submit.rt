@@ -9,6 +9,7 @@ ghost use Rattle.md_core.specs.Tracing.{trace_of};
 use crate::jobs::job::Job;
 use crate::used::UsedNames;
 use crate::world::World;
+use crate::world::room::make_room;
 use md_dirs::Dirs;
 use md_jobs::{Call, CoreError, JobId};
 
@@ -27,7 +28,7 @@ fn prepare(jobs: &mut Vec<Job>, used: &mut UsedNames, call: &Call) -> Result<(),
     ensures memory { IfErr result (λ e. e ≡ CoreError.NoMemory) }
     ensures same { OnErr result (used.new ≡ used.old) }
 {
-    jobs.reserve(1)?;
+    make_room(jobs)?;
     match call {
         Call::Deliver { unique, .. } => used.insert(unique.as_slice())?,
         Call::Copy { fresh, .. } => used.insert(fresh.as_slice())?,

@@ -1,0 +1,19 @@
+// Room for what a world keeps of each job and each step.
+ghost use Rattle.std.specs.Prelude.{◌≡◌, ◌<◌, OnOk, vec_len, vec_capacity};
+
+use std::alloc::AllocError;
+
+/// The least room that a growth makes.
+const LEAST_ROOM: usize = 64;
+
+/// Makes room for one more. Since each growth moves what is there, it makes room for three times as many, and so there are few.
+pub(crate) fn make_room<T>(items: &mut Vec<T>) -> Result<(), AllocError>
+    ensures items { items.new.items ≡ items.old.items }
+    ensures room { OnOk result (vec_len items.new < vec_capacity items.new) }
+{
+    if items.len() < items.capacity() {
+        return Ok(());
+    }
+    let more = items.len().saturating_mul(3).max(LEAST_ROOM);
+    items.reserve(more)
+}
