@@ -84,8 +84,9 @@ impl Cleaning {
         at: Moment,
     ) -> Result<Turned, CoreError>
         ensures ok { IfOk result (λ t.
-            Takes (cleaning_turn self.old at.own) at (D.device dirs.old) t.out t.effect
+            Takes (cleaning_turn self.old at.own) at (D.device dirs.old) t.out t.effect.value
             self.new (D.device dirs.new)) }
+        ensures plain { IfOk result (λ t. t.effect.value ≡ None) }
         ensures memory { IfErr result (λ e. e ≡ CoreError.NoMemory) }
         ensures task { OnErr result (self.new ≡ self.old) }
         ensures dirs { OnErr result (IsUntouched (D.device dirs.old)
@@ -99,8 +100,9 @@ impl Cleaning {
 
     fn look<D: Dirs>(&mut self, dirs: &mut D, at: Moment) -> Result<Turned, CoreError>
         ensures ok { IfOk result (λ t.
-            Takes (look_turn self.old at.own) at (D.device dirs.old) t.out t.effect
+            Takes (look_turn self.old at.own) at (D.device dirs.old) t.out t.effect.value
             self.new (D.device dirs.new)) }
+        ensures plain { IfOk result (λ t. t.effect.value ≡ None) }
         ensures memory { IfErr result (λ e. e ≡ CoreError.NoMemory) }
         ensures task { OnErr result (self.new ≡ self.old) }
         ensures dirs { OnErr result (IsUntouched (D.device dirs.old)
@@ -126,8 +128,9 @@ impl Cleaning {
     ) -> Result<Turned, CoreError>
         ensures ok { (name : _) (rest : _) (files : _) → self.old.stage ≡ Remove name rest files
             → IfOk result (λ t. Takes (unlink_turn self.old name rest files) at
-            (D.device dirs.old) t.out t.effect self.new
+            (D.device dirs.old) t.out t.effect.value self.new
             (D.device dirs.new)) }
+        ensures plain { IfOk result (λ t. t.effect.value ≡ None) }
         ensures memory { IfErr result (λ e. e ≡ CoreError.NoMemory) }
         ensures task { OnErr result (self.new ≡ self.old) }
         ensures dirs { OnErr result (IsUntouched (D.device dirs.old)

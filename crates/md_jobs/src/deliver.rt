@@ -1,5 +1,6 @@
 //! A delivery: "Using maildir format", steps 3 to 6.
-ghost use Rattle.std.specs.Prelude.{◌≡◌, ◌+◌, ◌-◌, ◌^◌, ◌<◌, ◌≤◌, length, take, drop, min, IfOk, IfErr, OnErr, is_some};
+ghost use Rattle.std.specs.Prelude.{◌≡◌, ◌+◌, ◌-◌, ◌^◌, ◌<◌, ◌≤◌, ◌++◌, length, take, drop, min, vec_len, vec_capacity, None, IfOk, IfErr, OnErr, is_some};
+ghost use Rattle.std.specs.Option.{option_to_list};
 ghost use Rattle.md_jobs.specs.Turn.{Takes, IsUntouched};
 ghost use Rattle.md_jobs.specs.Machines.Deliver.{new_delivery, at_stage, after_create, after_append, after_link, create_turn, append_turn, link_turn, unlink_turn, delivery_turn, delivery_effect, piece_len, target as target_of, is_in_time as is_in_time_by};
 ghost use Rattle.md_jobs.specs.Tasks.Delivery.{Delivery as DeliveryView, Start, Writing};
@@ -128,15 +129,19 @@ impl Delivery {
         dirs: &mut D,
         job: JobId,
         at: Moment,
+        effects: &mut Vec<Effect>,
     ) -> Result<Turned, CoreError>
         ensures ok { IfOk result (λ t.
-            Takes (delivery_turn job self.old at) at (D.device dirs.old) t.out t.effect
+            Takes (delivery_turn job self.old at) at (D.device dirs.old) t.out t.effect.value
             self.new (D.device dirs.new)) }
+        ensures pushed { IfOk result (λ t. effects.new.items ≡ effects.old.items ++ option_to_list t.effect.value) }
         ensures memory { IfErr result (λ e. e ≡ CoreError.NoMemory) }
+        ensures kept { OnErr result (effects.new.items ≡ effects.old.items) }
         ensures task { OnErr result (self.new ≡ self.old) }
         ensures dirs { OnErr result (IsUntouched (D.device dirs.old)
             (D.device dirs.new)) }
     {
+        effects.reserve(1)?;
         match self.stage {
             Stage::Start => self.create(dirs, at),
             Stage::Writing { start, written } => {
@@ -145,7 +150,7 @@ impl Delivery {
                 } else if written < self.size {
                     self.append(dirs, at, start, written)
                 } else {
-                    self.link(alloc, dirs, job, at)
+                    self.link(alloc, dirs, job, at, effects)
                 }
             }
             Stage::Linked => self.unlink(dirs, at, Answer::Delivered),
@@ -156,8 +161,9 @@ impl Delivery {
     fn create<D: Dirs>(&mut self, dirs: &mut D, at: Moment) -> Result<Turned, CoreError>
         requires { self.old.stage ≡ Start }
         ensures ok { IfOk result (λ t.
-            Takes (create_turn self.old at.own) at (D.device dirs.old) t.out t.effect
+            Takes (create_turn self.old at.own) at (D.device dirs.old) t.out t.effect.value
             self.new (D.device dirs.new)) }
+        ensures plain { IfOk result (λ t. t.effect.value ≡ None) }
         ensures memory { IfErr result (λ e. e ≡ CoreError.NoMemory) }
         ensures task { OnErr result (self.new ≡ self.old) }
         ensures dirs { OnErr result (IsUntouched (D.device dirs.old)
@@ -178,8 +184,9 @@ impl Delivery {
         requires stage { self.old.stage ≡ Writing start written }
         requires more { written < length self.old.body }
         ensures ok { IfOk result (λ t.
-            Takes (append_turn self.old start written) at (D.device dirs.old) t.out t.effect
+            Takes (append_turn self.old start written) at (D.device dirs.old) t.out t.effect.value
             self.new (D.device dirs.new)) }
+        ensures plain { IfOk result (λ t. t.effect.value ≡ None) }
         ensures memory { IfErr result (λ e. e ≡ CoreError.NoMemory) }
         ensures task { OnErr result (self.new ≡ self.old) }
         ensures dirs { OnErr result (IsUntouched (D.device dirs.old)
@@ -203,8 +210,9 @@ impl Delivery {
         requires more { 0 < length self.old.body }
         requires whole { length self.old.body ≤ self.old.chunk }
         ensures ok { IfOk result (λ t.
-            Takes (append_turn self.old start 0) at (D.device dirs.old) t.out t.effect
+            Takes (append_turn self.old start 0) at (D.device dirs.old) t.out t.effect.value
             self.new (D.device dirs.new)) }
+        ensures plain { IfOk result (λ t. t.effect.value ≡ None) }
         ensures memory { IfErr result (λ e. e ≡ CoreError.NoMemory) }
         ensures task { OnErr result (self.new ≡ self.old) }
         ensures dirs { OnErr result (IsUntouched (D.device dirs.old)
@@ -225,8 +233,9 @@ impl Delivery {
         requires stage { self.old.stage ≡ Writing start written }
         requires more { written < length self.old.body }
         ensures ok { IfOk result (λ t.
-            Takes (append_turn self.old start written) at (D.device dirs.old) t.out t.effect
+            Takes (append_turn self.old start written) at (D.device dirs.old) t.out t.effect.value
             self.new (D.device dirs.new)) }
+        ensures plain { IfOk result (λ t. t.effect.value ≡ None) }
         ensures memory { IfErr result (λ e. e ≡ CoreError.NoMemory) }
         ensures task { OnErr result (self.new ≡ self.old) }
         ensures dirs { OnErr result (IsUntouched (D.device dirs.old)
@@ -246,11 +255,15 @@ impl Delivery {
         dirs: &mut D,
         job: JobId,
         at: Moment,
+        effects: &mut Vec<Effect>,
     ) -> Result<Turned, CoreError>
+        requires room { vec_len effects.old < vec_capacity effects.old }
         ensures ok { IfOk result (λ t.
-            Takes (link_turn job self.old) at (D.device dirs.old) t.out t.effect
+            Takes (link_turn job self.old) at (D.device dirs.old) t.out t.effect.value
             self.new (D.device dirs.new)) }
+        ensures pushed { IfOk result (λ t. effects.new.items ≡ effects.old.items ++ option_to_list t.effect.value) }
         ensures memory { IfErr result (λ e. e ≡ CoreError.NoMemory) }
+        ensures kept { OnErr result (effects.new.items ≡ effects.old.items) }
         ensures task { OnErr result (self.new ≡ self.old) }
         ensures dirs { OnErr result (IsUntouched (D.device dirs.old)
             (D.device dirs.new)) }
@@ -259,7 +272,7 @@ impl Delivery {
         let reply = reply_of(dirs.link(&self.tmp, &target))?;
         let effect = self.effect(job, target);
         // At the link the message is delivered. Whatever comes now, it stays so.
-        Ok(self.linked(reply, effect))
+        Ok(self.linked(reply, effect, effects))
     }
 
     // Takes the name in tmp away, whatever the reply is.
@@ -270,8 +283,9 @@ impl Delivery {
         answer: Answer,
     ) -> Result<Turned, CoreError>
         ensures ok { IfOk result (λ t.
-            Takes (unlink_turn self.old answer) at (D.device dirs.old) t.out t.effect
+            Takes (unlink_turn self.old answer) at (D.device dirs.old) t.out t.effect.value
             self.new (D.device dirs.new)) }
+        ensures plain { IfOk result (λ t. t.effect.value ≡ None) }
         ensures memory { IfErr result (λ e. e ≡ CoreError.NoMemory) }
         ensures task { self.new ≡ self.old }
         ensures dirs { OnErr result (IsUntouched (D.device dirs.old)
@@ -322,16 +336,18 @@ impl Delivery {
         }
     }
 
-    fn linked(&mut self, reply: DirReply, effect: Effect) -> Turned
+    fn linked(&mut self, reply: DirReply, effect: Effect, effects: &mut Vec<Effect>) -> Turned
+        requires room { vec_len effects.old < vec_capacity effects.old }
         ensures follows { (job : _) → effect ≡ delivery_effect job self.old →
-            after_link job self.old reply ≡ record { task = self.new; answer = result.out.answer; effect = result.effect } }
+            after_link job self.old reply ≡ record { task = self.new; answer = result.out.answer; effect = result.effect.value } }
         ensures shown { (result.out.call ≡ DirCall.Link) × (result.out.reply ≡ reply) }
-        ensures effect { result.out.effect ≡ is_some result.effect }
+        ensures effect { result.out.effect ≡ is_some result.effect.value }
+        ensures pushed { effects.new.items ≡ effects.old.items ++ option_to_list result.effect.value }
     {
         match reply {
             DirReply::Ok => {
                 self.stage = Stage::Linked;
-                Turned::acted(DirCall::Link, reply, effect)
+                Turned::acted(DirCall::Link, reply, None, effect, effects)
             }
             DirReply::Exists => {
                 self.stage = Stage::Undo(Refusal::NameTaken);

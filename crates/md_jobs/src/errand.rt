@@ -1,6 +1,7 @@
 //! An errand: it looks for a message in one place after the other, decides what to do with it, and does that. Seen, Flag, Move, Copy and
 //! Expunge are errands, each a row of the table in `purpose.rt`.
-ghost use Rattle.std.specs.Prelude.{◌≡◌, [], IfOk, IfErr, OnErr, is_some};
+ghost use Rattle.std.specs.Prelude.{◌≡◌, ◌<◌, ◌++◌, [], vec_len, vec_capacity, IfOk, IfErr, OnErr, is_some};
+ghost use Rattle.std.specs.Option.{option_to_list};
 ghost use Rattle.md_dirs.specs.Path.{path_of};
 ghost use Rattle.md_jobs.specs.Turn.{Takes, TakesOrEnds, FollowsOrEnds, IsUntouched};
 ghost use Rattle.md_jobs.specs.Asked.{shown_call};
@@ -60,22 +61,26 @@ impl Errand {
         dirs: &mut D,
         job: JobId,
         at: Moment,
+        effects: &mut Vec<Effect>,
     ) -> Result<Turned, CoreError>
         ensures ok { IfOk result (λ t.
-            TakesOrEnds (errand_turn job (errand_view self.old)) at (D.device dirs.old) t.out t.effect
+            TakesOrEnds (errand_turn job (errand_view self.old)) at (D.device dirs.old) t.out t.effect.value
             (errand_view self.new) (D.device dirs.new)) }
+        ensures pushed { IfOk result (λ t. effects.new.items ≡ effects.old.items ++ option_to_list t.effect.value) }
         ensures memory { IfErr result (λ e. e ≡ CoreError.NoMemory) }
+        ensures kept { OnErr result (effects.new.items ≡ effects.old.items) }
         ensures task { OnErr result (self.new ≡ self.old) }
         ensures dirs { OnErr result (IsUntouched (D.device dirs.old)
             (D.device dirs.new)) }
     {
+        effects.reserve(1)?;
         match self.stage {
-            Stage::Look { tries } => self.look(dirs, job, at, tries),
+            Stage::Look { tries } => self.look(dirs, job, at, tries, effects),
             // The deed is made ready before its call, since a call that was made can't be refused any more.
             Stage::Act { size, tries, .. } => {
                 let (deed, answer) = self.purpose.deed(alloc, &self.unique, &self.path)?;
                 let reply = reply_of(deed.make(dirs, &self.path))?;
-                Ok(self.acted(alloc, job, deed, answer, size, tries, reply))
+                Ok(self.acted(alloc, job, deed, answer, size, tries, reply, effects))
             }
         }
     }
@@ -86,11 +91,15 @@ impl Errand {
         job: JobId,
         at: Moment,
         tries: u64,
+        effects: &mut Vec<Effect>,
     ) -> Result<Turned, CoreError>
+        requires room { vec_len effects.old < vec_capacity effects.old }
         ensures ok { IfOk result (λ t.
-            Takes (look_turn job (errand_view self.old) self.old.path.place tries) at (D.device dirs.old) t.out t.effect
+            Takes (look_turn job (errand_view self.old) self.old.path.place tries) at (D.device dirs.old) t.out t.effect.value
             (errand_view self.new) (D.device dirs.new)) }
+        ensures pushed { IfOk result (λ t. effects.new.items ≡ effects.old.items ++ option_to_list t.effect.value) }
         ensures memory { IfErr result (λ e. e ≡ CoreError.NoMemory) }
+        ensures kept { OnErr result (effects.new.items ≡ effects.old.items) }
         ensures task { OnErr result (self.new ≡ self.old) }
         ensures dirs { OnErr result (IsUntouched (D.device dirs.old)
             (D.device dirs.new)) }
@@ -101,14 +110,23 @@ impl Errand {
             self.path.place,
             self.unique.as_slice(),
         )?;
-        Ok(self.looked(job, reply, row, tries))
+        Ok(self.looked(job, reply, row, tries, effects))
     }
 
-    fn looked(&mut self, job: JobId, reply: DirReply, row: Option<Row>, tries: u64) -> Turned
+    fn looked(
+        &mut self,
+        job: JobId,
+        reply: DirReply,
+        row: Option<Row>,
+        tries: u64,
+        effects: &mut Vec<Effect>,
+    ) -> Turned
+        requires room { vec_len effects.old < vec_capacity effects.old }
         ensures follows { after_look job (errand_view self.old) self.old.path.place tries reply row ≡
-            record { task = errand_view self.new; answer = result.out.answer; effect = result.effect } }
+            record { task = errand_view self.new; answer = result.out.answer; effect = result.effect.value } }
         ensures shown { (result.out.call ≡ DirCall.List self.old.path.place) × (result.out.reply ≡ reply) }
-        ensures effect { result.out.effect ≡ is_some result.effect }
+        ensures effect { result.out.effect ≡ is_some result.effect.value }
+        ensures pushed { effects.new.items ≡ effects.old.items ++ option_to_list result.effect.value }
     {
         let call = DirCall::List(self.path.place);
         if reply != DirReply::Ok {
@@ -118,7 +136,7 @@ impl Errand {
             let answer = self.not_found(tries);
             return Turned::plain(call, reply, answer);
         };
-        self.found(job, row, tries)
+        self.found(job, row, tries, effects)
     }
 
     // The message is looked for in the next place, if there is one.
@@ -135,12 +153,20 @@ impl Errand {
     }
 
     // A listing was made, and this row was found.
-    fn found(&mut self, job: JobId, row: Row, tries: u64) -> Turned
+    fn found(
+        &mut self,
+        job: JobId,
+        row: Row,
+        tries: u64,
+        effects: &mut Vec<Effect>,
+    ) -> Turned
+        requires room { vec_len effects.old < vec_capacity effects.old }
         ensures follows { after_decision job (errand_view self.old) self.old.path.place tries row
             (decide (purpose_view self.old.purpose) (info_in row.name)) ≡
-            record { task = errand_view self.new; answer = result.out.answer; effect = result.effect } }
+            record { task = errand_view self.new; answer = result.out.answer; effect = result.effect.value } }
         ensures shown { (result.out.call ≡ DirCall.List self.old.path.place) × (result.out.reply ≡ DirReply.Ok) }
-        ensures effect { result.out.effect ≡ is_some result.effect }
+        ensures effect { result.out.effect ≡ is_some result.effect.value }
+        ensures pushed { effects.new.items ≡ effects.old.items ++ option_to_list result.effect.value }
     {
         let call = DirCall::List(self.path.place);
         match self.purpose.decide(row.name.as_slice()) {
@@ -153,7 +179,7 @@ impl Errand {
                     answer: self.purpose.answer(row.name.as_slice()),
                     change: Change::Same,
                 };
-                Turned::ended(call, DirReply::Ok, effect)
+                Turned::acted(call, DirReply::Ok, Some(effect.answer), effect, effects)
             }
             Decision::Act => {
                 let Row { name, stamp, size } = row;
@@ -174,25 +200,25 @@ impl Errand {
         size: u64,
         tries: u64,
         reply: DirReply,
+        effects: &mut Vec<Effect>,
     ) -> Turned
+        requires room { vec_len effects.old < vec_capacity effects.old }
         ensures follows { FollowsOrEnds (after_act job (errand_view self.old) (deed_view self.old.path deed) answer size tries reply)
-            (errand_view self.new) result.out.answer result.effect }
+            (errand_view self.new) result.out.answer result.effect.value }
         ensures shown { (result.out.call ≡ shown_call (asked_of (deed_view self.old.path deed))) × (result.out.reply ≡ reply) }
-        ensures effect { result.out.effect ≡ is_some result.effect }
+        ensures effect { result.out.effect ≡ is_some result.effect.value }
+        ensures pushed { effects.new.items ≡ effects.old.items ++ option_to_list result.effect.value }
     {
         let call = deed.shown();
         match reply {
             DirReply::Ok => {
                 let change = deed.change(self.take_path(alloc), size);
-                Turned::ended(
-                    call,
-                    reply,
-                    Effect {
-                        job,
-                        answer,
-                        change,
-                    },
-                )
+                let effect = Effect {
+                    job,
+                    answer,
+                    change,
+                };
+                Turned::acted(call, reply, Some(effect.answer), effect, effects)
             }
             DirReply::NotFound => {
                 let answer = self.again(tries);

@@ -1,53 +1,65 @@
 //! What one turn of a job gave.
-ghost use Rattle.std.specs.Prelude.{◌≡◌, IfOk, IfErr, OnErr, MatchResult, Some, None, false, true, is_some};
+ghost use Rattle.std.specs.Prelude.{◌≡◌, ◌<◌, ◌++◌, ◌∷◌, [], vec_len, vec_capacity, IfOk, IfErr, OnErr, MatchResult, Some, None, false, true, is_some};
 ghost use Rattle.md_jobs.specs.Turn.{reply_from, Looks, IsUntouched};
 
 use crate::answer::Answer;
 use crate::effect::Effect;
 use crate::error::CoreError;
+use crate::image::Image;
 use crate::step::{DirCall, DirReply, StepOut};
 use md_dirs::{DirError, Dirs, Place, Row};
 
-/// What a turn shows, and the effect, where it was one.
+/// What a turn shows, and for contracts alone the effect, where it was one. The effect itself goes to the effects so far, so that it is
+/// moved once.
 #[derive(Drop)]
 pub struct Turned {
     pub out: StepOut,
-    pub effect: Option<Effect>,
+    pub effect: Image<Option<Effect>>,
 }
 
 impl Turned {
     /// A turn that is no effect.
     pub(crate) fn plain(call: DirCall, reply: DirReply, answer: Option<Answer>) -> Turned
-        ensures { result ≡ record { out = record { call = call; reply = reply; answer = answer; effect = false }; effect = None } }
-    {
-        Turned::of(call, reply, answer, None)
-    }
-
-    /// A turn that is the effect of a job which goes on.
-    pub(crate) fn acted(call: DirCall, reply: DirReply, effect: Effect) -> Turned
-        ensures { result ≡ record { out = record { call = call; reply = reply; answer = None; effect = true }; effect = Some effect } }
-    {
-        Turned::of(call, reply, None, Some(effect))
-    }
-
-    /// A turn that is the effect of a job which ends with its answer.
-    pub(crate) fn ended(call: DirCall, reply: DirReply, effect: Effect) -> Turned
-        ensures { result ≡ record { out = record { call = call; reply = reply; answer = Some effect.answer; effect = true }; effect = Some effect } }
-    {
-        Turned::of(call, reply, Some(effect.answer), Some(effect))
-    }
-
-    // A turn with this answer and this effect, where there is one.
-    fn of(call: DirCall, reply: DirReply, answer: Option<Answer>, effect: Option<Effect>) -> Turned
-        ensures { result ≡ record { out = record { call = call; reply = reply; answer = answer; effect = is_some effect }; effect = effect } }
+        ensures out { result.out ≡ record { call = call; reply = reply; answer = answer; effect = false } }
+        ensures effect { result.effect.value ≡ None }
     {
         let out = StepOut {
             call,
             reply,
             answer,
-            effect: effect.is_some(),
+            effect: false,
         };
-        Turned { out, effect }
+        Turned {
+            out,
+            effect: Image::of(&None),
+        }
+    }
+
+    /// A turn that is the effect of a job which goes on, or ends with this answer. There is room for the effect.
+    pub(crate) fn acted(
+        call: DirCall,
+        reply: DirReply,
+        answer: Option<Answer>,
+        effect: Effect,
+        effects: &mut Vec<Effect>,
+    ) -> Turned
+        requires { vec_len effects.old < vec_capacity effects.old }
+        ensures out { result.out ≡ record { call = call; reply = reply; answer = answer; effect = true } }
+        ensures effect { result.effect.value ≡ Some effect }
+        ensures pushed { effects.new.items ≡ effects.old.items ++ effect ∷ [] }
+    {
+        let out = StepOut {
+            call,
+            reply,
+            answer,
+            effect: true,
+        };
+        let effect = Some(effect);
+        let image = Image::of(&effect);
+        if let Some(effect) = effect {
+            effects.push_reserved(effect);
+        }
+        Turned { out, effect: image }
     }
 }
 

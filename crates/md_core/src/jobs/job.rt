@@ -1,5 +1,6 @@
 //! Jobs: the call of each, for contracts alone, and how far it is.
-ghost use Rattle.std.specs.Prelude.{◌≡◌, true, Some, IfOk, IfErr, OnErr};
+ghost use Rattle.std.specs.Prelude.{◌≡◌, ◌++◌, true, Some, IfOk, IfErr, OnErr};
+ghost use Rattle.std.specs.Option.{option_to_list};
 ghost use Rattle.md_jobs.specs.Turn.{IsUntouched};
 ghost use Rattle.md_core.specs.Machine.{is_working, with_answer};
 ghost use Rattle.md_core.specs.Standing.{TakesTurn, job_of};
@@ -7,7 +8,7 @@ ghost use Rattle.md_core.specs.Runs.{answer_of};
 
 use crate::jobs::task::Task;
 use md_dirs::Dirs;
-use md_jobs::{Answer, Call, CoreError, Image, JobId, Moment, Turned};
+use md_jobs::{Answer, Call, CoreError, Effect, Image, JobId, Moment, Turned};
 use std::alloc::Global;
 use std::marker::Model;
 
@@ -72,12 +73,15 @@ impl Job {
         dirs: &mut D,
         job: JobId,
         at: Moment,
+        effects: &mut Vec<Effect>,
     ) -> Result<Turned, CoreError>
         requires { is_working self.old.standing ≡ true }
         ensures ok { IfOk result (λ t.
-            TakesTurn job at self.old (D.device dirs.old) t.out t.effect
+            TakesTurn job at self.old (D.device dirs.old) t.out t.effect.value
             self.new (D.device dirs.new)) }
+        ensures pushed { IfOk result (λ t. effects.new.items ≡ effects.old.items ++ option_to_list t.effect.value) }
         ensures memory { IfErr result (λ e. e ≡ CoreError.NoMemory) }
+        ensures kept { OnErr result (effects.new.items ≡ effects.old.items) }
         ensures job { OnErr result (self.new ≡ self.old) }
         ensures dirs { OnErr result (IsUntouched (D.device dirs.old)
             (D.device dirs.new)) }
@@ -85,7 +89,7 @@ impl Job {
         let Progress::Working(task) = &mut self.progress else {
             unreachable!()
         };
-        let Turned { out, effect } = task.turn(alloc, dirs, job, at)?;
+        let Turned { out, effect } = task.turn(alloc, dirs, job, at, effects)?;
         self.settle(out.answer);
         Ok(Turned { out, effect })
     }

@@ -1,11 +1,12 @@
 //! Tasks: what a job that has no answer does, one kind for each call.
-ghost use Rattle.std.specs.Prelude.{◌≡◌, IfOk, IfErr, OnErr};
+ghost use Rattle.std.specs.Prelude.{◌≡◌, ◌++◌, IfOk, IfErr, OnErr};
+ghost use Rattle.std.specs.Option.{option_to_list};
 ghost use Rattle.md_jobs.specs.Turn.{TakesOrEnds, IsUntouched};
 ghost use Rattle.md_core.specs.Tasks.Views.Tasks.{task_view};
 ghost use Rattle.md_core.specs.Machine.{turn_of, new_job, working};
 
 use md_dirs::Dirs;
-use md_jobs::{Call, Cleaning, CoreError, Delivery, Errand, JobId, Moment, Purpose, Turned};
+use md_jobs::{Call, Cleaning, CoreError, Delivery, Effect, Errand, JobId, Moment, Purpose, Turned};
 use std::alloc::Global;
 
 /// What a job does, and how far it has come.
@@ -84,18 +85,21 @@ impl Task {
         dirs: &mut D,
         job: JobId,
         at: Moment,
+        effects: &mut Vec<Effect>,
     ) -> Result<Turned, CoreError>
         ensures ok { IfOk result (λ t.
-            TakesOrEnds (turn_of job (task_view self.old) at) at (D.device dirs.old) t.out t.effect
+            TakesOrEnds (turn_of job (task_view self.old) at) at (D.device dirs.old) t.out t.effect.value
             (task_view self.new) (D.device dirs.new)) }
+        ensures pushed { IfOk result (λ t. effects.new.items ≡ effects.old.items ++ option_to_list t.effect.value) }
         ensures memory { IfErr result (λ e. e ≡ CoreError.NoMemory) }
+        ensures kept { OnErr result (effects.new.items ≡ effects.old.items) }
         ensures task { OnErr result (self.new ≡ self.old) }
         ensures dirs { OnErr result (IsUntouched (D.device dirs.old)
             (D.device dirs.new)) }
     {
         match self {
-            Task::Deliver(delivery) => delivery.turn(alloc, dirs, job, at),
-            Task::Errand(errand) => errand.turn(alloc, dirs, job, at),
+            Task::Deliver(delivery) => delivery.turn(alloc, dirs, job, at, effects),
+            Task::Errand(errand) => errand.turn(alloc, dirs, job, at, effects),
             Task::Clean(cleaning) => cleaning.turn(alloc, dirs, at),
         }
     }

@@ -1,6 +1,5 @@
 // The log of steps: events, which of them faulted, and effects.
-ghost use Rattle.std.specs.Prelude.{◌≡◌, ◌++◌, ◌∷◌, [], OnOk};
-ghost use Rattle.std.specs.Option.{option_to_list};
+ghost use Rattle.std.specs.Prelude.{◌≡◌, ◌<◌, ◌++◌, ◌∷◌, [], OnOk, vec_len, vec_capacity};
 ghost use Rattle.md_core.specs.Worlds.{HasRoom};
 
 use crate::world::room::make_room;
@@ -37,17 +36,15 @@ impl Log {
         make_room(&mut self.effects)
     }
 
-    /// Adds a step, for which there is room.
-    pub(crate) fn push(&mut self, event: Event, faulted: bool, effect: Option<Effect>)
-        requires { HasRoom self.old }
+    /// Adds a step, for which there is room. Its effect, where it is one, was added by its turn.
+    pub(crate) fn push(&mut self, event: Event, faulted: bool)
+        requires events { vec_len self.old.events < vec_capacity self.old.events }
+        requires marks { vec_len self.old.marks < vec_capacity self.old.marks }
         ensures events { self.new.events.items ≡ self.old.events.items ++ event ∷ [] }
         ensures marks { self.new.marks.items ≡ self.old.marks.items ++ faulted ∷ [] }
-        ensures effects { self.new.effects.items ≡ self.old.effects.items ++ option_to_list effect }
+        ensures effects { self.new.effects.items ≡ self.old.effects.items }
     {
         self.events.push_reserved(event);
         self.marks.push_reserved(faulted);
-        if let Some(effect) = effect {
-            self.effects.push_reserved(effect);
-        }
     }
 }

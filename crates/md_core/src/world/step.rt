@@ -66,11 +66,11 @@ impl<D: Dirs> World<D> {
             clock,
             own: own.unwrap_or(clock),
         };
-        let turned = self.jobs[at].turn(self.alloc, &mut self.dirs, job, moment)?;
+        let effects = &mut self.log.effects;
+        let turned = self.jobs[at].turn(self.alloc, &mut self.dirs, job, moment, effects)?;
         self.clock = clock;
         let event = Event { job, now, own };
-        self.log
-            .push(event, turned.out.reply.is_fault(), turned.effect);
+        self.log.push(event, turned.out.reply.is_fault());
         Ok(turned.out)
     }
 }

@@ -41,15 +41,16 @@ invariant_of-self-2 g c =
     let place = c.in_ok-at.ensures.place in
     let within : c.in_ok-at.at < length s.jobs.items = rw (← c.deref.ensures.value) place.1 in
     let there = slice_get_read s.jobs.items (length s.jobs.items) c.in_ok-at.at c.index_mut.result.now refl within c.index_mut.ensures.value in
-    let turned = subst (λ (a : Moment). TakesTurn c.args.job a c.index_mut.result.now held out c.in_ok-turned.turned.effect c.turn.new.self held')
+    let turned = subst (λ (a : Moment). TakesTurn c.args.job a c.index_mut.result.now held out c.in_ok-turned.turned.effect.value c.turn.new.self held')
     (sym same) c.in_ok-turned.ensures.ok in
     let events = c.push.ensures.events ∙ ap (λ es. es ++ event ∷ []) c.in_ok-reserve.ensures.same.0 in
     let marks = c.push.ensures.marks ∙ (λ i. c.in_ok-reserve.ensures.same.1 i ++ c.is_fault.ensures i ∷ []) in
-    let effects = c.push.ensures.effects ∙ ap (λ es. es ++ option_to_list c.in_ok-turned.turned.effect) c.in_ok-reserve.ensures.same.2 in
+    let effects = c.push.ensures.effects ∙ c.in_ok-turned.ensures.pushed
+    ∙ ap (λ es. es ++ option_to_list c.in_ok-turned.turned.effect.value) c.in_ok-reserve.ensures.same.2 in
     rw (events, marks, effects, c.max-clock.ensures)
     (step-world first s.began s.jobs.items s.log.events.items s.log.marks.items held s.clock s.log.effects.items s.used event c.in_ok-at.at place.0
     c.index_mut.result.now there
-    out c.in_ok-turned.turned.effect c.turn.new.self held' c.self.invariant turned)
+    out c.in_ok-turned.turned.effect.value c.turn.new.self held' c.self.invariant turned)
 
 pub returns-clause-event : goal.returns-clause-event
 returns-clause-event g c =
@@ -65,14 +66,14 @@ returns-clause-event g c =
     let place = c.in_ok-at.ensures.place in
     let within : c.in_ok-at.at < length s.jobs.items = rw (← c.deref.ensures.value) place.1 in
     let there = slice_get_read s.jobs.items (length s.jobs.items) c.in_ok-at.at c.index_mut.result.now refl within c.index_mut.ensures.value in
-    let turned = subst (λ (a : Moment). TakesTurn c.args.job a c.index_mut.result.now held out c.in_ok-turned.turned.effect c.turn.new.self held')
+    let turned = subst (λ (a : Moment). TakesTurn c.args.job a c.index_mut.result.now held out c.in_ok-turned.turned.effect.value c.turn.new.self held')
     (sym same) c.in_ok-turned.ensures.ok in
     let events = c.push.ensures.events ∙ ap (λ es. es ++ event ∷ []) c.in_ok-reserve.ensures.same.0 in
     let marks = c.push.ensures.marks ∙ (λ i. c.in_ok-reserve.ensures.same.1 i ++ c.is_fault.ensures i ∷ []) in
     (λ i. run_of first s.began (slice_set s.jobs.items c.in_ok-at.at c.turn.new.self) (events i) (marks i))
     ∙ run-after first s.began s.jobs.items s.log.events.items s.log.marks.items held s.clock s.log.effects.items s.used event c.in_ok-at.at place.0
     c.index_mut.result.now there
-    out c.in_ok-turned.turned.effect c.turn.new.self held' c.self.invariant turned
+    out c.in_ok-turned.turned.effect.value c.turn.new.self held' c.self.invariant turned
     ∙ ap (λ (r : Run). and_event r (occurrence c.args.job c.args.now c.args.own (is_fault out.reply))) c.self.view_is
 
 pub returns-clause-theorem : goal.returns-clause-theorem
@@ -92,7 +93,7 @@ returns-clause-shows g c =
     let place = c.in_ok-at.ensures.place in
     let within : c.in_ok-at.at < length s.jobs.items = rw (← c.deref.ensures.value) place.1 in
     let there = slice_get_read s.jobs.items (length s.jobs.items) c.in_ok-at.at c.index_mut.result.now refl within c.index_mut.ensures.value in
-    let turned = subst (λ (a : Moment). TakesTurn c.args.job a c.index_mut.result.now held out c.in_ok-turned.turned.effect c.turn.new.self held')
+    let turned = subst (λ (a : Moment). TakesTurn c.args.job a c.index_mut.result.now held out c.in_ok-turned.turned.effect.value c.turn.new.self held')
     (sym same) c.in_ok-turned.ensures.ok in
     let goes : step_refusal (job_at (jobs_of (run_of first s.began s.jobs.items s.log.events.items s.log.marks.items)) c.args.job) ≡ None =
     ap (λ (m : Machine). step_refusal (job_at m.jobs c.args.job)) (sym c.self.invariant.now) ∙
@@ -101,7 +102,7 @@ returns-clause-shows g c =
     let shown = shows each-turn (run_of first s.began s.jobs.items s.log.events.items s.log.marks.items) c.self.invariant.run what goes out
     (step-shown first s.began s.jobs.items s.log.events.items s.log.marks.items held s.clock s.log.effects.items s.used event c.in_ok-at.at place.0
     c.index_mut.result.now there
-    out c.in_ok-turned.turned.effect c.turn.new.self held' c.self.invariant turned) in
+    out c.in_ok-turned.turned.effect.value c.turn.new.self held' c.self.invariant turned) in
     subst (λ (x : Run). ShowsStep c.args.self.now x what out) (sym (returns-clause-event g c))
     (subst (λ (r : Run). ShowsStep r (and_event r what) what out) c.self.view_is shown)
 
@@ -127,7 +128,7 @@ returns-clause-success g c =
     let place = c.in_ok-at.ensures.place in
     let within : c.in_ok-at.at < length s.jobs.items = rw (← c.deref.ensures.value) place.1 in
     let there = slice_get_read s.jobs.items (length s.jobs.items) c.in_ok-at.at c.index_mut.result.now refl within c.index_mut.ensures.value in
-    let turned = subst (λ (a : Moment). TakesTurn c.args.job a c.index_mut.result.now held out c.in_ok-turned.turned.effect c.turn.new.self held')
+    let turned = subst (λ (a : Moment). TakesTurn c.args.job a c.index_mut.result.now held out c.in_ok-turned.turned.effect.value c.turn.new.self held')
     (sym same) c.in_ok-turned.ensures.ok in
     let r = run_of first s.began s.jobs.items s.log.events.items s.log.marks.items in
     let goes : step_refusal (job_at (jobs_of r) c.args.job) ≡ None =
@@ -141,7 +142,7 @@ returns-clause-success g c =
     (succeeds each-turn r c.self.invariant.run what goes out
     (step-shown first s.began s.jobs.items s.log.events.items s.log.marks.items held s.clock s.log.effects.items s.used event c.in_ok-at.at place.0
     c.index_mut.result.now there
-    out c.in_ok-turned.turned.effect c.turn.new.self held' c.self.invariant turned) theorem)
+    out c.in_ok-turned.turned.effect.value c.turn.new.self held' c.self.invariant turned) theorem)
 
 -- the run before, by the world's fields
 pub returns-clause-nearer : goal.returns-clause-nearer
