@@ -1,8 +1,7 @@
 //! An errand: it looks for a message in one place after the other, decides what to do with it, and does that. Seen, Flag, Move, Copy and
 //! Expunge are errands, each a row of the table in `purpose.rt`.
-ghost use Rattle.std.specs.Prelude.{◌≡◌, ◌<◌, ◌++◌, [], vec_len, vec_capacity, IfOk, IfErr, OnErr, is_some};
+ghost use Rattle.std.specs.Prelude.{◌≡◌, ◌<◌, ◌++◌, vec_len, vec_capacity, IfOk, IfErr, OnErr, is_some};
 ghost use Rattle.std.specs.Option.{option_to_list};
-ghost use Rattle.md_dirs.specs.Path.{path_of};
 ghost use Rattle.md_jobs.specs.Turn.{Takes, TakesOrEnds, FollowsOrEnds, IsUntouched};
 ghost use Rattle.md_jobs.specs.Asked.{shown_call};
 ghost use Rattle.md_jobs.specs.Tasks.Views.Purposes.{purpose_view, deed_view};
@@ -14,14 +13,13 @@ use crate::answer::Answer;
 use crate::call::JobId;
 use crate::effect::{Change, Effect};
 use crate::error::CoreError;
-use crate::paths::nameless;
 use crate::purpose::{Decision, Deed, Purpose};
 use crate::refusal::Refusal;
 use crate::step::{DirCall, DirReply, Moment};
+use crate::target::Target;
 use crate::turn::{Turned, look, reply_of};
-use md_dirs::{Bytes, Dirs, Path, Row};
+use md_dirs::{Bytes, Dirs, Row};
 use std::alloc::Global;
-use std::mem::replace;
 
 /// How far an errand has come. So many tries are left, with this one.
 #[derive(Clone, Copy)]
@@ -35,7 +33,7 @@ pub enum Stage {
 /// An errand on the message of a unique name. The directory calls borrow its path, and a change that is done takes its name.
 #[derive(Drop)]
 pub struct Errand {
-    pub path: Path,
+    pub path: Target,
     pub unique: Bytes,
     pub purpose: Purpose,
     pub stage: Stage,
@@ -47,7 +45,7 @@ impl Errand {
         ensures { errand_view result ≡ new_errand folder unique (purpose_view purpose) tries }
     {
         Errand {
-            path: nameless(alloc, folder, purpose.first()),
+            path: Target::nameless(alloc, folder, purpose.first()),
             unique,
             purpose,
             stage: Stage::Look { tries },
@@ -79,7 +77,7 @@ impl Errand {
             // The deed is made ready before its call, since a call that was made can't be refused any more.
             Stage::Act { size, tries, .. } => {
                 let (deed, answer) = self.purpose.deed(alloc, &self.unique, &self.path)?;
-                let reply = reply_of(deed.make(dirs, &self.path))?;
+                let reply = reply_of(deed.make(dirs, self.path.path()))?;
                 Ok(self.acted(alloc, job, deed, answer, size, tries, reply, effects))
             }
         }
@@ -104,12 +102,8 @@ impl Errand {
         ensures dirs { OnErr result (IsUntouched (D.device dirs.old)
             (D.device dirs.new)) }
     {
-        let (reply, row) = look(
-            dirs,
-            self.path.folder,
-            self.path.place,
-            self.unique.as_slice(),
-        )?;
+        let path = self.path.path();
+        let (reply, row) = look(dirs, path.folder, path.place, self.unique.as_slice())?;
         Ok(self.looked(job, reply, row, tries, effects))
     }
 
@@ -128,7 +122,7 @@ impl Errand {
         ensures effect { result.out.effect ≡ is_some result.effect.value }
         ensures pushed { effects.new.items ≡ effects.old.items ++ option_to_list result.effect.value }
     {
-        let call = DirCall::List(self.path.place);
+        let call = DirCall::List(self.path.path().place);
         if reply != DirReply::Ok {
             return Turned::plain(call, reply, Some(Refusal::Fault.answer()));
         }
@@ -144,10 +138,10 @@ impl Errand {
         ensures { after_none (errand_view self.old) tries (place_after (searches (purpose_view self.old.purpose)) self.old.path.place) ≡
             record { task = errand_view self.new; answer = result; effect = None } }
     {
-        let Some(place) = self.purpose.after(self.path.place) else {
+        let Some(place) = self.purpose.after(self.path.path().place) else {
             return Some(Refusal::NotThere.answer());
         };
-        self.path.place = place;
+        self.path.look_in(place);
         self.stage = Stage::Look { tries };
         None
     }
@@ -168,8 +162,9 @@ impl Errand {
         ensures effect { result.out.effect ≡ is_some result.effect.value }
         ensures pushed { effects.new.items ≡ effects.old.items ++ option_to_list result.effect.value }
     {
-        let call = DirCall::List(self.path.place);
-        match self.purpose.decide(row.name.as_slice()) {
+        let call = DirCall::List(self.path.path().place);
+        let (decision, info) = self.purpose.decide(row.name.as_slice());
+        match decision {
             Decision::Refuse(refusal) => {
                 Turned::plain(call, DirReply::Ok, Some(refusal.answer()))
             }
@@ -183,7 +178,7 @@ impl Errand {
             }
             Decision::Act => {
                 let Row { name, stamp, size } = row;
-                self.path.name = name;
+                self.path.found(name, info);
                 self.stage = Stage::Act { stamp, size, tries };
                 Turned::plain(call, DirReply::Ok, None)
             }
@@ -212,7 +207,7 @@ impl Errand {
         let call = deed.shown();
         match reply {
             DirReply::Ok => {
-                let change = deed.change(self.take_path(alloc), size);
+                let change = deed.change(self.path.take(alloc), size);
                 let effect = Effect {
                     job,
                     answer,
@@ -229,15 +224,6 @@ impl Errand {
         }
     }
 
-    // The path, moved out: one without a name stays.
-    fn take_path(&mut self, alloc: Global) -> Path
-        ensures path { result ≡ self.old.path }
-        ensures rest { self.new ≡ record self.old { path = path_of self.old.path.folder self.old.path.place [] } }
-    {
-        let left = nameless(alloc, self.path.folder, self.path.place);
-        replace(&mut self.path, left)
-    }
-
     // The name was gone: the message is looked for again, where a try is left.
     fn again(&mut self, tries: u64) -> Option<Answer>
         ensures { lost_or_again (errand_view self.old) tries ≡ record { task = errand_view self.new; answer = result; effect = None } }
@@ -245,7 +231,7 @@ impl Errand {
         if tries <= 1 {
             return Some(Refusal::Lost.answer());
         }
-        self.path.place = self.purpose.first();
+        self.path.look_in(self.purpose.first());
         self.stage = Stage::Look { tries: tries - 1 };
         None
     }

@@ -14,6 +14,7 @@ mod paths;
 mod purpose;
 mod refusal;
 mod step;
+mod target;
 mod turn;
 
 pub use answer::Answer;

@@ -1,6 +1,6 @@
 //! The table of errands, a row for each purpose: the places that it looks in, what it decides of a message that it found, and what it does
 //! with it.
-ghost use Rattle.std.specs.Prelude.{◌≡◌, IfOk, IfErr, MatchResult};
+ghost use Rattle.std.specs.Prelude.{◌≡◌, IfOk, IfErr, IfSome, MatchResult};
 ghost use Rattle.md_dirs.specs.Path.{path_of};
 ghost use Rattle.md_dirs.specs.Calls.{Obeys};
 ghost use Rattle.md_jobs.specs.Tasks.Views.Purposes.{purpose_view, decision_view, deed_view, refusal_view};
@@ -16,6 +16,7 @@ use crate::error::CoreError;
 use crate::paths::path;
 use crate::refusal::Refusal;
 use crate::step::DirCall;
+use crate::target::Target;
 use md_dirs::{Bytes, DirError, Dirs, Path, Place};
 use md_name::laws::only_letters;
 use md_name::{Flags, Info, split, with_flags};
@@ -55,8 +56,8 @@ pub enum Deed {
     Unlink,
 }
 
-// The info of a message's name. What is no message's name has other info.
-fn info_of(name: &[u8]) -> Info
+/// The info of a message's name. What is no message's name has other info.
+pub(crate) fn info_of(name: &[u8]) -> Info
     ensures { result ≡ info_in name.now }
 {
     match split(name) {
@@ -75,17 +76,17 @@ fn is_same(first: Flags, second: Flags) -> bool
 }
 
 // The flags of a message, and none where it has other info.
-fn shown(name: &[u8]) -> Flags
-    ensures { result ≡ shown_by (info_in name.now) }
+fn shown(info: Info) -> Flags
+    ensures { result ≡ shown_by info }
 {
-    info_of(name).flags().unwrap_or(Flags::empty())
+    info.flags().unwrap_or(Flags::empty())
 }
 
-// Whether a message has the flag T.
-fn is_trashed(name: &[u8]) -> bool
-    ensures { result ≡ has_trashed (flags_of (info_in name.now)) }
+// Whether a message of this info has the flag T.
+fn is_trashed(info: Info) -> bool
+    ensures { result ≡ has_trashed (flags_of info) }
 {
-    info_of(name).flags().is_some_and(|flags| flags.has(b'T'))
+    info.flags().is_some_and(|flags| flags.has(b'T'))
 }
 
 // What is done by a test, or refused.
@@ -174,10 +175,10 @@ impl Purpose {
     }
 
     // A Flag keeps the name of a message that has its flags.
-    fn decide_flag(&self, name: &[u8]) -> Decision
-        ensures { decision_view result ≡ decide_flag (purpose_view self.now) (flags_of (info_in name.now)) }
+    fn decide_flag(&self, info: Info) -> Decision
+        ensures { decision_view result ≡ decide_flag (purpose_view self.now) (flags_of info) }
     {
-        let Some(had) = info_of(name).flags() else {
+        let Some(had) = info.flags() else {
             return Decision::Refuse(Refusal::OtherInfo);
         };
         if is_same(had, self.wanted(had)) {
@@ -186,24 +187,37 @@ impl Purpose {
         Decision::Act
     }
 
-    /// What is decided of a message of this name.
-    pub(crate) fn decide(&self, name: &[u8]) -> Decision
-        ensures { decision_view result ≡ decide_by (purpose_view self.now) (info_in name.now) }
+    // What is decided of a message of this info.
+    fn decide_by(&self, info: &Info) -> Decision
+        ensures { decision_view result ≡ decide_by (purpose_view self.now) info.now }
     {
         match self {
-            Purpose::Seen(_) => act_if(info_of(name).flags().is_some(), Refusal::OtherInfo),
-            Purpose::Flag { .. } => self.decide_flag(name),
+            Purpose::Seen(_) => act_if(info.flags().is_some(), Refusal::OtherInfo),
+            Purpose::Flag { .. } => self.decide_flag(*info),
             Purpose::Move { .. } => Decision::Act,
-            Purpose::Copy { .. } => act_if(info_of(name).flags().is_some(), Refusal::OtherInfo),
-            Purpose::Expunge => act_if(is_trashed(name), Refusal::NotTrashed),
+            Purpose::Copy { .. } => act_if(info.flags().is_some(), Refusal::OtherInfo),
+            Purpose::Expunge => act_if(is_trashed(*info), Refusal::NotTrashed),
         }
+    }
+
+    /// What is decided of a message of this name, and the info of the name, where that was read: a Move goes by no info.
+    pub(crate) fn decide(&self, name: &[u8]) -> (Decision, Option<Info>)
+        ensures decision { decision_view result.0 ≡ decide_by (purpose_view self.now) (info_in name.now) }
+        ensures info { IfSome result.1 (λ info. info ≡ info_in name.now) }
+    {
+        if matches!(self, Purpose::Move { .. }) {
+            return (Decision::Act, None);
+        }
+        let info = info_of(name);
+        let decision = self.decide_by(&info);
+        (decision, Some(info))
     }
 
     // The answer that says which flags the message has then.
     fn flags(&self, name: &[u8]) -> Answer
         ensures { result ≡ Answer.Flags (wanted_by (purpose_view self.now) (shown_by (info_in name.now))) }
     {
-        Answer::Flags(self.wanted(shown(name)))
+        Answer::Flags(self.wanted(shown(info_of(name))))
     }
 
     /// The answer of one whose call took effect on a message of this name.
@@ -224,30 +238,33 @@ impl Purpose {
         &self,
         alloc: Global,
         unique: &Bytes,
-        old: &Path,
+        old: &Target,
     ) -> Result<(Deed, Answer), CoreError>
         ensures deed { IfOk result (λ done. deed_view old.now done.0 ≡
             deed_by (purpose_view self.now) old.now.folder unique.now old.now.place old.now.name (info_in old.now.name)) }
         ensures answer { IfOk result (λ done. done.1 ≡ answer_by (purpose_view self.now) (info_in old.now.name)) }
         ensures memory { IfErr result (λ e. e ≡ CoreError.NoMemory) }
     {
-        let place = old.place;
-        let name = &old.name;
+        let Path {
+            folder,
+            place,
+            name,
+        } = old.path();
         match self {
             Purpose::Seen(_) | Purpose::Flag { .. } => {
-                let flags = self.wanted(shown(name.as_slice()));
-                let new = marked(alloc, old.folder, unique, flags)?;
+                let flags = self.wanted(shown(old.info()));
+                let new = marked(alloc, *folder, unique, flags)?;
                 Ok((Deed::Rename { new }, Answer::Flags(flags)))
             }
             Purpose::Move { to } => {
-                let new = path(alloc, *to, place, name)?;
+                let new = path(alloc, *to, *place, name)?;
                 Ok((Deed::Rename { new }, Answer::Moved))
             }
             Purpose::Copy { to, fresh } => {
-                let name = copied_name(alloc, fresh, info_of(name.as_slice()))?;
+                let name = copied_name(alloc, fresh, old.info())?;
                 let new = Path {
                     folder: *to,
-                    place,
+                    place: *place,
                     name,
                 };
                 Ok((Deed::Link { new }, Answer::Copied))
