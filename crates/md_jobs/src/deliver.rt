@@ -122,7 +122,7 @@ impl Delivery {
         }
     }
 
-    /// Takes the next turn. After a refusal nothing has changed.
+    /// Takes the next turn, and adds its effect, where it is one. After a refusal nothing has changed.
     pub fn turn<D: Dirs>(
         &mut self,
         alloc: Global,
@@ -141,6 +141,7 @@ impl Delivery {
         ensures dirs { OnErr result (IsUntouched (D.device dirs.old)
             (D.device dirs.new)) }
     {
+        // Room is made before the call, as one that was made can't be refused any more.
         effects.reserve(1)?;
         match self.stage {
             Stage::Start => self.create(dirs, at),

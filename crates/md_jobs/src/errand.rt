@@ -52,7 +52,7 @@ impl Errand {
         }
     }
 
-    /// Takes the next turn. After a refusal nothing has changed.
+    /// Takes the next turn, and adds its effect, where it is one. After a refusal nothing has changed.
     pub fn turn<D: Dirs>(
         &mut self,
         alloc: Global,
@@ -71,6 +71,7 @@ impl Errand {
         ensures dirs { OnErr result (IsUntouched (D.device dirs.old)
             (D.device dirs.new)) }
     {
+        // Room is made before the call, as one that was made can't be refused any more.
         effects.reserve(1)?;
         match self.stage {
             Stage::Look { tries } => self.look(dirs, job, at, tries, effects),

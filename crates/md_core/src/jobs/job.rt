@@ -66,7 +66,7 @@ impl Job {
         matches!(self.progress, Progress::Working(_))
     }
 
-    /// Takes the next turn, and keeps the answer. After a refusal nothing has changed.
+    /// Takes the next turn, adds its effect, where it is one, and keeps the answer. After a refusal nothing has changed.
     pub(crate) fn turn<D: Dirs>(
         &mut self,
         alloc: Global,

@@ -76,8 +76,8 @@ impl Task {
         }
     }
 
-    /// Takes the next turn. After a refusal nothing has changed. It is a part of the one place that calls it, so that what it gives is moved
-    /// once.
+    /// Takes the next turn, and adds its effect, where it is one. After a refusal nothing has changed. It is a part of the one place that calls
+    /// it, so that what it gives is moved once.
     #[inline(always)]
     pub(crate) fn turn<D: Dirs>(
         &mut self,
