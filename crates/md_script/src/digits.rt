@@ -1,5 +1,5 @@
 //! Numbers in decimal, printed without an allocation of their own.
-ghost use Rattle.std.specs.Prelude.{◌≡◌, ◌++◌, ◌∷◌, [], OnOk};
+ghost use Rattle.std.specs.Prelude.{◌≡◌, ◌++◌, ◌∷◌, [], ◌≤◌, drop, OnOk};
 ghost use Rattle.std.specs.Fmt.{decimal, signed_decimal};
 
 use crate::few::push_two;
@@ -36,6 +36,23 @@ pub(crate) fn push_number_and(out: &mut Vec<u8>, number: u64, behind: u8) -> Res
     let mut digits = [behind; MOST_DIGITS + 1];
     let start = write_digits(number, &mut digits, MOST_DIGITS);
     out.extend_from_slice(&digits[start..])
+}
+
+/// Appends a number in decimal and, at once, a text that stands behind room for its digits.
+#[inline(always)]
+#[tactic(auto, using(crate::proofs::Decimals::short_decimal))]
+pub(crate) fn push_line<const N: usize>(
+    out: &mut Vec<u8>,
+    number: u64,
+    line: [u8; N],
+) -> Result<(), AllocError>
+    requires { 20 ≤ N }
+    ensures { OnOk result (out.new.items ≡ out.old.items ++ decimal number ++ drop 20 line.entry) }
+{
+    let mut line = line;
+    let whole = &mut line[..];
+    let start = write_digits(number, whole, MOST_DIGITS);
+    out.extend_from_slice(&whole[start..])
 }
 
 /// Appends a number in decimal, with a minus sign where it is negative.

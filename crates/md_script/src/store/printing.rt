@@ -1,19 +1,21 @@
 //! What jobs, their steps and messages print.
-ghost use Rattle.std.specs.Prelude.{◌≡◌, ◌++◌, Some, OnOk, codes, option_map};
+ghost use Rattle.std.specs.Prelude.{◌≡◌, ◌++◌, Some, OnOk, codes, decimal, option_map};
 ghost use Rattle.md_script.specs.Texts.{line_end, job_text, call_text, reply_text, answer_text, answer_line, out_text, bytes_text};
 
-use crate::digits::{push_number, push_number_and};
+use crate::digits::{push_line, push_number, push_number_and};
 use crate::escapes::push_escaped;
+use crate::few::push_word;
 use crate::flags::push_letters;
 use crate::listing::place_text;
 use md_core::{Answer, DirCall, DirReply, JobId, StepOut};
+use md_dirs::Place;
 use std::alloc::AllocError;
 
 /// `job J`, for a job that was submitted.
 pub(super) fn push_job(out: &mut Vec<u8>, job: JobId) -> Result<(), AllocError>
     ensures { OnOk result (out.new.items ≡ out.old.items ++ job_text job) }
 {
-    out.extend_from_slice(b"job ")?;
+    push_word(out, b'j', b'o', b'b')?;
     push_number_and(out, job, b'\n')
 }
 
@@ -21,12 +23,47 @@ pub(super) fn push_job(out: &mut Vec<u8>, job: JobId) -> Result<(), AllocError>
 pub(super) fn push_step(out: &mut Vec<u8>, job: JobId, step: StepOut) -> Result<(), AllocError>
     ensures { OnOk result (out.new.items ≡ out.old.items ++ out_text job step) }
 {
-    push_number_and(out, job, b' ')?;
-    push_call(out, step.call)?;
-    out.extend_from_slice(reply_end(step.reply))?;
+    push_call_line(out, job, step.call, step.reply)?;
     match step.answer {
         None => Ok(()),
         Some(answer) => push_answer_line(out, job, answer),
+    }
+}
+
+/// `J CALL REPLY`.
+fn push_call_line(
+    out: &mut Vec<u8>,
+    job: JobId,
+    call: DirCall,
+    reply: DirReply,
+) -> Result<(), AllocError>
+    ensures { OnOk result (out.new.items ≡ out.old.items ++ decimal job ++ codes " " ++ call_text call ++ codes " " ++ reply_text reply ++ line_end) }
+{
+    // Nearly every call is done.
+    if let DirReply::Ok = reply {
+        return push_done(out, job, call);
+    }
+    push_number_and(out, job, b' ')?;
+    push_call(out, call)?;
+    out.extend_from_slice(reply_end(reply))
+}
+
+/// `J CALL ok`.
+fn push_done(out: &mut Vec<u8>, job: JobId, call: DirCall) -> Result<(), AllocError>
+    ensures { OnOk result (out.new.items ≡ out.old.items ++ decimal job ++ codes " " ++ call_text call ++ codes " ok" ++ line_end) }
+{
+    match call {
+        DirCall::Create => push_line(out, job, *b"00000000000000000000 create ok\n"),
+        DirCall::Append(count) => {
+            push_line(out, job, *b"00000000000000000000 append ")?;
+            push_line(out, count, *b"00000000000000000000 ok\n")
+        }
+        DirCall::Link => push_line(out, job, *b"00000000000000000000 link ok\n"),
+        DirCall::Rename => push_line(out, job, *b"00000000000000000000 rename ok\n"),
+        DirCall::Unlink => push_line(out, job, *b"00000000000000000000 unlink ok\n"),
+        DirCall::List(Place::Tmp) => push_line(out, job, *b"00000000000000000000 list tmp ok\n"),
+        DirCall::List(Place::New) => push_line(out, job, *b"00000000000000000000 list new ok\n"),
+        DirCall::List(Place::Cur) => push_line(out, job, *b"00000000000000000000 list cur ok\n"),
     }
 }
 
@@ -34,11 +71,29 @@ pub(super) fn push_step(out: &mut Vec<u8>, job: JobId, step: StepOut) -> Result<
 pub fn push_answer_line(out: &mut Vec<u8>, job: JobId, answer: Answer) -> Result<(), AllocError>
     ensures { OnOk result (out.new.items ≡ out.old.items ++ answer_line job (Some answer)) }
 {
-    push_number(out, job)?;
-    out.extend_from_slice(b" answer ")?;
-    push_answer(out, answer)?;
-    out.push(b'\n')?;
-    Ok(())
+    match answer {
+        Answer::Delivered => push_line(out, job, *b"00000000000000000000 answer delivered\n"),
+        Answer::Flags(flags) => {
+            push_line(out, job, *b"00000000000000000000 answer flags ")?;
+            push_letters(out, flags)?;
+            Ok(out.push(b'\n')?)
+        }
+        Answer::Moved => push_line(out, job, *b"00000000000000000000 answer moved\n"),
+        Answer::Copied => push_line(out, job, *b"00000000000000000000 answer copied\n"),
+        Answer::Expunged => push_line(out, job, *b"00000000000000000000 answer expunged\n"),
+        Answer::Cleaned(count) => {
+            push_line(out, job, *b"00000000000000000000 answer cleaned ")?;
+            push_number_and(out, count, b'\n')
+        }
+        Answer::NotThere => push_line(out, job, *b"00000000000000000000 answer notthere\n"),
+        Answer::NotTrashed => push_line(out, job, *b"00000000000000000000 answer nottrashed\n"),
+        Answer::OtherInfo => push_line(out, job, *b"00000000000000000000 answer otherinfo\n"),
+        Answer::Lost => push_line(out, job, *b"00000000000000000000 answer lost\n"),
+        Answer::TimedOut => push_line(out, job, *b"00000000000000000000 answer timedout\n"),
+        Answer::TmpGone => push_line(out, job, *b"00000000000000000000 answer tmpgone\n"),
+        Answer::NameTaken => push_line(out, job, *b"00000000000000000000 answer nametaken\n"),
+        Answer::Fault => push_line(out, job, *b"00000000000000000000 answer fault\n"),
+    }
 }
 
 fn push_call(out: &mut Vec<u8>, call: DirCall) -> Result<(), AllocError>
@@ -69,33 +124,6 @@ fn reply_end(reply: DirReply) -> &'static [u8]
         DirReply::Exists => b" exists\n",
         DirReply::NotFound => b" notfound\n",
         DirReply::Fault => b" fault\n",
-    }
-}
-
-fn push_answer(out: &mut Vec<u8>, answer: Answer) -> Result<(), AllocError>
-    ensures { OnOk result (out.new.items ≡ out.old.items ++ answer_text answer) }
-{
-    match answer {
-        Answer::Delivered => out.extend_from_slice(b"delivered"),
-        Answer::Flags(flags) => {
-            out.extend_from_slice(b"flags ")?;
-            push_letters(out, flags)
-        }
-        Answer::Moved => out.extend_from_slice(b"moved"),
-        Answer::Copied => out.extend_from_slice(b"copied"),
-        Answer::Expunged => out.extend_from_slice(b"expunged"),
-        Answer::Cleaned(count) => {
-            out.extend_from_slice(b"cleaned ")?;
-            push_number(out, count)
-        }
-        Answer::NotThere => out.extend_from_slice(b"notthere"),
-        Answer::NotTrashed => out.extend_from_slice(b"nottrashed"),
-        Answer::OtherInfo => out.extend_from_slice(b"otherinfo"),
-        Answer::Lost => out.extend_from_slice(b"lost"),
-        Answer::TimedOut => out.extend_from_slice(b"timedout"),
-        Answer::TmpGone => out.extend_from_slice(b"tmpgone"),
-        Answer::NameTaken => out.extend_from_slice(b"nametaken"),
-        Answer::Fault => out.extend_from_slice(b"fault"),
     }
 }
 
