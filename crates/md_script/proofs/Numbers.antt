@@ -1,15 +1,20 @@
 -- A number, read digit by digit.
-use Rattle.std.proofs.Common.{◌≡◌, ◌∙◌, sym, ap, subst, ℕ, zero, suc, ◌+◌, ◌-◌, ◌*◌, ◌^◌, ◌<◌, ◌≤◌, ◌==◌, true, false, List, length, get_or, take, refl, Ok, Err, arith}
+use Rattle.std.proofs.Common.{◌≡◌, ◌∙◌, sym, ap, subst, ℕ, zero, suc, ◌+◌, ◌-◌, ◌*◌, ◌^◌, ◌<◌, ◌≤◌, ◌==◌, true, false, List, [], ◌∷◌, length, get_or, take, drop, refl, None, Some, Result, Ok, Err, arith, length-take-le}
+use Rattle.std.proofs.lemmas.Bool.{eqb-true}
 use Rattle.std.proofs.lemmas.Bool.Decides.{nat_tests}
-use Rattle.std.proofs.lemmas.List.{take_all}
+use Rattle.std.proofs.lemmas.List.{take_all, get_or-take}
 use Rattle.std.proofs.lemmas.Int.Digits.{digits_value_more}
 use Rattle.std.proofs.lemmas.Str.{digit_value_digit}
-use Rattle.std.proofs.lemmas.Str.Parse.{numerals_by_value, tells_all_ascii_digits, tells_by_index, IsNumeralModel, digit_at, digits_value-take-le}
+use Rattle.std.proofs.lemmas.Str.Parse.{numerals_by_value, tells_all_ascii_digits, tells_by_index, IsNumeralModel, digit_at, digits_value-take-le, digits_value_short}
 use Rattle.std.specs.Int.{IsInRange}
 use Rattle.std.specs.Str.{all_ascii_digits}
 use Rattle.std.specs.Str.Parse.{digits_value}
+use Rattle.memchr.specs.Find.{Nowhere, Passes, is_byte}
+use Rattle.md_script.specs.declared.error.PlayKind.{PlayKind}
 use Rattle.md_script.specs.declared.error.PlayKind.TheVariants.{BadNumber}
-use Rattle.md_script.specs.Words.{number_of}
+use Rattle.md_script.specs.Bind.{◌>>=◌}
+use Rattle.md_script.specs.Words.{Rest, cut_at_space, nonempty_word, number_at, number_of, word_at}
+use Rattle.md_script.proofs.Cuts.{first_word, last_word}
 
 own : IsNumeralModel (λ ds. all_ascii_digits ds ≡ true) (digits_value 10)
 own = numerals_by_value (λ ds. all_ascii_digits ds ≡ true) tells_all_ascii_digits
@@ -26,6 +31,54 @@ pub number_bad : (word : List ℕ) → (0 < length word → length word ≤ 20 �
     number_of word ≡ Err BadNumber
 unfolding number_of
 number_bad word h = grind (arith, nat_tests)
+
+-- The digits in front of a text that are so few that one more makes no number that is too large.
+pub few_digits : (text : List ℕ) (at : ℕ) → at ≤ length text → at ≤ 18 → ((i : ℕ) → i < at → IsInRange 48 57 (get_or text i 0)) →
+    digits_value 10 (take at text) < 1000000000000000000
+few_digits text at within few digits =
+    let long : length (take at text) ≡ at = length-take-le at text within in
+    digits_value_short by_index (take at text) 18 (λ i h. subst (IsInRange 48 57) (sym (get_or-take at text i 0 (omega (arith, long, h)))) (digits i (omega (arith, long, h))))
+    (omega (arith, long))
+
+-- Where digits end, at a space or with the text, a word ends.
+no_space : (text : List ℕ) (at : ℕ) → ((i : ℕ) → i < at → IsInRange 48 57 (get_or text i 0)) → Nowhere (Passes (is_byte 32) text) 0 at
+no_space text at digits i low high space = absurd (omega (arith, digits i high, eqb-true (get_or text i 0) 32 space))
+
+pub ends_at_space : (text : List ℕ) (at : ℕ) → at < length text → get_or text at 0 ≡ 32 → ((i : ℕ) → i < at → IsInRange 48 57 (get_or text i 0)) →
+    cut_at_space text ≡ (take at text, Some (take (length text - (at + 1)) (drop (at + 1) text)))
+ends_at_space text at within space digits =
+    first_word text at (record { low = omega arith; high = within; before = no_space text at digits }, ap (is_byte 32) space)
+
+pub ends_with_text : (text : List ℕ) (at : ℕ) → at ≡ length text → ((i : ℕ) → i < at → IsInRange 48 57 (get_or text i 0)) →
+    cut_at_space text ≡ (take at text, None)
+ends_with_text text at all digits =
+    let alone : List ℕ → List ℕ × Rest = λ word. (word, None) in
+    last_word text (subst (Nowhere (Passes (is_byte 32) text) 0) all (no_space text at digits)) ∙ ap alone (sym (take_all at text (omega (arith, all))))
+
+-- a word that is not empty is one
+nonempty : (word : List ℕ) (rest : Rest) → 0 < length word → nonempty_word (word, rest) ≡ Ok (word, rest)
+nonempty [] rest some = absurd (omega (arith, some))
+nonempty (b ∷ word) rest some = refl
+
+read_word : (text word : List ℕ) (rest : Rest) (value : ℕ) → cut_at_space text ≡ (word, rest) → 0 < length word → number_of word ≡ Ok value →
+    number_at (Some text) ≡ Ok (value, rest)
+unfolding number_at word_at
+read_word text word rest value cut some is =
+    ap (λ (w : Result (List ℕ × Rest) PlayKind). w >>= (λ w. number_of w.0 >>= (λ n. Ok (n, w.1)))) (ap nonempty_word cut ∙ nonempty word rest some)
+    ∙ ap (λ (r : Result ℕ PlayKind). r >>= (λ n. Ok (n, rest))) is
+
+-- A word of so few digits is read as a number, whatever is left behind it.
+pub short_read : (text : List ℕ) (at value : ℕ) (rest : Rest) → cut_at_space text ≡ (take at text, rest) → at ≤ length text → 0 < at → at ≤ 19 →
+    value ≡ digits_value 10 (take at text) → ((i : ℕ) → i < at → IsInRange 48 57 (get_or text i 0)) → number_at (Some text) ≡ Ok (value, rest)
+short_read text at value rest cut within some short so_far digits =
+    let word : List ℕ = take at text in
+    let long : length word ≡ at = length-take-le at text within in
+    let all : (i : ℕ) → i < length word → IsInRange 48 57 (get_or word i 0) =
+    λ i h. subst (IsInRange 48 57) (sym (get_or-take at text i 0 (omega (arith, long, h)))) (digits i (omega (arith, long, h))) in
+    let fits : digits_value 10 word < 10 ^ 19 = digits_value_short by_index word 19 all (omega (arith, long)) in
+    let number : number_of word ≡ Ok value =
+    number_good word (omega (arith, long)) (omega (arith, long)) (own.from word (by_index.to word all)) (omega (arith, fits)) ∙ ap Ok (sym so_far) in
+    read_word text word rest value cut (omega (arith, long)) number
 
 -- a word that is not empty
 pub some_byte : (n : ℕ) → (n == 0) ≡ false → 0 < n

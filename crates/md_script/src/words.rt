@@ -1,5 +1,5 @@
 //! The words of a line, read from left to right.
-ghost use Rattle.std.specs.Prelude.{◌≡◌, ◌<◌, length, IfOk};
+ghost use Rattle.std.specs.Prelude.{◌≡◌, ◌<◌, length, IfOk, IfSome, Ok, Some};
 ghost use Rattle.std.specs.Option.{option_copied};
 ghost use Rattle.md_script.specs.Words.{Gives, Reads, cut_at_space, word_at, end_at, number_at, body_at};
 ghost use Rattle.memchr.specs.Find.{IsFirstByte, is_byte};
@@ -13,6 +13,9 @@ use std::alloc::Global;
 /// How many bytes of a word are looked at before a search for its end pays.
 const MOST_NEAR: usize = 12;
 
+/// How many digits make a number that fits in any case.
+const MOST_SHORT: usize = 19;
+
 /// What is left of a line: `None` at its end, and else what follows a space.
 pub(crate) type Rest<'a> = Option<&'a [u8]>;
 
@@ -22,20 +25,42 @@ pub(crate) fn word(rest: Rest<'_>) -> Result<(&[u8], Rest<'_>), PlayKind>
     ensures value { Reads (λ word. word.now) result (word_at (option_copied rest.entry)) }
     ensures nonempty { IfOk result (λ read. 0 < length read.0.now) }
 {
-    let Some(text) = rest else {
-        return Err(PlayKind::BadCommand);
-    };
-    let (word, rest) = cut_word(text);
+    match rest {
+        None => Err(PlayKind::BadCommand),
+        Some(text) => first_word(text, first_space(text)),
+    }
+}
+
+/// The same of a word that is mostly long, so that the search for its end begins at once.
+#[tactic(auto, unfolding(crate::specs::Words::word_at))]
+pub(crate) fn long_word(rest: Rest<'_>) -> Result<(&[u8], Rest<'_>), PlayKind>
+    ensures value { Reads (λ word. word.now) result (word_at (option_copied rest.entry)) }
+{
+    match rest {
+        None => Err(PlayKind::BadCommand),
+        Some(text) => first_word(text, memchr(b' ', text)),
+    }
+}
+
+/// The word in front of the first space.
+#[tactic(auto, unfolding(crate::specs::Words::word_at))]
+fn first_word(text: &[u8], space: Option<usize>) -> Result<(&[u8], Rest<'_>), PlayKind>
+    requires { IsFirstByte (is_byte 32) text.now space }
+    ensures value { Reads (λ word. word.now) result (word_at (Some text.now)) }
+    ensures nonempty { IfOk result (λ read. 0 < length read.0.now) }
+{
+    let (word, rest) = cut_at(text, space);
     if word.is_empty() {
         return Err(PlayKind::BadCommand);
     }
     Ok((word, rest))
 }
 
-fn cut_word(text: &[u8]) -> (&[u8], Rest<'_>)
+fn cut_at(text: &[u8], space: Option<usize>) -> (&[u8], Rest<'_>)
+    requires { IsFirstByte (is_byte 32) text.now space }
     ensures { cut_at_space text.now ≡ (result.0.now, option_copied result.1) }
 {
-    match first_space(text) {
+    match space {
         None => (text, None),
         Some(at) => (&text[..at], Some(&text[at + 1..])),
     }
@@ -70,6 +95,41 @@ pub(crate) fn end(rest: Rest<'_>) -> Result<(), PlayKind>
 /// The next word as a number.
 #[tactic(auto, unfolding(crate::specs::Words::number_at))]
 pub(crate) fn number_word(rest: Rest<'_>) -> Result<(u64, Rest<'_>), PlayKind>
+    ensures { Reads (λ n. n) result (number_at (option_copied rest.entry)) }
+{
+    if let Some(text) = rest {
+        if let Some(read) = short_number(text) {
+            return Ok(read);
+        }
+    }
+    any_number(rest)
+}
+
+/// The same of few digits, which are read as their word is cut: they make no number that is too large. Other words are left to `any_number`.
+#[inline(always)]
+fn short_number(text: &[u8]) -> Option<(u64, Rest<'_>)>
+    ensures { IfSome result (λ read. number_at (Some text.now) ≡ Ok (read.0, option_copied read.1)) }
+{
+    let mut value = 0;
+    for at in 0..text.len().min(MOST_SHORT) {
+        if text[at].is_ascii_digit() {
+            value = value * 10 + u64::from(text[at] - b'0');
+        } else if text[at] == b' ' && at > 0 {
+            return Some((value, Some(&text[at + 1..])));
+        } else {
+            return None;
+        }
+    }
+    if text.is_empty() || text.len() > MOST_SHORT {
+        return None;
+    }
+    Some((value, None))
+}
+
+/// The same of any word. Apart, since few numbers are long.
+#[inline(never)]
+#[tactic(auto, unfolding(crate::specs::Words::number_at))]
+fn any_number(rest: Rest<'_>) -> Result<(u64, Rest<'_>), PlayKind>
     ensures { Reads (λ n. n) result (number_at (option_copied rest.entry)) }
 {
     let (word, rest) = word(rest)?;
