@@ -104,19 +104,51 @@ unique_line rest = do
   _ ← end_at host.1
   Ok (make_name sec.0 micro.0 pid.0 count.0 host.0)
 
+-- the words of `file` after the first, as a command
+abbrev pub file_line : List (List ℕ) → Rest → Result Command PlayKind
+file_line folders rest = file_of folders rest >>= (λ file. Ok (make_file file))
+
+-- the words of `job` after the first, as a command
+abbrev pub submit_line : List (List ℕ) → Rest → Result Command PlayKind
+submit_line folders rest = job_line folders rest >>= (λ call. Ok (submit call))
+
+-- the words of `step` after the first
+abbrev pub step_line : Rest → Result Command PlayKind
+step_line rest = event_at rest >>= (λ event. Ok (step event))
+
+-- the words of `finish` after the first
+abbrev pub finish_line : Rest → Result Command PlayKind
+finish_line rest = event_at rest >>= (λ event. Ok (finish event))
+
+-- the words of `list` after the first
+abbrev pub list_line : List (List ℕ) → Rest → Result Command PlayKind
+list_line folders rest = only_folder folders rest >>= (λ folder. Ok (list folder))
+
+-- the words of `first` after the first
+abbrev pub first_line : List (List ℕ) → Rest → Result Command PlayKind
+first_line folders rest = only_folder folders rest >>= (λ folder. Ok (first folder))
+
+-- the words of `second` after the first
+abbrev pub second_line : List (List ℕ) → Rest → Result Command PlayKind
+second_line folders rest = only_folder folders rest >>= (λ folder. Ok (second folder))
+
+-- the words of `summary` after the first
+abbrev pub summary_line : Rest → Result Command PlayKind
+summary_line rest = body_at rest >>= (λ message. Ok (summarize message))
+
 -- the words of a line after its first, by which command that names
 abbrev pub verb_line : List (List ℕ) → Mode → Verb → Rest → Result Command PlayKind
 verb_line folders mode verb.Folder rest = folder_line folders rest
-verb_line folders mode verb.File rest = file_of folders rest >>= (λ file. Ok (make_file file))
-verb_line folders mode verb.Job rest = job_line folders rest >>= (λ call. Ok (submit call))
-verb_line folders mode verb.Step rest = event_at rest >>= (λ event. Ok (step event))
-verb_line folders mode verb.Finish rest = event_at rest >>= (λ event. Ok (finish event))
-verb_line folders mode verb.List rest = only_folder folders rest >>= (λ folder. Ok (list folder))
-verb_line folders mode verb.First rest = only_folder folders rest >>= (λ folder. Ok (first folder))
-verb_line folders mode verb.Second rest = only_folder folders rest >>= (λ folder. Ok (second folder))
+verb_line folders mode verb.File rest = file_line folders rest
+verb_line folders mode verb.Job rest = submit_line folders rest
+verb_line folders mode verb.Step rest = step_line rest
+verb_line folders mode verb.Finish rest = finish_line rest
+verb_line folders mode verb.List rest = list_line folders rest
+verb_line folders mode verb.First rest = first_line folders rest
+verb_line folders mode verb.Second rest = second_line folders rest
 verb_line folders mode verb.Read rest = read_line rest
 verb_line folders mode verb.Unique rest = unique_line rest
-verb_line folders mode verb.Summary rest = body_at rest >>= (λ message. Ok (summarize message))
+verb_line folders mode verb.Summary rest = summary_line rest
 
 -- the command that a line spells, from the folders that were named before it and what the line is read for
 unfoldable pub command_at : List (List ℕ) → Mode → List ℕ → Result Command PlayKind

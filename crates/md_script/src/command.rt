@@ -11,13 +11,16 @@ mod others;
 use crate::error::PlayKind;
 use crate::folders::Folders;
 use crate::verb::{Mode, Verb, admit, verb_from};
-use crate::words::{body, word};
+use crate::words::word;
 use image::{file_line, folder_line};
-use jobs::job_line;
+use jobs::submit_line;
 use md_core::{Call, Event};
 use md_dirs::ImageFile;
 use md_name::UniqueParts;
-use others::{event, only_folder, read_line, unique_line};
+use others::{
+    finish_line, first_line, list_line, read_line, second_line, step_line, summary_line,
+    unique_line,
+};
 use std::alloc::Global;
 
 /// A command, as the words of a line spell it. Folders are numbered from 0 in the order in which they were named, and
@@ -67,29 +70,18 @@ pub fn read_command<'a>(
         return Err(PlayKind::BadCommand);
     };
     admit(mode, verb)?;
+    // Each command is made in a function of its own, so that no line makes room for what the others would hold.
     match verb {
         Verb::Folder => folder_line(folders, rest),
-        Verb::File => Ok(Command::File(file_line(alloc, folders, rest)?)),
-        Verb::Job => Ok(Command::Submit(job_line(alloc, folders, rest)?)),
-        Verb::Step => Ok(Command::Step(event(rest)?)),
-        Verb::Finish => Ok(Command::Finish(event(rest)?)),
-        Verb::List => {
-            let folder = only_folder(folders, rest)?;
-            Ok(Command::List { folder })
-        }
-        Verb::First => {
-            let folder = only_folder(folders, rest)?;
-            Ok(Command::First { folder })
-        }
-        Verb::Second => {
-            let folder = only_folder(folders, rest)?;
-            Ok(Command::Second { folder })
-        }
+        Verb::File => file_line(alloc, folders, rest),
+        Verb::Job => submit_line(alloc, folders, rest),
+        Verb::Step => step_line(rest),
+        Verb::Finish => finish_line(rest),
+        Verb::List => list_line(folders, rest),
+        Verb::First => first_line(folders, rest),
+        Verb::Second => second_line(folders, rest),
         Verb::Read => read_line(rest),
         Verb::Unique => unique_line(rest),
-        Verb::Summary => {
-            let message = body(alloc, rest)?;
-            Ok(Command::Summary { message })
-        }
+        Verb::Summary => summary_line(alloc, rest),
     }
 }

@@ -2,8 +2,8 @@
 ghost use Rattle.std.specs.Prelude.{◌≡◌, ◌<◌, length, IfOk};
 ghost use Rattle.std.specs.Option.{option_copied};
 ghost use Rattle.md_script.specs.Words.{Gives, Reads};
-ghost use Rattle.md_script.specs.Held.{Spells, IsFit};
-ghost use Rattle.md_script.specs.Commands.{folder_line, file_of, place_named, place_at};
+ghost use Rattle.md_script.specs.Held.{Spells, IsFit, TakesFiles, command_of};
+ghost use Rattle.md_script.specs.Commands.{folder_line, file_line, file_of, place_named, place_at};
 ghost use Rattle.md_script.specs.Jobs.{folder_at};
 
 use crate::command::Command;
@@ -28,12 +28,20 @@ pub(super) fn folder_line<'a>(folders: &Folders, rest: Rest<'a>) -> Result<Comma
 }
 
 /// The words of `file` after the first.
-#[tactic(auto, unfolding(crate::specs::Commands::file_of))]
-pub(super) fn file_line(
+pub(super) fn file_line<'a>(
     alloc: Global,
     folders: &Folders,
-    rest: Rest<'_>,
-) -> Result<ImageFile, PlayKind>
+    rest: Rest<'a>,
+) -> Result<Command<'a>, PlayKind>
+    ensures command { Gives command_of result (file_line folders.now (option_copied rest.entry)) }
+    ensures fit { (mode : _) → TakesFiles mode → IfOk result (IsFit folders.now mode) }
+{
+    let file = file_of(alloc, folders, rest)?;
+    Ok(Command::File(file))
+}
+
+#[tactic(auto, unfolding(crate::specs::Commands::file_of))]
+fn file_of(alloc: Global, folders: &Folders, rest: Rest<'_>) -> Result<ImageFile, PlayKind>
     ensures { Gives (λ file. file) result (file_of folders.now (option_copied rest.entry)) }
 {
     let (folder, rest) = folder(folders, rest)?;

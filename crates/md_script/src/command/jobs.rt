@@ -1,9 +1,12 @@
 //! The words of the calls that become jobs.
-ghost use Rattle.std.specs.Prelude.{◌≡◌};
+ghost use Rattle.std.specs.Prelude.{◌≡◌, IfOk};
 ghost use Rattle.std.specs.Option.{option_copied};
 ghost use Rattle.md_script.specs.Words.{Gives};
+ghost use Rattle.md_script.specs.Held.{IsFit, command_of};
+ghost use Rattle.md_script.specs.Commands.{submit_line};
 ghost use Rattle.md_script.specs.Jobs.{flags_of, tries_at, deliver_line, seen_line, flag_line, move_line, expunge_line, copy_line, clean_line, job_line};
 
+use crate::command::Command;
 use crate::command::image::folder;
 use crate::error::PlayKind;
 use crate::folders::Folders;
@@ -18,8 +21,20 @@ use std::alloc::Global;
 const NO_FLAGS: &[u8; 1] = b"-";
 
 /// The words of `job` after the first.
+pub(super) fn submit_line<'a>(
+    alloc: Global,
+    folders: &Folders,
+    rest: Rest<'a>,
+) -> Result<Command<'a>, PlayKind>
+    ensures command { Gives command_of result (submit_line folders.now (option_copied rest.entry)) }
+    ensures fit { (mode : _) → IfOk result (IsFit folders.now mode) }
+{
+    let call = job_line(alloc, folders, rest)?;
+    Ok(Command::Submit(call))
+}
+
 #[tactic(auto, unfolding(crate::specs::Jobs::job_line))]
-pub(super) fn job_line(alloc: Global, folders: &Folders, rest: Rest<'_>) -> Result<Call, PlayKind>
+fn job_line(alloc: Global, folders: &Folders, rest: Rest<'_>) -> Result<Call, PlayKind>
     ensures { Gives (λ call. call) result (job_line folders.now (option_copied rest.entry)) }
 {
     let (word, rest) = word(rest)?;
