@@ -1,8 +1,9 @@
 -- The folders that a script names.
-use Rattle.std.specs.Prelude.{ℕ, Bool, not, ◌&&◌, ◌||◌, ◌==◌, List, length, map, nat_le, nat_lt, slice_index, position, Option, is_none}
+use Rattle.std.specs.Prelude.{ℕ, ◌≡◌, Bool, not, ◌&&◌, ◌||◌, ◌==◌, List, length, map, nat_le, nat_lt, slice_index, position, Option, is_none}
 use Rattle.std.specs.List.{list_any}
 use Rattle.std.specs.Str.{bytes_eq}
 use Rattle.std.specs.Global.{Vec}
+use Rattle.md_dirs.specs.Index.{get_name}
 
 -- the most folders of a script
 abbrev pub most_folders : ℕ
@@ -19,6 +20,10 @@ names_of names = map (λ name. name.items) names
 -- the number of the folder with a name
 unfoldable pub place_of : List (List ℕ) → List ℕ → Option ℕ
 place_of folders name = position (λ other. bytes_eq other name) folders
+
+-- a table has the number of each folder by its name, and nothing else
+abbrev pub ArePlaces : List (Vec ℕ) → List (List ℕ × ℕ) → Type 0
+ArePlaces names places = (name : List ℕ) → get_name places name ≡ place_of (names_of names) name
 
 -- a byte that no folder's name has: a slash, NUL, a carriage return
 abbrev pub is_barred : ℕ → Bool

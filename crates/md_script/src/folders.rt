@@ -1,9 +1,13 @@
 //! The folders that a script names.
-ghost use Rattle.std.specs.Prelude.{◌≡◌, ◌<◌, ◌≤◌, ◌++◌, ◌∷◌, [], ℕ, List, length, vec_len, OnOk, OnErr, IfSome, position};
+ghost use Rattle.std.specs.Prelude.{◌≡◌, ◌<◌, ◌≤◌, ◌++◌, ◌∷◌, [], ℕ, List, length, vec_len, Some, None, OnOk, OnErr, IfSome, position, if◌then◌else◌};
 ghost use Rattle.std.specs.List.{list_any};
+ghost use Rattle.std.specs.Option.{option_or};
 ghost use Rattle.std.specs.Str.{bytes_eq};
-ghost use Rattle.md_script.specs.Folders.{names_of, place_of, can_add, is_barred, most_folders};
+ghost use Rattle.md_dirs.specs.Index.{get_name};
+ghost use Rattle.md_script.specs.Folders.{names_of, place_of, can_add, is_barred, most_folders, ArePlaces};
 
+use indexmap::IndexMap;
+use md_dirs::NameKey;
 use std::alloc::{AllocError, Global};
 use std::marker::Model;
 
@@ -13,13 +17,17 @@ pub(crate) const MOST_FOLDERS: usize = 64;
 /// The longest name of a folder, in bytes.
 pub(crate) const LONGEST_NAME: usize = 100;
 
+/// How many names are looked at one by one. Where there are more, a look-up by hash costs less.
+const FEW: usize = 4;
+
 const DOT: u8 = b'.';
 
-/// The names of a script's folders, at most `MOST_FOLDERS`, in the order in which they were named.
+/// The names of a script's folders, at most `MOST_FOLDERS`, in the order in which they were named, and where each name is, by its hash.
 #[derive(Drop)]
 pub struct Folders {
     alloc: Global,
     names: Vec<Vec<u8>>,
+    places: IndexMap<NameKey<'static>, u32>,
 }
 
 impl Model for Folders {
@@ -27,7 +35,7 @@ impl Model for Folders {
 
     ghost view = { λ f. names_of f.names.items };
 
-    ghost invariant = { λ f. vec_len f.names ≤ most_folders };
+    ghost invariant = { λ f. (vec_len f.names ≤ most_folders) × ArePlaces f.names.items f.places.entries };
 }
 
 impl Folders {
@@ -38,6 +46,7 @@ impl Folders {
         Folders {
             alloc,
             names: Vec::new(alloc),
+            places: IndexMap::new(alloc),
         }
     }
 
@@ -52,6 +61,9 @@ impl Folders {
     pub(crate) fn place(&self, name: &[u8]) -> Option<u32>
         ensures { result ≡ place_of self.now name.now }
     {
+        if self.names.len() > FEW {
+            return place_by_hash(&self.places, name);
+        }
         let at = position(&self.names, name)?;
         Some(at as u32)
     }
@@ -74,7 +86,11 @@ impl Folders {
     pub(crate) fn into_names(self) -> Vec<Vec<u8>>
         ensures { names_of result.items ≡ self }
     {
-        let Folders { alloc: _, names } = self;
+        let Folders {
+            alloc: _,
+            names,
+            places: _,
+        } = self;
         names
     }
 
@@ -84,7 +100,11 @@ impl Folders {
         ensures ok { OnOk result (self.new ≡ self.old ++ name.now ∷ []) }
         ensures err { OnErr result (self.new ≡ self.old) }
     {
-        self.names.push(Vec::from_slice(self.alloc, name)?)?;
+        let at = self.names.len() as u32;
+        self.names.reserve(1)?;
+        let held = Vec::from_slice(self.alloc, name)?;
+        note_place(&mut self.places, self.alloc, name, at)?;
+        self.names.push_reserved(held);
         Ok(())
     }
 }
@@ -94,6 +114,33 @@ fn position(names: &[Vec<u8>], name: &[u8]) -> Option<usize>
     ensures within { IfSome result (λ at. at < length names.now) }
 {
     names.iter().position(|other| is_same(other, name))
+}
+
+// The number of the folder with this name, by its hash.
+fn place_by_hash(places: &IndexMap<NameKey<'static>, u32>, name: &[u8]) -> Option<u32>
+    ensures { result ≡ get_name places.now.entries name.now }
+{
+    let key = NameKey::lent(name);
+    places.get(&key).copied()
+}
+
+// Says which number the folder with this name has, unless one that came before has the name.
+fn note_place(
+    places: &mut IndexMap<NameKey<'static>, u32>,
+    alloc: Global,
+    name: &[u8],
+    at: u32,
+) -> Result<(), AllocError>
+    ensures places { OnOk result ((q : _) → get_name places.new.entries q
+        ≡ option_or (get_name places.old.entries q) (if bytes_eq name.now q then Some at else None)) }
+    ensures err { OnErr result (places.new.entries ≡ places.old.entries) }
+{
+    if place_by_hash(places, name).is_some() {
+        return Ok(());
+    }
+    let key = NameKey::owned(Vec::from_slice(alloc, name)?);
+    places.insert(key, at)?;
+    Ok(())
 }
 
 /// Whether two names are the same. Those of a script mostly differ in their last byte, which is looked at first.

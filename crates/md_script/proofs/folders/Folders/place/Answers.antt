@@ -14,3 +14,6 @@ returns c =
     let held = rw c.deref.ensures.value at c.position.ensures.value ∙ place_of-names_of c.self.inside.names.items c.args.name.now in
     let place : c.position.result ≡ place_of c.args.self.now c.args.name.now = rw (← c.self.view_is) held in
     sym c.in_ok-at.was ∙ place
+
+pub returns-then-len-gt-FEW : goal.returns-then-len-gt-FEW
+returns-then-len-gt-FEW c = rw (← c.self.view_is) (c.place_by_hash.ensures ∙ c.self.invariant.1 c.args.name.now)
