@@ -14,6 +14,9 @@ use std::alloc::{AllocError, Global};
 /// The byte that a line begins with that is passed over.
 const COMMENT: u8 = b'#';
 
+/// How many bytes there is room for at least when lines begin to print.
+const ROOM: usize = 4_096;
+
 /// What a script printed, and the refusal of the line that its run ended at, if one was refused.
 #[derive(Debug, Drop)]
 pub struct Printed {
@@ -77,6 +80,7 @@ impl Progress {
         if self.is_refused() {
             return Ok(());
         }
+        self.printed.text.reserve(ROOM)?;
         let mut left = lines;
         while let Some((first, others)) = cut_line(left) {
             match run_line(session, first, &mut self.printed.text) {
