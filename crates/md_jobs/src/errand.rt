@@ -148,13 +148,7 @@ impl Errand {
     }
 
     // A listing was made, and this row was found.
-    fn found(
-        &mut self,
-        job: JobId,
-        row: Row,
-        tries: u64,
-        effects: &mut Vec<Effect>,
-    ) -> Turned
+    fn found(&mut self, job: JobId, row: Row, tries: u64, effects: &mut Vec<Effect>) -> Turned
         requires room { vec_len effects.old < vec_capacity effects.old }
         ensures follows { after_decision job (errand_view self.old) self.old.path.place tries row
             (decide (purpose_view self.old.purpose) (info_in row.name)) ≡

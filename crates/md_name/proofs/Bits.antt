@@ -178,9 +178,10 @@ module _ (s : Set) (w i : ℕ) (seen : letters_in w ≡ s) (small : w < 2 ^ 52) 
   unfolding next
   found =
       let part = shr_le w i in
-      let facts = bit_at-trailing_zeros w64 (w / 2 ^ i) some (omega (arith, part, small)) in
-      (ap (λ n. n % 2) (sym (shr-shr w i (trailing_zeros w64 (w / 2 ^ i)))) ∙ facts.1,
-        λ j below. ap (λ n. n % 2) (sym (shr-shr w i j)) ∙ facts.2 j below)
+      let facts = bit_at-trailing_zeros w64 (w / 2 ^ i) some (omega (arith, part, small)) in (
+        ap (λ n. n % 2) (sym (shr-shr w i (trailing_zeros w64 (w / 2 ^ i)))) ∙ facts.1,
+        λ j below. ap (λ n. n % 2) (sym (shr-shr w i j)) ∙ facts.2 j below,
+      )
 
   pub next-within : i + trailing_zeros w64 (w / 2 ^ i) < 52
   unfolding next

@@ -24,9 +24,9 @@ from-more : (p : List ℕ → Bool) (names : List (List ℕ)) (name : List ℕ) 
 from-more p [] name i = ap (λ n. cond (p name) (Some n) None) (omega arith)
 from-more p (other ∷ names) name i = elim (p other) as (λ b. cond b (Some i) (position_from p (i + 1) (names ++ name ∷ []))
     ≡ option_or (cond b (Some i) (position_from p (i + 1) names)) (cond (p name) (Some (i + suc (length names))) None)) [
-  | true ↦ refl
-  | false ↦ from-more p names name (i + 1) ∙ ap (λ n. option_or (position_from p (i + 1) names) (cond (p name) (Some n) None)) (omega arith)
-]
+      | true ↦ refl
+      | false ↦ from-more p names name (i + 1) ∙ ap (λ n. option_or (position_from p (i + 1) names) (cond (p name) (Some n) None)) (omega arith)
+    ]
 
 pub place_of-more : (names : List (List ℕ)) (name q : List ℕ) →
     place_of (names ++ name ∷ []) q ≡ option_or (place_of names q) (cond (bytes_eq name q) (Some (length names)) None)

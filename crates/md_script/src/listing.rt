@@ -9,6 +9,9 @@ use md_dirs::Place;
 use md_view::{Entry, EntryRef};
 use std::alloc::AllocError;
 
+/// How many bytes a line has at most for the names of usual deliverers.
+const USUAL_LINE: usize = 64;
+
 /// Appends the lines of a listing, `PLACE UNIQUE FLAGS SIZE` for each entry.
 ///
 /// The flags are letters in ASCII order, `-` where there are none, and `?` where the info of the name is no list of flags. The size is in
@@ -29,6 +32,8 @@ pub(crate) fn push_lent_entries(
 ) -> Result<(), AllocError>
     ensures { OnOk result (out.new.items ≡ out.old.items ++ entries_text entries.now) }
 {
+    // Room for all lines at once, so that what is printed is moved once at most.
+    out.reserve(entries.len().saturating_mul(USUAL_LINE))?;
     for entry in entries {
         push_entry(out, entry)?;
     }

@@ -6,7 +6,9 @@ ghost use Rattle.md_core.specs.Tasks.Views.Tasks.{task_view};
 ghost use Rattle.md_core.specs.Machine.{turn_of, new_job, working};
 
 use md_dirs::Dirs;
-use md_jobs::{Call, Cleaning, CoreError, Delivery, Effect, Errand, JobId, Moment, Purpose, Turned};
+use md_jobs::{
+    Call, Cleaning, CoreError, Delivery, Effect, Errand, JobId, Moment, Purpose, Turned,
+};
 use std::alloc::Global;
 
 /// What a job does, and how far it has come.

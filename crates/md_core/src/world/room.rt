@@ -18,9 +18,6 @@ pub(crate) fn make_room<T>(items: &mut Vec<T>) -> Result<(), AllocError>
     if items.len() < items.capacity() {
         return Ok(());
     }
-    let more = items
-        .len()
-        .saturating_mul(7)
-        .clamp(LEAST_ROOM, MOST_ROOM);
+    let more = items.len().saturating_mul(7).clamp(LEAST_ROOM, MOST_ROOM);
     items.reserve(more)
 }

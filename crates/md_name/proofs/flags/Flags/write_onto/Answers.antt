@@ -46,7 +46,8 @@ pub loop-self-preserved : goal.loop-self-preserved
 unfolding letters
 loop-self-preserved c =
     let some = some-left c.if-left-eq0.false in
-    let within = next-within c.args.self c.self.inside.word c.loop-self.place c.self.view_is c.self.invariant some in
-    (omega (arith, within),
+    let within = next-within c.args.self c.self.inside.word c.loop-self.place c.self.view_is c.self.invariant some in (
+      omega (arith, within),
       c.in_ok-push.ensures.items ∙ ap (λ l. c.loop-self.text.items ++ l ∷ []) (letter_of _ 0 within)
-      ∙ next-spelled c.args.self c.self.inside.word c.loop-self.place c.self.view_is c.self.invariant some c.args.text.now.items c.loop-self.text.items c.loop-self.invariant.1)
+          ∙ next-spelled c.args.self c.self.inside.word c.loop-self.place c.self.view_is c.self.invariant some c.args.text.now.items c.loop-self.text.items c.loop-self.invariant.1,
+    )

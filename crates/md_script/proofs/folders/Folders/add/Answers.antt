@@ -13,8 +13,9 @@ invariant_of-self-2 c =
     c.push_reserved.ensures.items ∙ ap (λ xs. xs ++ held ∷ []) c.reserve.ensures.items in
     let long : c.len-at.result ≡ length names = omega (arith, c.len-at.ensures, c.self.inside.names.ok.0) in
     let room : length (names_of names) < 64 = rw (← c.self.view_is) at c.requires in
-    let same = length-map names (λ (n : Vec ℕ). n.items) in
-    (omega (arith, c.push_reserved.ensures.len, c.reserve.ensures.len, c.self.inside.names.ok.0, room, same),
+    let same = length-map names (λ (n : Vec ℕ). n.items) in (
+      omega (arith, c.push_reserved.ensures.len, c.reserve.ensures.len, c.self.inside.names.ok.0, room, same),
       subst (λ xs. ArePlaces xs c.note_place.new.places.entries) (sym all)
-      (noted names held c.args.name.now c.self.inside.places.entries c.note_place.new.places.entries c.len-at.result c.self.invariant.1
-      c.in_ok-held.ensures.items long c.in_ok-note_place.ensures.places))
+          (noted names held c.args.name.now c.self.inside.places.entries c.note_place.new.places.entries c.len-at.result c.self.invariant.1
+          c.in_ok-held.ensures.items long c.in_ok-note_place.ensures.places),
+    )
