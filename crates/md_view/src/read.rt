@@ -77,7 +77,7 @@ fn gather<'a, D: Dirs>(
     ensures entries { IfOk result (λ all. all.0.items ≡ entries_of place (rows_of (dirs_of world.now) folder place)) }
     ensures order { IfOk result (λ all. IsTrue all.1 → IsInOrder all.0.items) }
 {
-    let mut all = Vec::new(alloc);
+    let mut all = Vec::with_capacity(alloc, world.dirs().count(folder, place))?;
     let mut is_in_order = true;
     let mut at = 0usize;
     loop {
