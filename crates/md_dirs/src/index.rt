@@ -132,7 +132,7 @@ impl Dirs for IndexDirs {
     }
 
     fn append(&mut self, path: &Path, bytes: &[u8], now: u64) -> Result<(), DirError> {
-        let Some(file) = self.names.file_at(path) else {
+        let Some(file) = self.names.find_file(path) else {
             self.calls.raise();
             return Err(DirError::NotFound);
         };
@@ -142,7 +142,7 @@ impl Dirs for IndexDirs {
     }
 
     fn append_body(&mut self, path: &Path, body: &mut Bytes, now: u64) -> Result<(), DirError> {
-        let Some(file) = self.names.file_at(path) else {
+        let Some(file) = self.names.find_file(path) else {
             self.calls.raise();
             return Err(DirError::NotFound);
         };
@@ -152,7 +152,7 @@ impl Dirs for IndexDirs {
     }
 
     fn link(&mut self, old: &Path, new: &Path) -> Result<(), DirError> {
-        let Some(file) = self.names.file_at(old) else {
+        let Some(file) = self.names.find_file(old) else {
             self.calls.raise();
             return Err(DirError::NotFound);
         };
@@ -169,7 +169,7 @@ impl Dirs for IndexDirs {
     }
 
     fn rename(&mut self, old: &Path, new: &Path) -> Result<(), DirError> {
-        let Some((at, file)) = self.names.place_at(old) else {
+        let Some(file) = self.names.find_file(old) else {
             self.calls.raise();
             return Err(DirError::NotFound);
         };
@@ -177,7 +177,7 @@ impl Dirs for IndexDirs {
             self.calls.raise();
             return Err(DirError::NotFound);
         }
-        if self.names.rename_free(self.alloc, old, new, at, file)? {
+        if self.names.rename_free(self.alloc, old, new, file)? {
             self.calls.raise();
             return Ok(());
         }
@@ -193,7 +193,7 @@ impl Dirs for IndexDirs {
     }
 
     fn unlink(&mut self, path: &Path) -> Result<(), DirError> {
-        let Some(file) = self.names.take(path, usize::MAX) else {
+        let Some(file) = self.names.take(path) else {
             self.calls.raise();
             return Err(DirError::NotFound);
         };

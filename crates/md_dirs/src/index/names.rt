@@ -41,6 +41,9 @@ pub struct Names {
     table: IndexSet<Named<'static>>,
     others: IndexMap<NameKey<'static>, usize>,
     order: Vec<usize>,
+    // The position of the row that is looked at first: the one that was last found, added or renamed, or the one after the last that was
+    // taken away. It may be past the end.
+    near: usize,
 }
 
 impl Model for Names {
@@ -329,17 +332,7 @@ impl Names {
             table: IndexSet::new(alloc),
             others: IndexMap::new(alloc),
             order: Vec::new(alloc),
-        }
-    }
-
-    /// Where the row of a name may be in the table, and the number of its file.
-    #[inline(always)]
-    pub fn place_of(&self, name: &[u8]) -> Option<(usize, usize)>
-        ensures { option_map (λ r. r.1) result ≡ finmap.get self.now name.now }
-    {
-        match place_in(&self.table, name) {
-            Some(place) => Some(place),
-            None => Some((usize::MAX, file_beside(&self.others, name)?)),
+            near: 0,
         }
     }
 
@@ -347,7 +340,21 @@ impl Names {
     pub fn file_of(&self, name: &[u8]) -> Option<usize>
         ensures { result ≡ finmap.get self.now name.now }
     {
-        let (_, file) = self.place_of(name)?;
+        match place_in(&self.table, name) {
+            Some((_, file)) => Some(file),
+            None => file_beside(&self.others, name),
+        }
+    }
+
+    /// The same. A name that was just found or added is found again without a hash.
+    pub fn find_file(&mut self, name: &[u8]) -> Option<usize>
+        ensures file { result ≡ finmap.get self.old name.now }
+        ensures same { self.new ≡ self.old }
+    {
+        let Some((at, file)) = place_near(&self.table, name, self.near) else {
+            return file_beside(&self.others, name);
+        };
+        self.near = at;
         Some(file)
     }
 
@@ -361,7 +368,9 @@ impl Names {
             return Ok(false);
         }
         let row = Named::owned(Vec::from_slice(alloc, name)?, file);
+        let end = self.table.len();
         let Some(at) = add_row(&mut self.table, &mut self.order, row)? else {
+            self.near = end;
             return Ok(true);
         };
         if self.table.get_index(at).unwrap().is(name) {
@@ -409,28 +418,28 @@ impl Names {
         Ok(())
     }
 
-    /// Takes a name away, and gives the number of its file. Its row is looked for at a position first. It takes no memory. In the table the
-    /// last row takes the place that comes free, and the order is to be made again.
-    pub fn take(&mut self, name: &[u8], near: usize) -> Option<usize>
+    /// Takes a name away, and gives the number of its file. It takes no memory. In the table the last row takes the place that comes free,
+    /// and the order is to be made again. The row after that place is the near one then: names mostly go in the order in which they came.
+    pub fn take(&mut self, name: &[u8]) -> Option<usize>
         ensures file { result ≡ finmap.get self.old name.now }
         ensures gone { self.new ≡ finmap.remove self.old name.now }
     {
-        let Some((at, file)) = place_near(&self.table, name, near) else {
+        let Some((at, file)) = place_near(&self.table, name, self.near) else {
             return take_beside(&mut self.others, name);
         };
+        self.near = at.saturating_add(1);
         self.order.clear();
         let _gone = self.table.swap_remove_index(at);
         Some(file)
     }
 
-    /// Gives the file of a name another name of the same unique part, where the old one's row is at a position and no name stands beside the
-    /// table: whether it did. The name is copied. Where both have info, the order stays as it is. When out of memory, nothing has changed.
+    /// Gives the file of a name another name of the same unique part, where the old one was just found and no name stands beside the table:
+    /// whether it did. The name is copied. Where both have info, the order stays as it is. When out of memory, nothing has changed.
     pub fn rename(
         &mut self,
         alloc: Global,
         old: &[u8],
         new: &[u8],
-        at: usize,
         file: usize,
     ) -> Result<bool, AllocError>
         ensures free { IfOk result (λ is_done. IsTrue is_done → finmap.get self.old new.now ≡ None) }
@@ -441,10 +450,15 @@ impl Names {
         if !self.others.is_empty() {
             return Ok(false);
         }
-        if !rename_row(&mut self.table, &mut self.order, alloc, at, old, new, file)? {
-            return Ok(false);
-        }
-        Ok(true)
+        rename_row(
+            &mut self.table,
+            &mut self.order,
+            alloc,
+            self.near,
+            old,
+            new,
+            file,
+        )
     }
 
     /// The first name that is a unique name, or a unique name, a colon and more (maildir(5)), and the number of its file: by hash, unless some

@@ -81,35 +81,32 @@ impl Tree {
         }
     }
 
-    /// Where the row of a name may be in its directory, and the number of its file.
-    #[inline(always)]
-    pub fn place_of(&self, folder: u32, place: Place, name: &[u8]) -> Option<(usize, usize)>
-        ensures { option_map (λ r. r.1) result ≡ finmap.get self.now (path_of folder place name.now) }
+    /// The number of the file of a name in a directory.
+    pub fn file_of(&self, folder: u32, place: Place, name: &[u8]) -> Option<usize>
+        ensures { result ≡ finmap.get self.now (path_of folder place name.now) }
     {
         let number = number_of(folder, place);
         if number >= self.directories.len() {
             return None;
         }
-        self.directories[number].place_of(name)
+        self.directories[number].file_of(name)
     }
 
-    /// The number of the file of a name in a directory.
-    pub fn file_of(&self, folder: u32, place: Place, name: &[u8]) -> Option<usize>
-        ensures { result ≡ finmap.get self.now (path_of folder place name.now) }
+    /// The number of the file of a path. A path that was just found or added is found again without a hash.
+    pub fn find_file(&mut self, path: &Path) -> Option<usize>
+        ensures file { result ≡ finmap.get self.old path.now }
+        ensures same { self.new ≡ self.old }
     {
-        let (_, file) = self.place_of(folder, place, name)?;
-        Some(file)
+        let number = number_of(path.folder, path.place);
+        if number >= self.directories.len() {
+            return None;
+        }
+        let directory = &mut self.directories[number];
+        directory.find_file(path.name.as_slice())
     }
 
-    /// Where the row of a path may be in its directory, and the number of its file.
-    pub fn place_at(&self, path: &Path) -> Option<(usize, usize)>
-        ensures { option_map (λ r. r.1) result ≡ finmap.get self.now path.now }
-    {
-        self.place_of(path.folder, path.place, path.name.as_slice())
-    }
-
-    /// Takes a path away, and gives the number of its file. Its row is looked for at a position first. It takes no memory.
-    pub fn take(&mut self, path: &Path, near: usize) -> Option<usize>
+    /// Takes a path away, and gives the number of its file. It takes no memory.
+    pub fn take(&mut self, path: &Path) -> Option<usize>
         ensures file { result ≡ finmap.get self.old path.now }
         ensures gone { self.new ≡ finmap.remove self.old path.now }
     {
@@ -118,7 +115,7 @@ impl Tree {
             return None;
         }
         let directory = &mut self.directories[number];
-        directory.take(path.name.as_slice(), near)
+        directory.take(path.name.as_slice())
     }
 
     /// The name at a position of a directory, in order of the names, and the number of its file.
@@ -193,14 +190,13 @@ impl Tree {
         self.directories[number].rows_from(alloc, from, slots)
     }
 
-    /// Gives the file of a path another path, unless that is there: whether it did. The old name's row is looked for at a position first. The
-    /// new name is copied. When out of memory, nothing has changed.
+    /// Gives the file of a path another path, unless that is there: whether it did. The new name is copied. When out of memory, nothing has
+    /// changed.
     pub fn rename_free(
         &mut self,
         alloc: Global,
         old: &Path,
         new: &Path,
-        at: usize,
         file: usize,
     ) -> Result<bool, AllocError>
         ensures free { IfOk result (λ is_done. IsTrue is_done → finmap.get self.old new.now ≡ None) }
@@ -211,13 +207,13 @@ impl Tree {
         let number = number_of(old.folder, old.place);
         if number == number_of(new.folder, new.place) && number < self.directories.len() {
             let directory = &mut self.directories[number];
-            if directory.rename(alloc, old.name.as_slice(), new.name.as_slice(), at, file)? {
+            if directory.rename(alloc, old.name.as_slice(), new.name.as_slice(), file)? {
                 return Ok(true);
             }
         }
         let is_new = self.add(alloc, new, file)?;
         if is_new {
-            let _gone = self.take(old, at);
+            let _gone = self.take(old);
         }
         Ok(is_new)
     }
@@ -235,7 +231,7 @@ impl Tree {
         ensures err { OnErr result (self.new ≡ self.old) }
     {
         self.put(alloc, new, file)?;
-        let _gone = self.take(old, usize::MAX);
+        let _gone = self.take(old);
         Ok(())
     }
 

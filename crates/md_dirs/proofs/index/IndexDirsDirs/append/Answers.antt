@@ -6,18 +6,18 @@ use Rattle.md_dirs.proofs.index.IndexDirsDirs.append.Goals as goal
 pub grow-requires : goal.grow-requires
 grow-requires c =
     let s = c.self.inside in
-    slot-number s.folders s.names (slots_of s.slots) c.self.invariant c.args.path.now c.in-Some.file (sym c.file_at.ensures ∙ c.in-Some.is)
+    slot-number s.folders s.names (slots_of s.slots) c.self.invariant c.args.path.now c.in-Some.file (sym c.find_file.ensures.file ∙ c.in-Some.is)
 
 pub invariant_of-self-2 : goal.invariant_of-self-2
 invariant_of-self-2 c =
     let s = c.self.inside in
-    rw c.in_ok-grow.ensures.ok
-    (counted-grown s.folders s.names (slots_of s.slots) c.self.invariant c.args.path.now c.args.bytes.now c.args.now c.in-Some.file (sym c.file_at.ensures ∙ c.in-Some.is))
+    rw (c.find_file.ensures.same, c.in_ok-grow.ensures.ok)
+    (counted-grown s.folders s.names (slots_of s.slots) c.self.invariant c.args.path.now c.args.bytes.now c.args.now c.in-Some.file (sym c.find_file.ensures.file ∙ c.in-Some.is))
 
 pub returns : goal.returns
 returns c =
     let s = c.self.inside in
     record {
-      meets = rw (← c.self.view_is, c.in_ok-grow.ensures.ok)
-          (append-done s.folders s.names (slots_of s.slots) c.self.invariant c.args.path.now c.args.bytes.now c.args.now c.in-Some.file _ _ (sym c.file_at.ensures ∙ c.in-Some.is) c.raise-2.ensures);
+      meets = rw (← c.self.view_is, c.find_file.ensures.same, c.in_ok-grow.ensures.ok)
+          (append-done s.folders s.names (slots_of s.slots) c.self.invariant c.args.path.now c.args.bytes.now c.args.now c.in-Some.file _ _ (sym c.find_file.ensures.file ∙ c.in-Some.is) c.raise-2.ensures);
     }

@@ -6,16 +6,16 @@ use Rattle.md_dirs.proofs.index.IndexDirsDirs.append_body.Goals as goal
 pub fill-requires : goal.fill-requires
 fill-requires c =
     let s = c.self.inside in
-    slot-number s.folders s.names (slots_of s.slots) c.self.invariant c.args.path.now c.in-Some.file (sym c.file_at.ensures ∙ c.in-Some.is)
+    slot-number s.folders s.names (slots_of s.slots) c.self.invariant c.args.path.now c.in-Some.file (sym c.find_file.ensures.file ∙ c.in-Some.is)
 
 pub invariant_of-self-2 : goal.invariant_of-self-2
 invariant_of-self-2 c =
     let s = c.self.inside in
-    rw c.in_ok-fill.ensures.ok
-    (counted-grown s.folders s.names (slots_of s.slots) c.self.invariant c.args.path.now c.args.body.now c.args.now c.in-Some.file (sym c.file_at.ensures ∙ c.in-Some.is))
+    rw (c.find_file.ensures.same, c.in_ok-fill.ensures.ok)
+    (counted-grown s.folders s.names (slots_of s.slots) c.self.invariant c.args.path.now c.args.body.now c.args.now c.in-Some.file (sym c.find_file.ensures.file ∙ c.in-Some.is))
 
 pub returns-clause-meets : goal.returns-clause-meets
 returns-clause-meets c =
     let s = c.self.inside in
-    rw (← c.self.view_is, c.in_ok-fill.ensures.ok)
-    (append-done s.folders s.names (slots_of s.slots) c.self.invariant c.args.path.now c.args.body.now c.args.now c.in-Some.file _ _ (sym c.file_at.ensures ∙ c.in-Some.is) c.raise-2.ensures)
+    rw (← c.self.view_is, c.find_file.ensures.same, c.in_ok-fill.ensures.ok)
+    (append-done s.folders s.names (slots_of s.slots) c.self.invariant c.args.path.now c.args.body.now c.args.now c.in-Some.file _ _ (sym c.find_file.ensures.file ∙ c.in-Some.is) c.raise-2.ensures)
