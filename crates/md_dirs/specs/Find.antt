@@ -1,6 +1,6 @@
 -- Where the names of one message are in a directory.
 use Rattle.std.specs.Prelude.{ℕ, ◌≡◌, ◌<◌, ◌≤◌, ◌==◌, Bool, true, List, [], ◌∷◌}
-use Rattle.std.specs.Prelude.{if◌then◌else◌, nat_lt, length, slice_index_or, slice_get, Option, Some, None, find as first_with}
+use Rattle.std.specs.Prelude.{if◌then◌else◌, nat_lt, length, slice_index_or, slice_get, Some, None, find as first_with}
 use Rattle.std.specs.Option.{option_and_then}
 use Rattle.md_dirs.specs.Rows.{is_named}
 use Rattle.md_dirs.specs.declared.finding.Edge.{Edge}
@@ -38,10 +38,6 @@ abbrev pub before_colon : List ℕ → Bool
 before_colon [] = true
 before_colon (b ∷ bs) = nat_lt b 58
 
--- the row at a position, if it has the unique name
-abbrev pub row_if : List (List ℕ × ℕ) → List ℕ → ℕ → Option (List ℕ × ℕ)
-row_if rows unique i = option_and_then (λ e. if is_named unique e.0 then Some e else None) (slice_get rows i)
-
--- the first row that has the unique name is at a position, or none is
+-- the row at a position is the first that has the unique name, if it has it, and else none has
 abbrev pub IsFirstPlace : List (List ℕ × ℕ) → List ℕ → ℕ → Type 0
-IsFirstPlace rows unique i = first_with (λ e. is_named unique e.0) rows ≡ row_if rows unique i
+IsFirstPlace rows unique i = first_with (λ e. is_named unique e.0) rows ≡ option_and_then (λ e. if is_named unique e.0 then Some e else None) (slice_get rows i)

@@ -1,5 +1,5 @@
 -- Directories as finite maps: of the names of each directory, and of the paths of all.
-use Rattle.std.specs.Prelude.{ℕ, suc, ◌≡◌, ◌+◌, ◌-◌, ◌<◌, ◌≤◌, length, slice_index_or, ◌*◌, ◌/◌, ◌%◌, List}
+use Rattle.std.specs.Prelude.{ℕ, suc, ◌≡◌, ◌+◌, ◌-◌, ◌<◌, length, slice_index_or, ◌*◌, ◌/◌, ◌%◌, List}
 use Rattle.std.specs.Prelude.{[], ◌∷◌, ◌++◌, map, filter, slice_get, unwrap_or, Option, Some, None, cond, All}
 use Rattle.std.specs.declared.cmp.Ordering.{Ordering}
 use Rattle.std.specs.declared.cmp.Ordering.TheVariants.{Less, Greater}
@@ -49,13 +49,6 @@ pub record Renames (old : List (List ℕ × ℕ)) (i : ℕ) (name : List ℕ) (f
 -- how the row at a position compares with a name
 abbrev pub order_at : List (List ℕ × ℕ) → ℕ → List ℕ → Ordering
 order_at rows i name = name_cmp (slice_index_or rows i ([], 0)).0 name
-
--- a name is above the row before a position and below the row at another: if it is there, it is between the two
-pub record IsBetween (rows : List (List ℕ × ℕ)) (name : List ℕ) (low high : ℕ) : Type 0 where
-  pub ordered : low ≤ high
-  pub within : high ≤ length rows
-  pub below : 0 < low → order_at rows (low - 1) name ≡ Less
-  pub above : high < length rows → order_at rows high name ≡ Greater
 
 -- a name is above the row before a position and below the row after it
 pub record FitsAt (rows : List (List ℕ × ℕ)) (i : ℕ) (name : List ℕ) : Type 0 where

@@ -12,7 +12,7 @@ use std::cmp::Ordering;
 use std::hash::{Hash, Hasher};
 use std::marker::Model;
 
-/// How a key has its bytes.
+/// The bytes of a name, owned or lent.
 #[derive(Drop)]
 pub(crate) enum Held<'a> {
     Owned(Vec<u8>),

@@ -1,4 +1,4 @@
-use Rattle.std.proofs.Common.{◌≡◌, ◌∙◌, ◌<◌, ℕ, sym, ap, length, slice_set, arith}
+use Rattle.std.proofs.Common.{◌∙◌, ◌<◌, sym, ap, length, slice_set, arith}
 use Rattle.md_dirs.specs.Index.{directory_at}
 use Rattle.md_dirs.proofs.Directories.{same-names, read-directory, at-set, beside-set}
 use Rattle.md_dirs.proofs.Sound.{by_number}
