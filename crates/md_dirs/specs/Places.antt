@@ -1,6 +1,5 @@
 -- The places of a block of files.
-use Rattle.std.specs.Prelude.{ℕ, zero, suc, List, [], ◌∷◌, Option, None, Bool, is_none}
-use Rattle.std.specs.List.{list_all}
+use Rattle.std.specs.Prelude.{ℕ, zero, suc, List, [], ◌∷◌, Option, Some, None}
 use Rattle.md_dirs.specs.declared.files.Kept.{Kept}
 
 -- so many places: those of a list first, and behind its end none has a file
@@ -13,6 +12,8 @@ padded (suc n) (slot ∷ slots) = slot ∷ padded n slots
 unfoldable pub places : List (Option Kept) → List (Option Kept)
 places slots = padded 64 slots
 
--- whether each place is of a file that is gone
-abbrev pub all_gone : List (Option Kept) → Bool
-all_gone slots = list_all (λ slot. is_none slot) slots
+-- how many files are there
+abbrev pub there : List (Option Kept) → ℕ
+there [] = 0
+there (None ∷ slots) = there slots
+there (Some kept ∷ slots) = suc (there slots)

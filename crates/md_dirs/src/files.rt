@@ -1,5 +1,5 @@
 // Files by their numbers, each with the number of its names.
-ghost use Rattle.std.specs.Prelude.{◌≡◌, ◌<◌, Some, OnOk, OnErr, MatchOption, IsSome, length};
+ghost use Rattle.std.specs.Prelude.{◌≡◌, ◌<◌, false, Some, None, OnOk, OnErr, MatchOption, IsSome, IsTrue, is_some, length};
 ghost use Rattle.md_dirs.specs.State.{file_by};
 ghost use Rattle.md_dirs.specs.Calls.{is_one_file};
 ghost use Rattle.md_dirs.specs.Rows.{row_shown, row_by};
@@ -34,6 +34,7 @@ pub fn is_same(there: Option<usize>, file: usize) -> bool
 pub fn grow_slot(slot: &mut Option<Kept>, bytes: &[u8], now: u64) -> Result<(), AllocError>
     ensures ok { OnOk result (slot.new ≡ grown_slot bytes.now now slot.old) }
     ensures err { OnErr result (slot.new ≡ slot.old) }
+    ensures kept { is_some slot.new ≡ is_some slot.old }
 {
     if let Some(kept) = slot {
         kept.file.bytes.extend(bytes)?;
@@ -46,6 +47,7 @@ pub fn grow_slot(slot: &mut Option<Kept>, bytes: &[u8], now: u64) -> Result<(), 
 pub fn fill_slot(slot: &mut Option<Kept>, body: &mut Bytes, now: u64) -> Result<(), AllocError>
     ensures ok { OnOk result (slot.new ≡ grown_slot body.old now slot.old) }
     ensures err { OnErr result (slot.new ≡ slot.old) }
+    ensures kept { is_some slot.new ≡ is_some slot.old }
     ensures body { OnErr result (body.new ≡ body.old) }
 {
     if let Some(Kept { file, .. }) = slot {
@@ -59,17 +61,21 @@ pub fn fill_slot(slot: &mut Option<Kept>, body: &mut Bytes, now: u64) -> Result<
     Ok(())
 }
 
-// Counts one name less of a file, and gives it back where that was its last.
-pub fn release_slot(slot: &mut Option<Kept>)
-    ensures { slot.new ≡ named_less slot.old }
+// Counts one name less of a file, and gives it back where that was its last: whether it was.
+pub fn release_slot(slot: &mut Option<Kept>) -> bool
+    ensures less { slot.new ≡ named_less slot.old }
+    ensures gone { IsTrue result → IsSome slot.old × (slot.new ≡ None) }
+    ensures kept { result ≡ false → is_some slot.new ≡ is_some slot.old }
 {
-    if let Some(kept) = slot {
-        if kept.names > 1 {
-            kept.names -= 1;
-        } else {
-            *slot = None;
-        }
+    let Some(kept) = slot else {
+        return false;
+    };
+    if kept.names > 1 {
+        kept.names -= 1;
+        return false;
     }
+    *slot = None;
+    true
 }
 
 // Takes a name from the file of a number.

@@ -1,8 +1,8 @@
 // Files by their numbers, in blocks.
-ghost use Rattle.std.specs.Prelude.{◌≡◌, ◌<◌, Some, OnOk, OnErr, reverse, length, slice_set};
+ghost use Rattle.std.specs.Prelude.{◌≡◌, ◌<◌, ◌++◌, [], ◌∷◌, Some, OnOk, OnErr, length, slice_set, vec_len, vec_capacity};
 ghost use Rattle.std.specs.Option.{option_copied};
 ghost use Rattle.md_dirs.specs.Files.{slot_at, grown_slot, with_names, let_go};
-ghost use Rattle.md_dirs.specs.Places.{all_gone, places};
+ghost use Rattle.md_dirs.specs.Places.{there, places};
 
 use crate::files::{Kept, fill_slot, grow_slot, release_slot};
 use md_name::Bytes;
@@ -10,8 +10,16 @@ use std::alloc::{AllocError, Global};
 use std::mem::replace;
 
 // How many files a block has. Small, so that a few files that stay keep little room for those that are gone; and large, so that
-// the 24 bytes of a block of none are little.
+// the 32 bytes of a block of none are little.
 const BLOCK: usize = 64;
+
+/// Some files side by side, and how many of them are there.
+#[derive(Drop)]
+pub(crate) struct Block {
+    slots: Vec<Option<Kept>>,
+    left: usize,
+    ghost counted: { left ≡ there slots.items },
+}
 
 /// The files by their numbers. No number is used again, so a file that is gone keeps its place; but a block whose files are all
 /// gone is empty, and keeps no room for them.
@@ -20,61 +28,95 @@ const BLOCK: usize = 64;
 #[derive(Drop)]
 pub struct Slots {
     alloc: Global,
-    blocks: Vec<Vec<Option<Kept>>>,
-    tail: Vec<Option<Kept>>,
-    ghost short: { length tail.items < 64 },
+    blocks: Vec<Block>,
+    tail: Block,
+    ghost short: { length tail.slots.items < 64 },
 }
 
-// The file at a place of a block.
-#[inline(always)]
-fn kept_at(block: &[Option<Kept>], at: usize) -> Option<&Kept>
-    ensures { option_copied result ≡ slot_at block.now at }
-{
-    match block.get(at) {
-        Some(Some(kept)) => Some(kept),
-        _ => None,
+impl Block {
+    // No file. It takes no memory.
+    fn new(alloc: Global) -> Self
+        ensures { result.slots.items ≡ [] }
+    {
+        Block {
+            slots: Vec::new(alloc),
+            left: 0,
+        }
     }
-}
 
-// Adds bytes at the end of the file at a place of a block.
-fn grow_at(
-    block: &mut Vec<Option<Kept>>,
-    at: usize,
-    bytes: &[u8],
-    now: u64,
-) -> Result<(), AllocError>
-    ensures ok { OnOk result (block.new.items ≡ slice_set block.old.items at (grown_slot bytes.now now (slot_at block.old.items at))) }
-    ensures err { OnErr result (block.new.items ≡ block.old.items) }
-{
-    if at < block.len() {
-        grow_slot(&mut block[at], bytes, now)?;
+    // The file at a place.
+    #[inline(always)]
+    fn get(&self, at: usize) -> Option<&Kept>
+        ensures { option_copied result ≡ slot_at self.now.slots.items at }
+    {
+        match self.slots.get(at) {
+            Some(Some(kept)) => Some(kept),
+            _ => None,
+        }
     }
-    Ok(())
-}
 
-// Adds all bytes of a body at the end of the file at a place of a block, which may take the body itself.
-fn fill_at(
-    block: &mut Vec<Option<Kept>>,
-    at: usize,
-    body: &mut Bytes,
-    now: u64,
-) -> Result<(), AllocError>
-    ensures ok { OnOk result (block.new.items ≡ slice_set block.old.items at (grown_slot body.old now (slot_at block.old.items at))) }
-    ensures err { OnErr result (block.new.items ≡ block.old.items) }
-    ensures body { OnErr result (body.new ≡ body.old) }
-{
-    if at < block.len() {
-        fill_slot(&mut block[at], body, now)?;
+    // Puts a file behind all, where there is room for it.
+    fn push(&mut self, kept: Kept)
+        requires { vec_len self.old.slots < vec_capacity self.old.slots }
+        ensures { self.new.slots.items ≡ self.old.slots.items ++ Some kept ∷ [] }
+    {
+        self.slots.push_reserved(Some(kept));
+        self.left += 1;
     }
-    Ok(())
-}
 
-// Says how many names the file at a place of a block has.
-fn count_at(block: &mut Vec<Option<Kept>>, at: usize, names: usize)
-    ensures { block.new.items ≡ slice_set block.old.items at (with_names names (slot_at block.old.items at)) }
-{
-    if at < block.len() {
-        count_slot(&mut block[at], names);
+    // Adds bytes at the end of the file at a place.
+    fn grow(&mut self, at: usize, bytes: &[u8], now: u64) -> Result<(), AllocError>
+        ensures ok { OnOk result (self.new.slots.items
+            ≡ slice_set self.old.slots.items at (grown_slot bytes.now now (slot_at self.old.slots.items at))) }
+        ensures err { OnErr result (self.new.slots.items ≡ self.old.slots.items) }
+    {
+        if at < self.slots.len() {
+            grow_slot(&mut self.slots[at], bytes, now)?;
+        }
+        Ok(())
+    }
+
+    // Adds all bytes of a body at the end of the file at a place, which may take the body itself.
+    fn fill(&mut self, at: usize, body: &mut Bytes, now: u64) -> Result<(), AllocError>
+        ensures ok { OnOk result (self.new.slots.items
+            ≡ slice_set self.old.slots.items at (grown_slot body.old now (slot_at self.old.slots.items at))) }
+        ensures err { OnErr result (self.new.slots.items ≡ self.old.slots.items) }
+        ensures body { OnErr result (body.new ≡ body.old) }
+    {
+        if at < self.slots.len() {
+            fill_slot(&mut self.slots[at], body, now)?;
+        }
+        Ok(())
+    }
+
+    // Says how many names the file at a place has.
+    fn set_names(&mut self, at: usize, names: usize)
+        ensures { self.new.slots.items ≡ slice_set self.old.slots.items at (with_names names (slot_at self.old.slots.items at)) }
+    {
+        if at < self.slots.len() {
+            count_slot(&mut self.slots[at], names);
+        }
+    }
+
+    // Counts one name less of the file at a place, and gives it back where that was its last.
+    fn release(&mut self, at: usize)
+        ensures { self.new.slots.items ≡ let_go (Some at) self.old.slots.items }
+    {
+        if at >= self.slots.len() {
+            return;
+        }
+        if release_slot(&mut self.slots[at]) {
+            self.left -= 1;
+        }
+    }
+
+    // Gives the room back where all files are gone.
+    fn shrink(&mut self, alloc: Global)
+        ensures { places self.new.slots.items ≡ places self.old.slots.items }
+    {
+        if self.left == 0 {
+            self.slots = Vec::new(alloc);
+        }
     }
 }
 
@@ -84,31 +126,6 @@ fn count_slot(slot: &mut Option<Kept>, names: usize)
 {
     if let Some(kept) = slot {
         kept.names = names;
-    }
-}
-
-// Counts one name less of the file at a place of a block, and gives it back where that was its last.
-fn release_at(block: &mut Vec<Option<Kept>>, at: usize)
-    ensures { block.new.items ≡ let_go (Some at) block.old.items }
-{
-    if at < block.len() {
-        release_slot(&mut block[at]);
-    }
-}
-
-// Whether all files of a block are gone. It looks from the end, since files mostly go in the order in which they came.
-fn is_gone(block: &[Option<Kept>]) -> bool
-    ensures { result ≡ all_gone (reverse block.now) }
-{
-    block.iter().rev().all(|slot| slot.is_none())
-}
-
-// Gives the room of a block back where all its files are gone.
-fn shrink(block: &mut Vec<Option<Kept>>, alloc: Global)
-    ensures { places block.new.items ≡ places block.old.items }
-{
-    if is_gone(block) {
-        *block = Vec::new(alloc);
     }
 }
 
@@ -125,7 +142,7 @@ impl Slots {
         Slots {
             alloc,
             blocks: Vec::new(alloc),
-            tail: Vec::new(alloc),
+            tail: Block::new(alloc),
         }
     }
 
@@ -137,9 +154,9 @@ impl Slots {
     {
         let block = number / BLOCK;
         if block < self.blocks.len() {
-            kept_at(&self.blocks[block], number % BLOCK)
+            self.blocks[block].get(number % BLOCK)
         } else {
-            kept_at(&self.tail, number % BLOCK)
+            self.tail.get(number % BLOCK)
         }
     }
 
@@ -150,8 +167,8 @@ impl Slots {
         ensures same { slots_of self.new ≡ slots_of self.old }
     {
         let before = self.blocks.len().checked_mul(BLOCK).ok_or(AllocError)?;
-        let number = before.checked_add(self.tail.len()).ok_or(AllocError)?;
-        self.tail.reserve(BLOCK - self.tail.len())?;
+        let number = before.checked_add(self.tail.slots.len()).ok_or(AllocError)?;
+        self.tail.slots.reserve(BLOCK - self.tail.slots.len())?;
         self.blocks.reserve(1)?;
         Ok(number)
     }
@@ -161,9 +178,9 @@ impl Slots {
         requires { HasRoom self.old }
         ensures { slots_of self.new ≡ slots_of self.old ++ Some kept ∷ [] }
     {
-        self.tail.push_reserved(Some(kept));
-        if self.tail.len() == BLOCK {
-            let full = replace(&mut self.tail, Vec::new(self.alloc));
+        self.tail.push(kept);
+        if self.tail.slots.len() == BLOCK {
+            let full = replace(&mut self.tail, Block::new(self.alloc));
             self.blocks.push_reserved(full);
         }
     }
@@ -176,9 +193,9 @@ impl Slots {
     {
         let block = number / BLOCK;
         if block < self.blocks.len() {
-            grow_at(&mut self.blocks[block], number % BLOCK, bytes, now)
+            self.blocks[block].grow(number % BLOCK, bytes, now)
         } else {
-            grow_at(&mut self.tail, number % BLOCK, bytes, now)
+            self.tail.grow(number % BLOCK, bytes, now)
         }
     }
 
@@ -192,9 +209,9 @@ impl Slots {
     {
         let block = number / BLOCK;
         if block < self.blocks.len() {
-            fill_at(&mut self.blocks[block], number % BLOCK, body, now)
+            self.blocks[block].fill(number % BLOCK, body, now)
         } else {
-            fill_at(&mut self.tail, number % BLOCK, body, now)
+            self.tail.fill(number % BLOCK, body, now)
         }
     }
 
@@ -205,9 +222,9 @@ impl Slots {
     {
         let block = number / BLOCK;
         if block < self.blocks.len() {
-            count_at(&mut self.blocks[block], number % BLOCK, names);
+            self.blocks[block].set_names(number % BLOCK, names);
         } else {
-            count_at(&mut self.tail, number % BLOCK, names);
+            self.tail.set_names(number % BLOCK, names);
         }
     }
 
@@ -220,10 +237,10 @@ impl Slots {
         let block = number / BLOCK;
         if block < self.blocks.len() {
             let block = &mut self.blocks[block];
-            release_at(block, number % BLOCK);
-            shrink(block, self.alloc);
+            block.release(number % BLOCK);
+            block.shrink(self.alloc);
         } else {
-            release_at(&mut self.tail, number % BLOCK);
+            self.tail.release(number % BLOCK);
         }
     }
 }

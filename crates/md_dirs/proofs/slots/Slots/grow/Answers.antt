@@ -15,24 +15,24 @@ on_err (Err e) then h = then h
 pub returns-then-block-len-clause-ok : goal.returns-then-block-len-clause-ok
 returns-then-block-len-clause-ok c =
     let s = c.args.self.now in
-    on_ok c.grow_at.result
-    (λ grown. changed-block s.blocks.items s.tail.items c.args.number (grown_slot c.args.bytes.now c.args.now) refl c.index_mut.result.now
-    c.grow_at.new.block (omega (arith, c.if-block-len.true, c.len.ensures, s.blocks.ok.0)) c.index_mut.ensures.value (ap places grown))
-    c.grow_at.ensures.ok
+    on_ok c.grow.result
+    (λ grown. changed-block s.blocks.items s.tail.slots.items c.args.number (grown_slot c.args.bytes.now c.args.now) refl c.index_mut.result.now
+    c.grow.new.self (omega (arith, c.if-block-len.true, c.len.ensures, s.blocks.ok.0)) c.index_mut.ensures.value (ap places grown))
+    c.grow.ensures.ok
 
 pub returns-then-block-len-clause-err : goal.returns-then-block-len-clause-err
 returns-then-block-len-clause-err c =
     let s = c.args.self.now in
-    on_err c.grow_at.result
-    (λ same. ap (λ xs. xs ++ s.tail.items)
-    (kept-block s.blocks.items (c.args.number / 64) c.index_mut.result.now c.grow_at.new.block c.index_mut.ensures.value same))
-    c.grow_at.ensures.err
+    on_err c.grow.result
+    (λ same. ap (λ xs. xs ++ s.tail.slots.items)
+    (kept-block s.blocks.items (c.args.number / 64) c.index_mut.result.now c.grow.new.self c.index_mut.ensures.value same))
+    c.grow.ensures.err
 
 pub returns-else-block-len-clause-ok : goal.returns-else-block-len-clause-ok
 returns-else-block-len-clause-ok c =
     let s = c.args.self.now in
-    on_ok c.grow_at-else-block-len.result
-    (λ grown. changed-tail s.blocks.items s.tail.items c.args.number c.requires s.short
+    on_ok c.grow-else-block-len.result
+    (λ grown. changed-tail s.blocks.items s.tail.slots.items c.args.number c.requires s.short
     (omega (arith, c.if-block-len.false, c.len.ensures, s.blocks.ok.0)) (grown_slot c.args.bytes.now c.args.now)
-    c.grow_at-else-block-len.new.block.items grown)
-    c.grow_at-else-block-len.ensures.ok
+    c.grow-else-block-len.new.self.slots.items grown)
+    c.grow-else-block-len.ensures.ok

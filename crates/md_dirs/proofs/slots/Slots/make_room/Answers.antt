@@ -7,5 +7,5 @@ pub returns-clause-number : goal.returns-clause-number
 returns-clause-number c =
     let s = c.args.self.now in
     let blocks = length-blocks s.blocks.items in
-    let sum = length-append (in_blocks s.blocks.items) s.tail.items in
+    let sum = length-append (in_blocks s.blocks.items) s.tail.slots.items in
     grind (arith, blocks, sum)
