@@ -1,6 +1,7 @@
 -- Sorted by their keys, and by their names where keys are equal, rows are in order of names.
-use Rattle.std.proofs.Common.{ℕ, ◌≡◌, ◌+◌, ◌<◌, List, [], ◌∷◌, Option, Some, None, true, false, map, length, get_or, All, refl, sym, ap, subst, ◌∙◌, arith, true≢false}
-use Rattle.std.proofs.lemmas.List.{get_or-map, length-map}
+use Rattle.std.proofs.Common.{ℕ, zero, suc, ◌≡◌, ◌+◌, ◌<◌, ◌++◌, List, [], ◌∷◌, take, Option, Some, None, Bool, true, false, map, length, get_or, All, refl, sym, ap, subst, ◌∙◌, arith, true≢false}
+use Rattle.std.proofs.lemmas.List.{get_or-map, length-map, map-append, take_more}
+use Rattle.std.proofs.lemmas.List.Elements.{All-append}
 use Rattle.std.proofs.lemmas.List.Sorted.{IsPermutation-map, IsPermutation-sym, All-permutation, Contains-permutation}
 use Rattle.std.proofs.lemmas.Map.Keys.{IsDistinct-IsPermutation}
 use Rattle.std.proofs.lemmas.Map.Views.{Contains-from_lookup, lookup-from_Contains}
@@ -9,36 +10,31 @@ use Rattle.std.specs.declared.cmp.Ordering.TheVariants.{Less, Equal, Greater}
 use Rattle.std.specs.Ordering.{nat_cmp, is_lt, ordering_then}
 use Rattle.std.specs.Cmp.Lexicographic.{bytes_decides, nat_list_eq_equiv}
 use Rattle.std.specs.List.{IsDistinct}
-use Rattle.std.specs.List.Sorted.{IsPermutation, IsSorted}
+use Rattle.std.specs.List.Sorted.{IsPermutation, IsSorted, IsSortedBy}
 use Rattle.std.specs.Map.{keys_of, lookup}
 use Rattle.std.specs.FinMap as finmap
 use Rattle.md_dirs.specs.Index.{name_cmp, rows_at, IsOrderOf}
 use Rattle.md_dirs.specs.Keys.{IsKeyOf}
-use Rattle.md_dirs.specs.Sortable.{Sortable, row_number, row_at, IsSortable, AreSortable}
+use Rattle.md_dirs.specs.Sortable.{Sortable, key_and_name, row_number, row_at, IsSortable, AreSortable}
 use Rattle.md_dirs.proofs.Keyed.{name-of}
 use Rattle.md_dirs.proofs.Keys.{by_keys}
 use Rattle.md_dirs.proofs.NameRows.{Row, same, rising, reordered-loose}
 use Rattle.md_dirs.proofs.Ordered.{listed-itself}
 
--- as tuples are compared
-abbrev pub sortable_cmp : Sortable → Sortable → Ordering
-sortable_cmp x y = ordering_then (ordering_then (nat_cmp x.0 y.0) (name_cmp x.1.now y.1.now)) (nat_cmp x.2 y.2)
+-- the test by which rows are sorted
+abbrev pub is_under : List Row → Sortable → Sortable → Bool
+is_under rows x y = is_lt (name_cmp (key_and_name rows x) (key_and_name rows y))
 
-tie : (b c : Ordering) → is_lt (ordering_then b c) ≡ false → is_lt b ≡ false
-tie Less c h = h
-tie Equal c h = refl
-tie Greater c h = refl
-
-not-below : (x y : Sortable) → IsKeyOf x.0 x.1.now → IsKeyOf y.0 y.1.now → is_lt (sortable_cmp x y) ≡ false → is_lt (name_cmp x.1.now y.1.now) ≡ false
-not-below x y kx ky h = by (nat_cmp x.0 y.0) refl
+not-below : (j k : ℕ) (s t : List ℕ) → IsKeyOf j s → IsKeyOf k t → is_lt (name_cmp (j ∷ s) (k ∷ t)) ≡ false → is_lt (name_cmp s t) ≡ false
+not-below j k s t is is' h = by (nat_cmp j k) refl
   where
-    with-keys : (r : Ordering) → r ≡ nat_cmp x.0 y.0 → is_lt (ordering_then (ordering_then r (name_cmp x.1.now y.1.now)) (nat_cmp x.2 y.2)) ≡ false
-    with-keys r is = ap (λ o. is_lt (ordering_then (ordering_then o (name_cmp x.1.now y.1.now)) (nat_cmp x.2 y.2))) is ∙ h
+    with-keys : (r : Ordering) → r ≡ nat_cmp j k → is_lt (ordering_then r (name_cmp s t)) ≡ false
+    with-keys r same = ap (λ o. is_lt (ordering_then o (name_cmp s t))) same ∙ h
 
-    by : (r : Ordering) → r ≡ nat_cmp x.0 y.0 → is_lt (name_cmp x.1.now y.1.now) ≡ false
-    by Less is = absurd (true≢false (with-keys Less is))
-    by Equal is = tie (name_cmp x.1.now y.1.now) (nat_cmp x.2 y.2) (with-keys Equal is)
-    by Greater is = ap is_lt (by_keys x.0 y.0 x.1.now y.1.now kx ky Greater is (λ e. let clash : Equal ≡ Greater = e ∙ sym is in cc))
+    by : (r : Ordering) → r ≡ nat_cmp j k → is_lt (name_cmp s t) ≡ false
+    by Less same = absurd (true≢false (with-keys Less same))
+    by Equal same = with-keys Equal same
+    by Greater same = ap is_lt (by_keys j k s t is is' Greater same (λ e. let clash : Equal ≡ Greater = e ∙ sym same in cc))
 
 -- a name that rows have is found also where they have changed places
 module _ (es fs : List Row) (moved : IsPermutation es fs) (unique : IsDistinct same (keys_of es)) (unique' : IsDistinct same (keys_of fs)) (q : List ℕ) where
@@ -58,15 +54,26 @@ module _ (es fs : List Row) (moved : IsPermutation es fs) (unique : IsDistinct s
       by None is (Some file) is' = let back = hit fs es (IsPermutation-sym es fs moved) unique file is' in cc
 
 module _ (rows : List Row) where
-  name-at : (y : Sortable) (ys : List Sortable) (k : ℕ) (d : List ℕ) → All (IsSortable rows) ys → k < length ys →
-      get_or (keys_of (map (row_at rows) ys)) k d ≡ (get_or ys k y).1.now
-  name-at y ys k d each h =
+  -- one more row to be sorted
+  pub one-more : (xs : List Sortable) (x : Sortable) → All (IsSortable rows) xs → map (row_at rows) xs ≡ take x.1 rows → IsSortable rows x →
+      All (IsSortable rows) (xs ++ x ∷ []) × (map (row_at rows) (xs ++ x ∷ []) ≡ take (x.1 + 1) rows)
+  one-more xs x each are is = (
+    All-append (IsSortable rows) xs (x ∷ []) each (λ k d h. one k d h),
+    map-append (row_at rows) xs (x ∷ []) ∙ ap (λ es. es ++ row_at rows x ∷ []) are ∙ sym (take_more rows x.1 ([], 0) is.within),
+  )
+    where
+      one : (k : ℕ) (d : Sortable) → k < 1 → IsSortable rows (get_or (x ∷ []) k d)
+      one zero d h = is
+      one (suc k) d h = absurd (omega (arith, h))
+
+  name-at : (y : Sortable) (ys : List Sortable) (k : ℕ) (d : List ℕ) → k < length ys →
+      get_or (keys_of (map (row_at rows) ys)) k d ≡ (row_at rows (get_or ys k y)).0
+  name-at y ys k d h =
       let long : length (map (row_at rows) ys) ≡ length ys = length-map ys (row_at rows) in
       get_or-map name-of (map (row_at rows) ys) k (row_at rows y) d (omega (arith, h, long))
       ∙ ap name-of (get_or-map (row_at rows) ys k y (row_at rows y) h)
-      ∙ (each k y h).name
 
-  sorted-names : (ys : List Sortable) → All (IsSortable rows) ys → IsSorted sortable_cmp ys → IsSorted name_cmp (keys_of (map (row_at rows) ys))
+  sorted-names : (ys : List Sortable) → All (IsSortable rows) ys → IsSortedBy (is_under rows) ys → IsSorted name_cmp (keys_of (map (row_at rows) ys))
   sorted-names [] each sorted k d from within = absurd (omega (arith, within))
   sorted-names (y ∷ ys) each sorted k d from within =
       let long : length (map (row_at rows) (y ∷ ys)) ≡ length (y ∷ ys) = length-map (y ∷ ys) (row_at rows) in
@@ -75,10 +82,10 @@ module _ (rows : List Row) where
       let here : k < length (y ∷ ys) = omega (arith, next) in
       let above = get_or (y ∷ ys) (k + 1) y in
       let below = get_or (y ∷ ys) k y in
-      (λ i. is_lt (name_cmp (name-at y (y ∷ ys) (k + 1) d each next i) (name-at y (y ∷ ys) k d each here i)))
-      ∙ not-below above below (each (k + 1) y next).key (each k y here).key (sorted k y from next)
+      (λ i. is_lt (name_cmp (name-at y (y ∷ ys) (k + 1) d next i) (name-at y (y ∷ ys) k d here i)))
+      ∙ not-below above.0 below.0 (row_at rows above).0 (row_at rows below).0 (each (k + 1) y next).key (each k y here).key (sorted k y from next)
 
-  module _ (xs ys : List Sortable) (sortable : AreSortable rows xs) (moved : IsPermutation xs ys) (sorted : IsSorted sortable_cmp ys)
+  module _ (xs ys : List Sortable) (sortable : AreSortable rows xs) (moved : IsPermutation xs ys) (sorted : IsSortedBy (is_under rows) ys)
       (unique : IsDistinct same (keys_of rows)) where
     abbrev listed : List Row
     listed = map (row_at rows) ys

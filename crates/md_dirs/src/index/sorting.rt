@@ -1,18 +1,19 @@
 // The order of names, by one sort.
-ghost use Rattle.std.specs.Prelude.{◌≡◌, ◌++◌, IfOk, map};
+ghost use Rattle.std.specs.Prelude.{◌≡◌, ◌++◌, [], IfOk, map, slice_index_or};
 ghost use Rattle.std.specs.List.{IsDistinct};
 ghost use Rattle.std.specs.Map.{keys_of};
 ghost use Rattle.std.specs.Str.{bytes_eq};
-ghost use Rattle.md_dirs.specs.Index.{IsOrderOf};
+ghost use Rattle.md_dirs.specs.Index.{name_cmp, IsOrderOf};
 ghost use Rattle.md_dirs.specs.Least.{lent_row};
 ghost use Rattle.md_dirs.specs.Named.{is_alike};
-ghost use Rattle.md_dirs.specs.Sortable.{AreSortable, row_number};
+ghost use Rattle.md_dirs.specs.Sortable.{AreSortable, key_and_name, row_number};
 
 use crate::index::key::key_of;
 use crate::index::named::Named;
 use crate::name_key::NameKey;
 use indexmap::{IndexMap, IndexSet};
 use std::alloc::{AllocError, Global};
+use std::cmp::Ordering;
 
 /// All rows of a directory, lent, in no order: those of its table, and then the others.
 pub fn all_rows<'a>(
@@ -35,41 +36,62 @@ pub fn all_rows<'a>(
     Ok(rows)
 }
 
-// The rows by what they are sorted by: the key of its name, the name where keys are equal, and its position, which comes along.
-fn sortable_rows<'a>(
-    alloc: Global,
-    rows: &[(&'a [u8], usize)],
-) -> Result<Vec<(u128, &'a [u8], usize)>, AllocError>
+// The name of the row at a position.
+fn name_at<'a>(rows: &[(&'a [u8], usize)], at: usize) -> &'a [u8]
+    ensures { result.now ≡ (slice_index_or (map lent_row rows.now) at ([], 0)).0 }
+{
+    match rows.get(at) {
+        Some((name, _)) => *name,
+        None => &[],
+    }
+}
+
+// The rows by what they are sorted by: the key of its name, and its position, by which the name is read where keys are equal.
+fn sortable_rows(alloc: Global, rows: &[(&[u8], usize)]) -> Result<Vec<(u128, usize)>, AllocError>
     ensures { IfOk result (λ made. AreSortable (map lent_row rows.now) made.items) }
 {
     let count = rows.len();
     let mut sortable = Vec::with_capacity(alloc, count)?;
     for at in 0..count {
-        let (name, _) = rows[at];
-        sortable.push((key_of(name), name, at))?;
+        let name = name_at(rows, at);
+        sortable.push((key_of(name), at))?;
     }
     Ok(sortable)
 }
 
 // The positions of sorted rows.
-fn positions_of(alloc: Global, sorted: &[(u128, &[u8], usize)]) -> Result<Vec<usize>, AllocError>
+fn positions_of(alloc: Global, sorted: &[(u128, usize)]) -> Result<Vec<usize>, AllocError>
     ensures { IfOk result (λ order. order.items ≡ map row_number sorted.now) }
 {
     let mut order = Vec::with_capacity(alloc, sorted.len())?;
     for at in 0..sorted.len() {
-        let (_, _, row) = sorted[at];
+        let (_, row) = sorted[at];
         order.push(row)?;
     }
     Ok(order)
 }
 
-/// The positions of rows in order of their names. The rows stay where they are: only keys, addresses and positions are sorted, and a name
-/// is read where keys are equal. It is refused only when out of memory.
+// How two rows compare: by their keys, and where these are equal by their names.
+fn compare(rows: &[(&[u8], usize)], first: &(u128, usize), second: &(u128, usize)) -> Ordering
+    ensures { result ≡ name_cmp (key_and_name (map lent_row rows.now) first.now) (key_and_name (map lent_row rows.now) second.now) }
+{
+    match first.0.cmp(&second.0) {
+        Ordering::Equal => name_at(rows, first.1).cmp(name_at(rows, second.1)),
+        order => order,
+    }
+}
+
+/// The positions of rows in order of their names. The rows stay where they are: only keys and positions are sorted, and a name is read where
+/// keys are equal. It is refused only when out of memory.
 pub fn sorted_order(alloc: Global, rows: &[(&[u8], usize)]) -> Result<Vec<usize>, AllocError>
     requires { IsDistinct bytes_eq (keys_of (map lent_row rows.now)) }
     ensures { IfOk result (λ order. IsOrderOf (map lent_row rows.now) order.items) }
 {
     let mut sortable = sortable_rows(alloc, rows)?;
-    sortable.sort_unstable();
+    sortable.sort_unstable_by(
+        |first: &(u128, usize), second: &(u128, usize)| -> Ordering
+            ensures { result ≡ name_cmp (key_and_name (map lent_row rows.entry.now) first.now) (key_and_name (map lent_row rows.entry.now) second.now) }
+        { compare(rows, first, second) },
+    );
     positions_of(alloc, &sortable)
 }
