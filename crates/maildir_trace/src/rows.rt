@@ -35,18 +35,18 @@ fn push_rows_of<D: Dirs>(
     for at in 0..dirs.count(folder, place) {
         if let Some(row) = dirs.row_at(folder, place, at) {
             match form {
-                Form::File => push_file(log, names, folder, place, row),
-                Form::State => push_state(log, names, folder, place, row),
+                Form::File => push_file(log, names, folder, place, &row),
+                Form::State => push_state(log, names, folder, place, &row),
             }
         }
     }
 }
 
-fn push_file(log: &mut Log, names: &[Vec<u8>], folder: u32, place: Place, row: RowRef<'_>) {
+fn push_file(log: &mut Log, names: &[Vec<u8>], folder: u32, place: Place, row: &RowRef<'_>) {
     log.push(b"file");
-    push_path_of(log, names, folder, place, row.name);
+    push_path_of(log, names, folder, place, row.name());
     log.push(b" ");
-    log.push_seconds(row.stamp);
+    log.push_seconds(row.stamp());
     log.push(b"\n");
 }
 
@@ -55,7 +55,7 @@ pub(crate) fn push_names<D: Dirs>(log: &mut Log, dirs: &D, folder: u32, place: P
     for at in 0..dirs.count(folder, place) {
         if let Some(row) = dirs.row_at(folder, place, at) {
             log.push(b" ");
-            log.push_name(row.name);
+            log.push_name(row.name());
         }
     }
 }
@@ -66,13 +66,13 @@ pub(crate) fn push_states<D: Dirs>(log: &mut Log, names: &[Vec<u8>], dirs: &D) {
     push_rows(log, names, dirs, Form::State);
 }
 
-fn push_state(log: &mut Log, names: &[Vec<u8>], folder: u32, place: Place, row: RowRef<'_>) {
+fn push_state(log: &mut Log, names: &[Vec<u8>], folder: u32, place: Place, row: &RowRef<'_>) {
     log.push(b"# ");
     log.push(place_text(place));
-    push_message(log, names, folder, row.name);
+    push_message(log, names, folder, row.name());
     log.push(b" ");
-    log.push_number(row.stamp);
+    log.push_number(row.stamp());
     log.push(b" ");
-    log.push_number(row.size);
+    log.push_number(row.size());
     log.push(b"\n");
 }

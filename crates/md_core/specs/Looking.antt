@@ -8,7 +8,7 @@ use Rattle.md_dirs.specs.Path.{place_index, path_of}
 use Rattle.md_dirs.specs.State.{State}
 use Rattle.md_dirs.specs.declared.paths.Path.{Path}
 use Rattle.md_dirs.specs.declared.paths.Place.{Place}
-use Rattle.md_dirs.specs.declared.rows.RowRef.{RowRef}
+use Rattle.md_dirs.specs.declared.rows.Row.{Row}
 use Rattle.md_name.specs.Names.{unique_of, is_message_name}
 use Rattle.md_jobs.specs.declared.error.CoreError.{CoreError}
 use Rattle.md_jobs.specs.declared.error.CoreError.TheVariants as core
@@ -27,8 +27,8 @@ abbrev pub is_tmp_of : List ℕ → Path → Bool
 is_tmp_of u p = is_tmp p.place && bytes_eq p.name u
 
 -- the path of a row in some folder: what is looked for in a name doesn't depend on it
-abbrev pub somewhere : Place → RowRef → Path
-somewhere place row = path_of 0 place row.name.now
+abbrev pub somewhere : Place → Row → Path
+somewhere place row = path_of 0 place row.name
 
 -- whether a name of new or cur is that of a message of the unique name
 abbrev pub is_of : List ℕ → List ℕ → Bool

@@ -57,7 +57,7 @@ fn called<D: Dirs>(world: &mut World<D>, call: Call, now: u64) -> Result<Answer,
 
 fn has_name<D: Dirs>(world: &World<D>, place: Place, at: usize, name: &str) -> bool {
     match world.names(0, place, at) {
-        Some(row) => row.name == name.as_bytes() && row.size == BODY.len() as u64,
+        Some(row) => row.name() == name.as_bytes() && row.size() == BODY.len() as u64,
         None => false,
     }
 }

@@ -1,11 +1,12 @@
 -- The least of some rows, as a look at each row finds it, is the first of the rows in order that passes.
-use Rattle.std.proofs.Common.{ℕ, zero, suc, ◌≡◌, ◌+◌, ◌<◌, ◌≤◌, ◌++◌, List, [], ◌∷◌, Option, Some, None, Bool, true, false, cond, T, length, drop, refl, sym, ap, subst, ◌∙◌, arith, get_or, slice_get, nat_eq, ◌&&◌, is_some, not, take, nat_lt, append-nil}
+use Rattle.std.proofs.Common.{ℕ, zero, suc, ◌≡◌, ◌+◌, ◌<◌, ◌≤◌, ◌++◌, List, [], ◌∷◌, Option, Some, None, Bool, true, false, cond, T, length, drop, refl, sym, ap, subst, ◌∙◌, arith, get_or, slice_get, nat_eq, ◌&&◌, is_some, not, take, nat_lt, append-nil, All}
 use Rattle.std.proofs.lemmas.Bool.Decides.{nat_tests}
 use Rattle.std.proofs.lemmas.List.{drop_more}
+use Rattle.std.proofs.lemmas.List.Elements.{All-get_or}
 use Rattle.std.proofs.lemmas.Cmp.{tied_itself}
 use Rattle.std.proofs.lemmas.List.MinMax.{ranks_by}
 use Rattle.std.proofs.lemmas.List.Folds.{find_at}
-use Rattle.std.proofs.lemmas.Option.{cond_some, slice_get_past, slice_get-get_or, get_or_from_slice_get}
+use Rattle.std.proofs.lemmas.Option.{cond_some, slice_get_past, slice_get-get_or, get_or_from_slice_get, slice_get_within}
 use Rattle.std.proofs.lemmas.Bool.{eqb-true, or_parts}
 use Rattle.std.specs.declared.cmp.Ordering.{Ordering}
 use Rattle.std.specs.declared.cmp.Ordering.TheVariants.{Less, Equal, Greater}
@@ -71,6 +72,10 @@ no-row (e ∷ es) is = absurd (omega arith)
 
 pub listed-none : finmap.entries {R = name_cmp} (from_entries {X = ℕ} []) ≡ []
 listed-none = no-row _ (sym (len-entries _) ∙ len-empty name_cmp ℕ)
+
+-- what holds of each row holds of one that was read
+pub all-got : (P : Row → Type 0) (es : List Row) (i : ℕ) (r : Row) → All P es → slice_get es i ≡ Some r → P r
+all-got P es i r all is = subst P (get_or_from_slice_get es i r r is) (All-get_or P es i r (slice_get_within es i r is) all)
 
 -- what is read from the first of two lists
 pub get-ahead : (es fs : List Row) (i : ℕ) (e : Row) → slice_get es i ≡ Some e → slice_get (es ++ fs) i ≡ Some e

@@ -8,11 +8,6 @@ use Rattle.md_dirs.specs.declared.paths.Path.{Path}
 use Rattle.md_dirs.specs.declared.paths.Place.{Place}
 use Rattle.md_dirs.specs.declared.paths.File.{File}
 use Rattle.md_dirs.specs.declared.rows.Row.{Row}
-use Rattle.md_dirs.specs.declared.rows.RowRef.{RowRef}
-
--- a row whose name was lent
-abbrev pub row_shown : RowRef → Row
-row_shown r = record { name = r.name.now; stamp = r.stamp; size = r.size }
 
 -- the row of a name and its file. A name without a file is in no sound state
 abbrev pub row_by : List ℕ → Option File → Row

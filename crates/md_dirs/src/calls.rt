@@ -1,10 +1,10 @@
 // The directory calls and looks.
-ghost use Rattle.std.specs.Prelude.{◌≡◌, ◌+◌, ◌^◌, ◌<◌, IsErrOf, IfOk, OnErr, IfSome, length, map, slice_get};
+ghost use Rattle.std.specs.Prelude.{◌≡◌, ◌+◌, ◌^◌, ◌<◌, IsErrOf, IfOk, OnErr, IfSome, length, slice_get};
 ghost use Rattle.std.specs.Option.{option_map};
 ghost use Rattle.md_dirs.specs.Path.{path_of};
 ghost use Rattle.md_dirs.specs.State.{IsSound, bytes_at_path};
 ghost use Rattle.md_dirs.specs.Calls.{Device, Obeys, create, append, link, rename, unlink, list};
-ghost use Rattle.md_dirs.specs.Rows.{rows_of, row_named, row_shown};
+ghost use Rattle.md_dirs.specs.Rows.{rows_of, row_named};
 ghost use Rattle.md_dirs.specs.Lent.{AreNext};
 ghost use Rattle.md_dirs.specs.declared.calls.DirError.TheVariants.{NoMemory};
 
@@ -119,7 +119,7 @@ pub trait Dirs {
     /// The row at a position, from 0, of a directory in order of the bytes of its names. None past the last, and where
     /// the folder is not there. There is none at the last position that a `usize` counts.
     fn row_at(&self, folder: u32, place: Place, at: usize) -> Option<RowRef<'_>>
-        ensures row { option_map row_shown result ≡ slice_get (rows_of (device self.now).state folder place) at }
+        ensures row { result ≡ slice_get (rows_of (device self.now).state folder place) at }
         ensures few { IfSome result (λ _. at + 1 < 2 ^ 64) };
 
     /// Rows of a directory from a position on, as `row_at` lends them, one after another: at least one, where there is one.
@@ -131,7 +131,7 @@ pub trait Dirs {
         place: Place,
         from: usize,
     ) -> Result<Vec<RowRef<'_>>, AllocError>
-        ensures { IfOk result (λ rows. AreNext (rows_of (device self.now).state folder place) from (map row_shown rows.items)) }
+        ensures { IfOk result (λ rows. AreNext (rows_of (device self.now).state folder place) from rows.items) }
     {
         let mut rows = Vec::new(alloc);
         if let Some(row) = self.row_at(folder, place, from) {
@@ -172,21 +172,21 @@ pub trait Dirs {
     /// Looks for one message of a directory, as `find` does, and lends its row. None where the directory has no such name, and
     /// where the folder is not there. By itself it looks at some rows, twice by halving.
     fn look(&self, folder: u32, place: Place, unique: &[u8]) -> Option<RowRef<'_>>
-        ensures { option_map row_shown result ≡ row_named unique.now (rows_of (device self.now).state folder place) }
+        ensures { result ≡ row_named unique.now (rows_of (device self.now).state folder place) }
     {
         let count = self.count(folder, place);
         let mut low = 0;
         let mut high = count;
         while low < high {
             let middle = low + (high - low) / 2;
-            if is_below(self.row_at(folder, place, middle)?.name, unique) {
+            if is_below(self.row_at(folder, place, middle)?.name(), unique) {
                 low = middle + 1;
             } else {
                 high = middle;
             }
         }
         if let Some(row) = self.row_at(folder, place, low) {
-            if is_named(row.name, unique) {
+            if is_named(row.name(), unique) {
                 return Some(row);
             }
         }
@@ -194,14 +194,14 @@ pub trait Dirs {
         let mut end = count;
         while from < end {
             let middle = from + (end - from) / 2;
-            if is_below_info(self.row_at(folder, place, middle)?.name, unique) {
+            if is_below_info(self.row_at(folder, place, middle)?.name(), unique) {
                 from = middle + 1;
             } else {
                 end = middle;
             }
         }
         let row = self.row_at(folder, place, from)?;
-        if is_named(row.name, unique) {
+        if is_named(row.name(), unique) {
             Some(row)
         } else {
             None

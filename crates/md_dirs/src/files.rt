@@ -1,15 +1,16 @@
 // Files by their numbers, each with the number of its names.
 ghost use Rattle.std.specs.Prelude.{◌≡◌, ◌<◌, false, Some, None, OnOk, OnErr, MatchOption, IsSome, IsTrue, is_some, length};
+ghost use Rattle.md_name.specs.Names.{unique_of};
 ghost use Rattle.md_dirs.specs.State.{file_by};
 ghost use Rattle.md_dirs.specs.Calls.{is_one_file};
-ghost use Rattle.md_dirs.specs.Rows.{row_shown, row_by};
+ghost use Rattle.md_dirs.specs.Rows.{row_by};
 ghost use Rattle.md_dirs.specs.Files.{files_of, grown_slot, named_less, let_go};
 ghost use Rattle.md_dirs.specs.Slots.{slots_of};
 
 use crate::paths::File;
 use crate::rows::RowRef;
 use crate::slots::Slots;
-use md_name::Bytes;
+use md_name::{Bytes, unique_part};
 use std::alloc::AllocError;
 use std::mem::swap;
 
@@ -91,14 +92,20 @@ pub fn release_one(slots: &mut Slots, file: Option<usize>)
 // What a directory shows of a name and its file.
 pub fn shown_row<'a>(slots: &'a Slots, name: &'a [u8], file: usize) -> RowRef<'a>
     requires { IsSome (file_by (files_of (slots_of slots.now)) file) }
-    ensures { row_shown result ≡ row_by name.now (file_by (files_of (slots_of slots.now)) file) }
+    ensures { result ≡ row_by name.now (file_by (files_of (slots_of slots.now)) file) }
+{
+    known_row(slots, name, unique_part(name).len(), file)
+}
+
+// The same where it is known how many bytes the unique part of the name has.
+#[inline(always)]
+pub fn known_row<'a>(slots: &'a Slots, name: &'a [u8], unique: usize, file: usize) -> RowRef<'a>
+    requires unique { unique ≡ length (unique_of name.now) }
+    requires file { IsSome (file_by (files_of (slots_of slots.now)) file) }
+    ensures { result ≡ row_by name.now (file_by (files_of (slots_of slots.now)) file) }
 {
     let Some(kept) = slots.get(file) else {
         unreachable!();
     };
-    RowRef {
-        name,
-        stamp: kept.file.stamp,
-        size: kept.file.bytes.len() as u64,
-    }
+    RowRef::known(name, unique, kept.file.stamp, kept.file.bytes.len() as u64)
 }

@@ -9,7 +9,7 @@ mod tree;
 use crate::calls::{DirError, Dirs};
 use crate::changes::{Paths, add_file, add_name};
 use crate::count::Count;
-use crate::files::{Kept, is_same, release_one, shown_row};
+use crate::files::{Kept, is_same, release_one};
 use crate::image::ImageFile;
 use crate::paths::{File, Path, Place};
 use crate::rows::{Row, RowRef, copied_row};
@@ -234,8 +234,7 @@ impl Dirs for IndexDirs {
     // A world that begins asks this for each name.
     #[inline(always)]
     fn row_at(&self, folder: u32, place: Place, at: usize) -> Option<RowRef<'_>> {
-        let (name, file) = self.names.row_at(folder, place, at)?;
-        Some(shown_row(&self.slots, name, file))
+        self.names.row_at(folder, place, at, &self.slots)
     }
 
     // A few rows of a directory that is in order, and all that are left of one that is not.
@@ -255,8 +254,7 @@ impl Dirs for IndexDirs {
     }
 
     fn look(&self, folder: u32, place: Place, unique: &[u8]) -> Option<RowRef<'_>> {
-        let (name, file) = self.names.find(folder, place, unique)?;
-        Some(shown_row(&self.slots, name, file))
+        self.names.look(folder, place, unique, &self.slots)
     }
 
     fn read(&self, folder: u32, place: Place, name: &[u8]) -> Option<&[u8]> {

@@ -1,11 +1,12 @@
 // What a directory shows of a name.
-ghost use Rattle.std.specs.Prelude.{◌≡◌, IfOk, nat_lt};
-ghost use Rattle.std.specs.Option.{option_map};
+ghost use Rattle.std.specs.Prelude.{◌≡◌, IfOk, length, nat_lt};
+ghost use Rattle.md_name.specs.Names.{unique_of};
 ghost use Rattle.md_dirs.specs.Find.{zone, before_colon};
-ghost use Rattle.md_dirs.specs.Rows.{row_shown, row_named, ends_unique, is_named as is_named_by};
+ghost use Rattle.md_dirs.specs.Rows.{row_named, ends_unique, is_named as is_named_by};
 
-use md_name::Bytes;
+use md_name::{Bytes, unique_part};
 use std::alloc::{AllocError, Global};
+use std::marker::Model;
 
 /// A name of a directory, with the stamp of its file in seconds and its size in bytes.
 #[derive(Debug, Drop)]
@@ -15,12 +16,26 @@ pub struct Row {
     pub size: u64,
 }
 
-/// A row of a directory, its name lent.
-#[derive(Clone, Copy, Debug)]
+/// A row of a directory whose name is lent, and how long the unique part of that is. Contracts see it as a row.
+#[derive(Clone, Debug, Drop)]
 pub struct RowRef<'a> {
-    pub name: &'a [u8],
-    pub stamp: u64,
-    pub size: u64,
+    name: &'a [u8],
+    // How many bytes the unique part of the name has.
+    unique: usize,
+    stamp: u64,
+    size: u64,
+}
+
+impl<'a> Model for RowRef<'a> {
+    ghost use Rattle.std.specs.Prelude.{◌≡◌, length};
+    ghost use Rattle.md_name.specs.Names.{unique_of};
+    ghost use Rattle.md_dirs.specs.declared.rows.Row.{Row};
+
+    ghost Value = { Row };
+
+    ghost view = { λ r. record { name = r.name.now; stamp = r.stamp; size = r.size } };
+
+    ghost invariant = { λ r. r.unique ≡ length (unique_of r.name.now) };
 }
 
 impl Row {
@@ -36,10 +51,63 @@ impl Row {
     }
 }
 
-impl RowRef<'_> {
+impl<'a> RowRef<'a> {
+    /// A row whose name is lent, with a stamp in seconds and a size in bytes. The name is read up to its first colon.
+    pub fn new(name: &'a [u8], stamp: u64, size: u64) -> Self
+        ensures { result ≡ record { name = name.now; stamp = stamp; size = size } }
+    {
+        RowRef::known(name, unique_part(name).len(), stamp, size)
+    }
+
+    /// The same where it is known how many bytes the unique part of the name has: no byte is looked at.
+    #[inline(always)]
+    pub(crate) fn known(name: &'a [u8], unique: usize, stamp: u64, size: u64) -> Self
+        requires { unique ≡ length (unique_of name.now) }
+        ensures { result ≡ record { name = name.now; stamp = stamp; size = size } }
+    {
+        RowRef {
+            name,
+            unique,
+            stamp,
+            size,
+        }
+    }
+
+    /// The whole name.
+    #[inline(always)]
+    pub fn name(&self) -> &'a [u8]
+        ensures { result.now ≡ self.now.name }
+    {
+        self.name
+    }
+
+    /// The unique part of the name: all before its first colon, or all of it. No byte is looked at.
+    #[inline(always)]
+    pub fn unique(&self) -> &'a [u8]
+        ensures { result.now ≡ unique_of self.now.name }
+    {
+        &self.name[..self.unique]
+    }
+
+    /// The stamp of the file in seconds.
+    #[inline(always)]
+    pub fn stamp(&self) -> u64
+        ensures { result ≡ self.now.stamp }
+    {
+        self.stamp
+    }
+
+    /// The size of the file in bytes.
+    #[inline(always)]
+    pub fn size(&self) -> u64
+        ensures { result ≡ self.now.size }
+    {
+        self.size
+    }
+
     /// A copy of this row. It is refused only when out of memory.
-    pub fn copied(self, alloc: Global) -> Result<Row, AllocError>
-        ensures { IfOk result (λ row. row ≡ row_shown self.entry) }
+    pub fn copied(&self, alloc: Global) -> Result<Row, AllocError>
+        ensures { IfOk result (λ row. row ≡ self.now) }
     {
         Ok(Row {
             name: Bytes::copied(alloc, self.name)?,
@@ -51,7 +119,7 @@ impl RowRef<'_> {
 
 // A copy of a row, if there is one. It is refused only when out of memory.
 pub fn copied_row(alloc: Global, row: Option<RowRef<'_>>) -> Result<Option<Row>, AllocError>
-    ensures { IfOk result (λ copy. copy ≡ option_map row_shown row.entry) }
+    ensures { IfOk result (λ copy. copy ≡ row.entry) }
 {
     let Some(row) = row else {
         return Ok(None);

@@ -153,7 +153,7 @@ fn name(
     // Where memory is refused to this, the name is the same, later.
     let _arranged = held.world.arrange_directory(folder, place);
     match held.world.names(folder, place, at as usize) {
-        Some(row) => lay(row.name, out, length),
+        Some(row) => lay(row.name(), out, length),
         None => Err(Refusal::NotThere),
     }
 }

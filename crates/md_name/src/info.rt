@@ -1,7 +1,7 @@
 //! The info of a message, and the name that it is in.
 ghost use Rattle.std.specs.Prelude.{◌≡◌, ◌<◌, length, position, option_map, IfSome, MatchResult};
 ghost use Rattle.md_name.specs.declared.error.NameError.TheVariants.{NoMemory};
-ghost use Rattle.md_name.specs.Names.{is_colon, unique_of, info_of, info_by, flags_of, split_of, flagged};
+ghost use Rattle.md_name.specs.Names.{is_colon, unique_of, info_of, info_by, flags_of, is_message_name, split_of, flagged};
 
 use crate::error::NameError;
 use crate::flags::Flags;
@@ -42,28 +42,23 @@ impl Info {
 ///
 /// The unique part is all before the first colon, the info all after it. A name that begins with a dot,
 /// or whose unique part is empty, is no message's: `None`.
-#[tactic(auto, unfolding(crate::specs::Names::is_message_name))]
 pub fn split(name: &[u8]) -> Option<(&[u8], Info)>
     ensures { option_map (λ parts. (parts.0.now, parts.1)) result ≡ split_of name.now }
 {
     let (unique, info) = parts(name);
-    if unique.is_empty() || name.starts_with(b".") {
+    if !is_message(name, unique) {
         return None;
     }
     Some((unique, info))
 }
 
-/// The unique part of a message's name, where nobody asks for the info: the first part of what `split`
-/// gives.
+/// Whether a name is a message's, from its unique part: no colon is looked for.
 #[tactic(auto, unfolding(crate::specs::Names::is_message_name))]
-pub fn message_unique(name: &[u8]) -> Option<&[u8]>
-    ensures { option_map (λ unique. unique.now) result ≡ option_map (λ parts. parts.0) (split_of name.now) }
+pub fn is_message(name: &[u8], unique: &[u8]) -> bool
+    requires { unique.now ≡ unique_of name.now }
+    ensures { result ≡ is_message_name name.now }
 {
-    let unique = unique_part(name);
-    if unique.is_empty() || name.starts_with(b".") {
-        return None;
-    }
-    Some(unique)
+    !unique.is_empty() && !name.starts_with(b".")
 }
 
 /// The unique part of any name: what stands before the first colon, or all of a name without one.

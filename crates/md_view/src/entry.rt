@@ -1,11 +1,10 @@
 // What a listing shows of a message.
 ghost use Rattle.std.specs.Prelude.{◌≡◌, ◌<◌, IfOk, IfSome, length, position, true};
-ghost use Rattle.md_dirs.specs.Rows.{row_shown};
 ghost use Rattle.md_name.specs.Names.{is_colon, unique_of};
 ghost use Rattle.md_view.specs.Rows.{entry_of_row};
 
 use md_dirs::{Place, RowRef};
-use md_name::{Bytes, colon_after, first_colon, message_unique};
+use md_name::{Bytes, colon_after, first_colon, is_message};
 use std::alloc::{AllocError, Global};
 use std::marker::Model;
 
@@ -169,16 +168,19 @@ impl<'a> EntryRef<'a> {
     }
 
     // The entry of a row of a directory, if it is a message's.
-    #[tactic(auto, using(crate::proofs::Parts::entry_by, crate::proofs::Parts::own_unique))]
-    pub(crate) fn of_row(place: Place, row: RowRef<'a>) -> Option<EntryRef<'a>>
-        ensures { result ≡ entry_of_row place (row_shown row.entry) }
+    #[tactic(auto, using(crate::proofs::Parts::entry_by, crate::proofs::Parts::no_entry))]
+    pub(crate) fn of_row(place: Place, row: &RowRef<'a>) -> Option<EntryRef<'a>>
+        ensures { result ≡ entry_of_row place row.now }
     {
-        let unique = message_unique(row.name)?;
+        let unique = row.unique();
+        if !is_message(row.name(), unique) {
+            return None;
+        }
         Some(EntryRef {
             unique,
             place,
-            name: row.name,
-            size: row.size,
+            name: row.name(),
+            size: row.size(),
             is_own: true,
         })
     }

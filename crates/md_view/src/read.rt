@@ -1,6 +1,6 @@
 // One directory of a folder, as a listing shows it.
-ghost use Rattle.std.specs.Prelude.{◌≡◌, ◌<◌, ◌++◌, IsTrue, IfOk, IfErr, OnOk, map};
-ghost use Rattle.md_dirs.specs.Rows.{rows_of, row_shown};
+ghost use Rattle.std.specs.Prelude.{◌≡◌, ◌<◌, ◌++◌, IsTrue, IfOk, IfErr, OnOk};
+ghost use Rattle.md_dirs.specs.Rows.{rows_of};
 ghost use Rattle.md_core.specs.History.{names_of};
 ghost use Rattle.md_core.specs.Mailbox.{mailbox_of, is_tmp as is_tmp_place};
 ghost use Rattle.md_core.specs.Runs.{dirs_of};
@@ -98,14 +98,14 @@ fn push_rows<'a>(
     rows: &[RowRef<'a>],
     were_in_order: bool,
 ) -> Result<bool, AllocError>
-    ensures entries { OnOk result (all.new.items ≡ all.old.items ++ entries_of place (map row_shown rows.now)) }
+    ensures entries { OnOk result (all.new.items ≡ all.old.items ++ entries_of place rows.now) }
     ensures order { IfOk result (λ are_in_order.
         IsTrue are_in_order → (IsTrue were_in_order → IsInOrder all.old.items) → IsInOrder all.new.items) }
 {
     all.reserve(rows.len())?;
     let mut is_in_order = were_in_order;
     for row in rows {
-        if let Some(entry) = EntryRef::of_row(place, *row) {
+        if let Some(entry) = EntryRef::of_row(place, row) {
             is_in_order = is_in_order && is_behind(all, &entry);
             all.push_reserved(entry);
         }

@@ -13,7 +13,7 @@ ghost use Rattle.md_core.specs.Used.{is_among};
 use crate::used::{NameSet, UsedNames};
 use md_dirs::{Dirs, Place, RowRef};
 use md_jobs::CoreError;
-use md_name::{holds_terminator, split};
+use md_name::{holds_terminator, is_message};
 use std::alloc::{AllocError, Global};
 
 /// The longest file name of the usual systems, in bytes.
@@ -65,35 +65,36 @@ impl Seen {
     }
 
     // Looks at one more name, and refuses it where it has a fault.
-    fn add(&mut self, place: Place, row: RowRef<'_>) -> Result<(), CoreError>
-        ensures fault { let fault = fault_after self.old.messages (somewhere place row.entry) in MatchResult result (λ _. fault ≡ None) (IsFault fault) }
+    fn add(&mut self, place: Place, row: &RowRef<'_>) -> Result<(), CoreError>
+        ensures fault { let fault = fault_after self.old.messages (somewhere place row.now) in MatchResult result (λ _. fault ≡ None) (IsFault fault) }
         ensures messages { OnOk result ((u : _) →
-            is_among u self.new.messages ≡ (is_message_of u (somewhere place row.entry) || is_among u self.old.messages)) }
-        ensures tmp { OnOk result ((u : _) → is_among u self.new.tmp ≡ (is_tmp_of u (somewhere place row.entry) || is_among u self.old.tmp)) }
-        ensures clock { OnOk result (self.new.clock ≡ max self.old.clock row.entry.stamp) }
+            is_among u self.new.messages ≡ (is_message_of u (somewhere place row.now) || is_among u self.old.messages)) }
+        ensures tmp { OnOk result ((u : _) → is_among u self.new.tmp ≡ (is_tmp_of u (somewhere place row.now) || is_among u self.old.tmp)) }
+        ensures clock { OnOk result (self.new.clock ≡ max self.old.clock row.now.stamp) }
     {
-        if is_bad(row.name) {
+        if is_bad(row.name()) {
             return Err(CoreError::BadName);
         }
         match place {
             Place::Tmp => {
-                self.tmp.insert(row.name)?;
+                self.tmp.insert(row.name())?;
             }
-            Place::New | Place::Cur => self.add_message(row.name)?,
+            Place::New | Place::Cur => self.add_message(row)?,
         }
-        self.clock = self.clock.max(row.stamp);
+        self.clock = self.clock.max(row.stamp());
         Ok(())
     }
 
     // Adds the unique name of a message, where the name is a message's.
-    fn add_message(&mut self, name: &[u8]) -> Result<(), CoreError>
-        ensures fault { MatchResult result (λ _. message_fault self.old.messages name.now ≡ None) (IsFault (message_fault self.old.messages name.now)) }
-        ensures messages { OnOk result ((u : _) → is_among u self.new.messages ≡ (is_of u name.now || is_among u self.old.messages)) }
+    fn add_message(&mut self, row: &RowRef<'_>) -> Result<(), CoreError>
+        ensures fault { let fault = message_fault self.old.messages row.now.name in MatchResult result (λ _. fault ≡ None) (IsFault fault) }
+        ensures messages { OnOk result ((u : _) → is_among u self.new.messages ≡ (is_of u row.now.name || is_among u self.old.messages)) }
         ensures same { (self.new.tmp ≡ self.old.tmp) × (self.new.clock ≡ self.old.clock) }
     {
-        let Some((unique, _)) = split(name) else {
+        let unique = row.unique();
+        if !is_message(row.name(), unique) {
             return Ok(());
-        };
+        }
         if unique.len() > MOST_UNIQUE_BYTES {
             return Err(CoreError::LongUnique);
         }
@@ -137,7 +138,7 @@ fn look_in<D: Dirs>(
             return Ok(());
         }
         for row in 0..rows.len() {
-            seen.add(place, rows[row])?;
+            seen.add(place, &rows[row])?;
         }
         // No memory holds more names than can be counted.
         at = at.checked_add(rows.len()).ok_or(CoreError::NoMemory)?;

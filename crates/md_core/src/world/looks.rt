@@ -1,6 +1,6 @@
 //! What a world shows. These take no memory, but for `names_from`.
-ghost use Rattle.std.specs.Prelude.{◌≡◌, IfOk, length, map, slice_get, option_map};
-ghost use Rattle.md_dirs.specs.Rows.{rows_of, row_shown};
+ghost use Rattle.std.specs.Prelude.{◌≡◌, IfOk, length, slice_get, option_map};
+ghost use Rattle.md_dirs.specs.Rows.{rows_of};
 ghost use Rattle.md_dirs.specs.Lent.{AreNext};
 ghost use Rattle.std.specs.FinMap as finmap;
 ghost use Rattle.md_dirs.specs.State.{IsSound};
@@ -31,8 +31,7 @@ impl<D: Dirs> World<D> {
 
     /// The row at a position of the ordered names of a directory, from 0. None past the last, and where the folder is not there.
     pub fn names(&self, folder: u32, place: Place, at: usize) -> Option<RowRef<'_>>
-        ensures { option_map (λ r. record { name = r.name.now; stamp = r.stamp; size = r.size }) result
-            ≡ slice_get (rows_of (dirs_of self.now) folder place) at }
+        ensures { result ≡ slice_get (rows_of (dirs_of self.now) folder place) at }
     {
         self.dirs.row_at(folder, place, at)
     }
@@ -46,7 +45,7 @@ impl<D: Dirs> World<D> {
         place: Place,
         from: usize,
     ) -> Result<Vec<RowRef<'_>>, AllocError>
-        ensures { IfOk result (λ rows. AreNext (rows_of (dirs_of self.now) folder place) from (map row_shown rows.items)) }
+        ensures { IfOk result (λ rows. AreNext (rows_of (dirs_of self.now) folder place) from rows.items) }
     {
         self.dirs.rows_from(alloc, folder, place, from)
     }

@@ -51,5 +51,5 @@ fn bytes_in<'a, D: Dirs>(dirs: &'a D, folder: u32, place: Place, unique: &[u8]) 
         ≡ option_map (λ (e : Entry). e.bytes) (entry_if (is_in_place place folder) (finmap.get (mailbox_of (D.device dirs.now).state) unique.now)) }
 {
     let row = dirs.look(folder, place, unique)?;
-    dirs.read(folder, place, row.name)
+    dirs.read(folder, place, row.name())
 }

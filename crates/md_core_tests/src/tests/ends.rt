@@ -43,7 +43,7 @@ fn settled(world: Failing) -> Result<Failing, CoreError> {
 // The stamp of the second file of new.
 fn stamp(world: &Failing) -> Option<u64> {
     match world.names(0, Place::New, 1) {
-        Some(row) => Some(row.stamp),
+        Some(row) => Some(row.stamp()),
         None => None,
     }
 }

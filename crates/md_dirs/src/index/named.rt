@@ -1,14 +1,20 @@
 // A name with the number of its file, as the table of a directory has it.
-ghost use Rattle.std.specs.Prelude.{◌≡◌, ◌∷◌, [], List, ℕ};
+ghost use Rattle.std.specs.Prelude.{◌≡◌, ◌∷◌, [], IsSome, List, ℕ};
 ghost use Rattle.std.specs.Cmp.{partial_equiv_from_equiv};
 ghost use Rattle.std.specs.Cmp.Lexicographic.{bytes_decides};
 ghost use Rattle.std.specs.Str.{bytes_eq};
 ghost use Rattle.std.proofs.Common.{ap};
 ghost use Rattle.std.specs.List.{list_any};
 ghost use Rattle.md_name.specs.Names.{unique_of, is_colon};
+ghost use Rattle.md_dirs.specs.State.{file_by};
+ghost use Rattle.md_dirs.specs.Files.{files_of, name_row};
+ghost use Rattle.md_dirs.specs.Slots.{slots_of};
 ghost use Rattle.md_dirs.specs.Named.{Row, is_alike, alike_equiv};
 
+use crate::files::known_row;
 use crate::name_key::{Held, NameKey};
+use crate::rows::RowRef;
+use crate::slots::Slots;
 use md_name::unique_part;
 use std::hash::{Hash, Hasher};
 use std::marker::Model;
@@ -110,6 +116,15 @@ impl<'a> Named<'a> {
         ensures { (result.0.now, result.1) ≡ self.now }
     {
         (self.name(), self.file)
+    }
+
+    /// What a directory shows of the name and its file. No byte of the name is looked at.
+    #[inline(always)]
+    pub fn shown<'b>(&'b self, slots: &'b Slots) -> RowRef<'b>
+        requires { IsSome (file_by (files_of (slots_of slots.now)) self.now.1) }
+        ensures { result ≡ name_row (files_of (slots_of slots.now)) self.now }
+    {
+        known_row(slots, self.name(), self.unique, self.file)
     }
 }
 

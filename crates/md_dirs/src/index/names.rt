@@ -8,7 +8,7 @@ ghost use Rattle.std.specs.FinMap as finmap;
 ghost use Rattle.md_dirs.specs.State.{file_by};
 ghost use Rattle.md_dirs.specs.Files.{files_of, name_row};
 ghost use Rattle.md_dirs.specs.Slots.{slots_of};
-ghost use Rattle.md_dirs.specs.Rows.{is_named, row_shown};
+ghost use Rattle.md_dirs.specs.Rows.{is_named};
 ghost use Rattle.md_dirs.specs.Lent.{AreNext};
 ghost use Rattle.md_dirs.specs.Least.{lent_row};
 ghost use Rattle.md_dirs.specs.Named.{is_alike, GoesLast};
@@ -271,13 +271,13 @@ fn lent_rows<'a>(
 ) -> Result<Vec<RowRef<'a>>, AllocError>
     requires within { All (λ i. i < length table.now.keys) positions.now }
     requires filed { All (λ e. IsSome (file_by (files_of (slots_of slots.now)) e.1)) (rows_at table.now.keys positions.now) }
-    ensures { IfOk result (λ lent. map row_shown lent.items
+    ensures { IfOk result (λ lent. lent.items
         ≡ map (name_row (files_of (slots_of slots.now))) (rows_at table.now.keys positions.now)) }
 {
     let mut lent = Vec::with_capacity(alloc, positions.len())?;
     for at in positions {
-        let (name, file) = table.get_index(*at).unwrap().row();
-        lent.push(shown_row(slots, name, file))?;
+        let row = table.get_index(*at).unwrap();
+        lent.push(row.shown(slots))?;
     }
     Ok(lent)
 }
@@ -300,7 +300,7 @@ fn sorted_rows<'a>(
     requires distinct { IsDistinct bytes_eq (keys_of (map lent_row rows.now)) }
     requires filed { All (λ e. IsSome (file_by (files_of (slots_of slots.now)) e.1))
         (finmap.entries {R = name_cmp} (finmap.from_entries (map lent_row rows.now))) }
-    ensures { IfOk result (λ lent. map row_shown lent.items
+    ensures { IfOk result (λ lent. lent.items
         ≡ drop from (map (name_row (files_of (slots_of slots.now))) (finmap.entries {R = name_cmp} (finmap.from_entries (map lent_row rows.now))))) }
 {
     let order = sorted_order(alloc, rows)?;
@@ -315,7 +315,7 @@ fn sorted_rows<'a>(
 
 // Adds copies of rows behind those that are there.
 fn push_copies(shown: &mut Vec<Row>, alloc: Global, rows: &[RowRef<'_>]) -> Result<(), AllocError>
-    ensures { OnOk result (shown.new.items ≡ shown.old.items ++ map row_shown rows.now) }
+    ensures { OnOk result (shown.new.items ≡ shown.old.items ++ rows.now) }
 {
     for row in rows {
         shown.push(row.copied(alloc)?)?;
@@ -461,17 +461,19 @@ impl Names {
         )
     }
 
-    /// The first name that is a unique name, or a unique name, a colon and more (maildir(5)), and the number of its file: by hash, unless some
-    /// names stand beside the table.
-    pub fn find(&self, unique: &[u8]) -> Option<(&[u8], usize)>
-        ensures { option_map lent_row result ≡ first_with (λ e. is_named unique.now e.0) (finmap.entries self.now) }
+    /// The row of the first name that is a unique name, or a unique name, a colon and more (maildir(5)), lent: by hash, unless some names
+    /// stand beside the table.
+    pub fn look<'a>(&'a self, unique: &[u8], slots: &'a Slots) -> Option<RowRef<'a>>
+        requires { All (λ e. IsSome (file_by (files_of (slots_of slots.now)) e.1)) (finmap.entries self.now) }
+        ensures { result ≡ option_map (name_row (files_of (slots_of slots.now))) (first_with (λ e. is_named unique.now e.0) (finmap.entries self.now)) }
     {
         let key = Named::lent(unique);
         if key.has_info() || !self.others.is_empty() {
-            return least(&self.table, &self.others, Wanted::Named(unique));
+            let (name, file) = least(&self.table, &self.others, Wanted::Named(unique))?;
+            return Some(shown_row(slots, name, file));
         }
         let at = self.table.get_index_of(&key)?;
-        Some(self.table.as_slice()[at].row())
+        Some(self.table.as_slice()[at].shown(slots))
     }
 
     /// How many names there are.
@@ -493,18 +495,21 @@ impl Names {
         Ok(())
     }
 
-    /// The row at a position in order of the names. Where the order is not made, each name is looked at for each position up to that.
-    pub fn row_at(&self, at: usize) -> Option<(&[u8], usize)>
-        ensures row { option_map lent_row result ≡ slice_get (finmap.entries self.now) at }
+    /// The row at a position in order of the names, lent. Where the order is not made, each name is looked at for each position up to that.
+    pub fn row_at<'a>(&'a self, at: usize, slots: &'a Slots) -> Option<RowRef<'a>>
+        requires { All (λ e. IsSome (file_by (files_of (slots_of slots.now)) e.1)) (finmap.entries self.now) }
+        ensures row { result ≡ option_map (name_row (files_of (slots_of slots.now))) (slice_get (finmap.entries self.now) at) }
         ensures few { IfSome result (λ _. at + 1 < 2 ^ 64) }
     {
         if at >= self.count() {
             return None;
         }
         if is_arranged(&self.table, &self.others, &self.order) {
-            return Some(self.table.get_index(self.order[at]).unwrap().row());
+            let row = self.table.get_index(self.order[at]).unwrap();
+            return Some(row.shown(slots));
         }
-        nth(&self.table, &self.others, at)
+        let (name, file) = nth(&self.table, &self.others, at)?;
+        Some(shown_row(slots, name, file))
     }
 
     /// All rows, copied. It is refused only when out of memory.
@@ -531,7 +536,7 @@ impl Names {
     ) -> Result<Vec<RowRef<'a>>, AllocError>
         requires { All (λ e. IsSome (file_by (files_of (slots_of slots.now)) e.1)) (finmap.entries self.now) }
         ensures { IfOk result (λ lent.
-            AreNext (map (name_row (files_of (slots_of slots.now))) (finmap.entries self.now)) from (map row_shown lent.items)) }
+            AreNext (map (name_row (files_of (slots_of slots.now))) (finmap.entries self.now)) from lent.items) }
     {
         if is_arranged(&self.table, &self.others, &self.order) {
             return lent_rows(alloc, &self.table, next_of(&self.order, from), slots);

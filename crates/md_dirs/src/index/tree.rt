@@ -4,7 +4,7 @@ ghost use Rattle.std.specs.Option.{option_map};
 ghost use Rattle.std.specs.FinMap as finmap;
 ghost use Rattle.md_dirs.specs.Path.{path_of};
 ghost use Rattle.md_dirs.specs.State.{file_by};
-ghost use Rattle.md_dirs.specs.Rows.{is_named, row_shown};
+ghost use Rattle.md_dirs.specs.Rows.{is_named};
 ghost use Rattle.md_dirs.specs.Lent.{AreNext};
 ghost use Rattle.md_dirs.specs.Index.{directory_number, directory_at, rows_in};
 ghost use Rattle.md_dirs.specs.Files.{files_of, name_row};
@@ -118,27 +118,42 @@ impl Tree {
         directory.take(path.name.as_slice())
     }
 
-    /// The name at a position of a directory, in order of the names, and the number of its file.
-    pub fn row_at(&self, folder: u32, place: Place, at: usize) -> Option<(&[u8], usize)>
-        ensures row { option_map (λ r. (r.0.now, r.1)) result ≡ slice_get (rows_in self.now folder place) at }
+    /// The row at a position of a directory, in order of the names, lent.
+    pub fn row_at<'a>(
+        &'a self,
+        folder: u32,
+        place: Place,
+        at: usize,
+        slots: &'a Slots,
+    ) -> Option<RowRef<'a>>
+        requires { All (λ e. IsSome (file_by (files_of (slots_of slots.now)) e.1)) (rows_in self.now folder place) }
+        ensures row { result ≡ option_map (name_row (files_of (slots_of slots.now))) (slice_get (rows_in self.now folder place) at) }
         ensures few { IfSome result (λ _. at + 1 < 2 ^ 64) }
     {
         let number = number_of(folder, place);
         if number >= self.directories.len() {
             return None;
         }
-        self.directories[number].row_at(at)
+        self.directories[number].row_at(at, slots)
     }
 
-    /// The first name of a directory that is a unique name, or a unique name, a colon and more, and the number of its file.
-    pub fn find(&self, folder: u32, place: Place, unique: &[u8]) -> Option<(&[u8], usize)>
-        ensures { option_map (λ r. (r.0.now, r.1)) result ≡ first_with (λ e. is_named unique.now e.0) (rows_in self.now folder place) }
+    /// The row of the first name of a directory that is a unique name, or a unique name, a colon and more, lent.
+    pub fn look<'a>(
+        &'a self,
+        folder: u32,
+        place: Place,
+        unique: &[u8],
+        slots: &'a Slots,
+    ) -> Option<RowRef<'a>>
+        requires { All (λ e. IsSome (file_by (files_of (slots_of slots.now)) e.1)) (rows_in self.now folder place) }
+        ensures { result ≡ option_map (name_row (files_of (slots_of slots.now)))
+            (first_with (λ e. is_named unique.now e.0) (rows_in self.now folder place)) }
     {
         let number = number_of(folder, place);
         if number >= self.directories.len() {
             return None;
         }
-        self.directories[number].find(unique)
+        self.directories[number].look(unique, slots)
     }
 
     /// How many names a directory has.
@@ -181,7 +196,7 @@ impl Tree {
     ) -> Result<Vec<RowRef<'a>>, AllocError>
         requires { All (λ e. IsSome (file_by (files_of (slots_of slots.now)) e.1)) (rows_in self.now folder place) }
         ensures { IfOk result (λ rows.
-            AreNext (map (name_row (files_of (slots_of slots.now))) (rows_in self.now folder place)) from (map row_shown rows.items)) }
+            AreNext (map (name_row (files_of (slots_of slots.now))) (rows_in self.now folder place)) from rows.items) }
     {
         let number = number_of(folder, place);
         if number >= self.directories.len() {

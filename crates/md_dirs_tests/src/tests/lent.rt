@@ -43,9 +43,9 @@ fn lends_from<D: Dirs>(
     for _ in 0..=most {
         let rows = dirs.rows_from(model.alloc, 0, Place::Cur, at)?;
         lent = rows.len();
-        for row in &rows {
+        for row in rows {
             assert!(rt;
-                is_same(Some(*row), model.plain.row_at(0, Place::Cur, at)),
+                is_same(Some(row), model.plain.row_at(0, Place::Cur, at)),
                 "from {from}"
             );
             at = at.saturating_add(1);

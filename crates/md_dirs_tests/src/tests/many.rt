@@ -142,7 +142,7 @@ fn take<D: Dirs>(
     let Some(row) = model.plain.row_at(0, Place::Cur, at) else {
         return Err(DirError::NotFound);
     };
-    let path = numbered(model.alloc, row.name, 0, 0, b"")?;
+    let path = numbered(model.alloc, row.name(), 0, 0, b"")?;
     let left = model.plain.count(0, Place::Cur);
     play_call(rt, model, dirs, Kind::Unlink, &path, &path);
     if left > FEWEST && left % FEWEST != 0 {

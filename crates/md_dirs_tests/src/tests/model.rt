@@ -18,18 +18,16 @@ pub struct Model {
 }
 
 fn lent(row: &Row) -> Option<RowRef<'_>> {
-    Some(RowRef {
-        name: row.name.as_slice(),
-        stamp: row.stamp,
-        size: row.size,
-    })
+    Some(RowRef::new(row.name.as_slice(), row.stamp, row.size))
 }
 
 /// Whether two rows are the same, or there is none.
 pub fn is_same(a: Option<RowRef<'_>>, b: Option<RowRef<'_>>) -> bool {
     match (a, b) {
         (None, None) => true,
-        (Some(a), Some(b)) => a.name == b.name && a.stamp == b.stamp && a.size == b.size,
+        (Some(a), Some(b)) => {
+            a.name() == b.name() && a.stamp() == b.stamp() && a.size() == b.size()
+        }
         _ => false,
     }
 }
@@ -65,7 +63,7 @@ impl Model {
     fn first_of(&self, path: &Path, unique: &[u8]) -> Option<RowRef<'_>> {
         for at in 0..self.plain.count(path.folder, path.place) {
             let row = self.plain.row_at(path.folder, path.place, at)?;
-            if matches!(row.name.strip_prefix(unique), Some([] | [b':', ..])) {
+            if matches!(row.name().strip_prefix(unique), Some([] | [b':', ..])) {
                 return Some(row);
             }
         }
@@ -75,8 +73,8 @@ impl Model {
     /// Whether directories show the same row at a position, and the same bytes of it, or neither has it.
     pub fn shows<D: Dirs>(&self, dirs: &D, folder: u32, place: Place, at: usize) -> bool {
         let row = dirs.row_at(folder, place, at);
-        let name = match row {
-            Some(row) => row.name,
+        let name = match &row {
+            Some(row) => row.name(),
             None => b"",
         };
         is_same(row, self.plain.row_at(folder, place, at))
@@ -88,7 +86,7 @@ impl Model {
         let mut last: Option<&[u8]> = None;
         for at in 0..self.plain.count(folder, place) {
             let name = match dirs.row_at(folder, place, at) {
-                Some(row) => Some(row.name),
+                Some(row) => Some(row.name()),
                 None => None,
             };
             if last >= name || !self.shows(dirs, folder, place, at) {

@@ -215,9 +215,9 @@ fn is_row(row: Option<RowRef<'_>>, text: &str) -> bool {
     let (stamp, size) = cut(rest, ' ');
     match row {
         Some(row) => {
-            row.name == name_of(name)
-                && stamp.parse() == Ok(row.stamp)
-                && size.parse() == Ok(row.size)
+            row.name() == name_of(name)
+                && stamp.parse() == Ok(row.stamp())
+                && size.parse() == Ok(row.size())
         }
         None => false,
     }

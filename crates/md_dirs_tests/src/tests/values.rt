@@ -25,11 +25,7 @@ fn file_copied(alloc: Global) -> Result<ImageFile, AllocError> {
 }
 
 fn row_copied(alloc: Global) -> Result<Row, AllocError> {
-    let row = RowRef {
-        name: b"n",
-        stamp: 1,
-        size: 2,
-    };
+    let row = RowRef::new(b"n", 1, 2);
     let row = row.copied(alloc)?;
     row.again(alloc)
 }

@@ -1,9 +1,7 @@
-use Rattle.std.proofs.Common.{◌≡◌, ◌++◌, List, [], ◌∷◌, Some, None, true, false, map, sym, ap, subst, ◌∙◌, arith}
+use Rattle.std.proofs.Common.{◌≡◌, ◌++◌, List, [], ◌∷◌, Some, None, true, false, sym, ap, subst, ◌∙◌, arith}
 use Rattle.std.proofs.lemmas.List.{append-nil, append_assoc}
-use Rattle.std.proofs.lemmas.Option.{slice_get-map, slice_get-get_or}
-use Rattle.std.specs.Option.{option_map}
+use Rattle.std.proofs.lemmas.Option.{slice_get-get_or}
 use Rattle.std.specs.Vec.{vec_len, vec_capacity}
-use Rattle.md_dirs.specs.Rows.{row_shown}
 use Rattle.md_view.specs.declared.entry.Entry.{Entry}
 use Rattle.md_view.specs.Readings.{IsInOrder}
 use Rattle.md_view.specs.Rows.{IsBehind}
@@ -13,10 +11,10 @@ use Rattle.md_view.proofs.read.push_rows.Goals as goal
 
 pub loop-row-preserved : goal.loop-row-preserved
 loop-row-preserved c =
-    let rows = map row_shown c.args.rows.now in
+    let rows = c.args.rows.now in
     let i = c.loop-row.row-index in
     let old = c.args.all.now.items in
-    let is = slice_get-map row_shown c.args.rows.now i ∙ ap (option_map row_shown) (slice_get-get_or c.args.rows.now i _ c.loop-row-test.true) in
+    let is = slice_get-get_or rows i c.row-item.result c.loop-row-test.true ∙ ap Some (sym c.row-item.is) in
     let more = one_more c.args.place rows i _ is in
     elim c.match-of_row.branch [
       | in-Some w ↦

@@ -1,13 +1,11 @@
-use Rattle.std.proofs.Common.{ℕ, zero, suc, ◌≡◌, ◌⊎◌, ◌+◌, ◌<◌, ◌≤◌, List, [], ◌∷◌, Some, None, rules, inl, inr, length, map, take, drop, get_or, slice_get, refl, sym, ap, subst, ◌∙◌, arith}
+use Rattle.std.proofs.Common.{ℕ, zero, suc, ◌≡◌, ◌⊎◌, ◌+◌, ◌<◌, ◌≤◌, List, [], ◌∷◌, Some, rules, inl, inr, length, take, drop, get_or, slice_get, refl, sym, ap, subst, ◌∙◌, arith}
 use Rattle.std.proofs.Common.{append-nil}
 use Rattle.std.proofs.lemmas.Bool.Decides.{nat_tests}
-use Rattle.std.proofs.lemmas.List.{length-map, length-take, length-drop}
-use Rattle.std.proofs.lemmas.Option.{slice_get-map, slice_get_past}
-use Rattle.std.specs.Option.{option_map}
-use Rattle.md_dirs.specs.Rows.{row_shown, rows_of}
+use Rattle.std.proofs.lemmas.List.{length-take, length-drop}
+use Rattle.std.proofs.lemmas.Option.{slice_get_past}
+use Rattle.md_dirs.specs.Rows.{rows_of}
 use Rattle.md_dirs.specs.Lent.{AreNext}
 use Rattle.md_dirs.specs.declared.rows.Row.{Row}
-use Rattle.md_dirs.specs.declared.rows.RowRef.{RowRef}
 use Rattle.md_jobs.specs.declared.error.CoreError.TheVariants.{NoMemory}
 use Rattle.md_core.specs.Loading.{load_refusal}
 use Rattle.md_core.specs.Looking.{IsLookOf}
@@ -32,12 +30,11 @@ got (y ∷ ys) zero x h is = ap Some (sym is)
 got (y ∷ ys) (suc i) x h is = got ys i x (omega (arith, h)) is
 
 -- a row that was lent is that of its position
-lent-at : (all : List Row) (from : ℕ) (rows : List RowRef) → AreNext all from (map row_shown rows) → (i : ℕ) (r : RowRef) → i < length rows → r ≡ get_or rows i r
-    → slice_get all (from + i) ≡ Some (row_shown r)
+lent-at : (all : List Row) (from : ℕ) (rows : List Row) → AreNext all from rows → (i : ℕ) (r : Row) → i < length rows → r ≡ get_or rows i r
+    → slice_get all (from + i) ≡ Some r
 lent-at all from rows next i r within is =
     sym (get-drop all from i)
-    ∙ get-take (drop from all) (length (map row_shown rows)) i (row_shown r)
-    (ap (λ xs. slice_get xs i) (sym next.each) ∙ slice_get-map row_shown rows i ∙ ap (option_map row_shown) (got rows i r within is))
+    ∙ get-take (drop from all) (length rows) i r (ap (λ xs. slice_get xs i) (sym next.each) ∙ got rows i r within is)
 
 -- where none come next, all were seen
 ended : (all rows : List Row) (at : ℕ) → (at < length all → 0 < length rows) → length rows ≡ 0 → length all ≤ at
@@ -59,8 +56,7 @@ pub returns-then-is_empty-clause-ok : goal.returns-then-is_empty-clause-ok
 returns-then-is_empty-clause-ok g c =
     let s = (g.D.Dirs.device c.args.dirs.now).state in
     let all = rows_of s c.args.folder c.args.place in
-    let long = length-map c.in_ok-rows.rows.items row_shown in
-    let none : length (map row_shown c.in_ok-rows.rows.items) ≡ 0 = grind (arith, nat_tests, long) in
+    let none : length c.in_ok-rows.rows.items ≡ 0 = grind (arith, nat_tests) in
     let past = slice_get_past all c.loop-rows.at (ended all _ c.loop-rows.at c.in_ok-rows.ensures.some none) in
     subst (λ es. IsLookOf s es c.loop-rows.seen) (until-all s c.args.folder c.args.place c.loop-rows.at past) c.loop-rows.invariant
 
@@ -76,7 +72,7 @@ returns-in_err-add-clause-refused g c =
     let rows = c.in_ok-rows.rows.items in
     let within : c.loop-row.row < length rows = omega (arith, c.loop-row-test.true, c.len-row-end.ensures, c.in_ok-rows.rows.ok.0) in
     let is = lent-at (rows_of s c.args.folder c.args.place) c.loop-rows.at rows c.in_ok-rows.ensures c.loop-row.row c.index.result.now within c.index.ensures in
-    let refused = refused-row s c.args.folder c.args.place (c.loop-rows.at + c.loop-row.row) (row_shown c.index.result.now) c.loop-row.seen c.loop-row.invariant
+    let refused = refused-row s c.args.folder c.args.place (c.loop-rows.at + c.loop-row.row) c.index.result.now c.loop-row.seen c.loop-row.invariant
     is c.in_err-add.field-0.0 in
     let either : (c.in_err-add.field-0.0 ≡ NoMemory) ⊎ (load_refusal s ≡ Some c.in_err-add.field-0.0) =
     elim c.in_err-add.ensures.fault [ inl wanting ↦ inl wanting | inr fault ↦ inr (refused fault) ] in
@@ -90,17 +86,16 @@ loop-row-preserved g c =
     let is = lent-at (rows_of s c.args.folder c.args.place) c.loop-rows.at rows c.in_ok-rows.ensures c.loop-row.row c.index.result.now within c.index.ensures in
     let next : c.loop-rows.at + c.loop-row.row + 1 ≡ c.loop-rows.at + (c.loop-row.row + 1) = omega arith in
     subst (λ n. IsLookOf s (entries_until s c.args.folder c.args.place n) c.add.new.self) next
-    (until-row s c.args.folder c.args.place (c.loop-rows.at + c.loop-row.row) (row_shown c.index.result.now) c.loop-row.seen c.loop-row.invariant is
+    (until-row s c.args.folder c.args.place (c.loop-rows.at + c.loop-row.row) c.index.result.now c.loop-row.seen c.loop-row.invariant is
     c.add.new.self
     c.in_ok-add.ensures.fault c.in_ok-add.ensures.messages c.in_ok-add.ensures.tmp c.in_ok-add.ensures.clock)
 
 pub loop-rows-smaller : goal.loop-rows-smaller
 loop-rows-smaller g c =
     let s = (g.D.Dirs.device c.args.dirs.now).state in
-    let rows = map row_shown c.in_ok-rows.rows.items in
-    let long = length-map c.in_ok-rows.rows.items row_shown in
-    let sum : c.in_ok-at.at ≡ c.loop-rows.at + length rows = grind (arith, long) in
-    let some : 0 < length rows = grind (arith, nat_tests, long) in
+    let rows = c.in_ok-rows.rows.items in
+    let sum : c.in_ok-at.at ≡ c.loop-rows.at + length rows = grind arith in
+    let some : 0 < length rows = grind (arith, nat_tests) in
     let most = at-most (rows_of s c.args.folder c.args.place) rows c.loop-rows.at c.in_ok-rows.ensures.each some in
     omega (arith, sum, some, most)
 

@@ -1,5 +1,6 @@
-use Rattle.std.proofs.Common.{◌∙◌, sym}
-use Rattle.md_dirs.specs.Rows.{row_shown}
+use Rattle.std.proofs.Common.{◌∙◌, sym, ap}
+use Rattle.md_dirs.specs.Path.{path_of}
+use Rattle.md_dirs.specs.State.{bytes_at_path}
 use Rattle.md_core.proofs.Looking.Reading.{row-bytes, none-bytes}
 use Rattle.md_core.proofs.world.reading.bytes_in.Goals as goal
 
@@ -10,6 +11,8 @@ returns-in_err-row g c =
 
 pub returns : goal.returns
 returns g c =
+    let s = (g.D.Dirs.device c.args.dirs.now).state in
     c.read.ensures
-    ∙ row-bytes (g.D.Dirs.device c.args.dirs.now).state c.args.unique.now c.args.folder c.args.place (row_shown c.in_ok-row.row) c.requires.sound c.requires.one
+    ∙ ap (λ name. bytes_at_path s (path_of c.args.folder c.args.place name)) c.name.ensures
+    ∙ row-bytes s c.args.unique.now c.args.folder c.args.place c.in_ok-row.row c.requires.sound c.requires.one
     c.requires.place c.requires.name (sym c.in_ok-row.ensures)

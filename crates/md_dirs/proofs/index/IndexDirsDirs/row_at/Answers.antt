@@ -1,17 +1,18 @@
-use Rattle.std.proofs.Common.{sym, Some}
-use Rattle.md_dirs.proofs.Hashed.{row-filed, row-shown}
+use Rattle.std.proofs.Common.{◌∙◌, refl, slice_get}
+use Rattle.md_dirs.specs.Index.{rows_in}
+use Rattle.md_dirs.proofs.Hashed.{all-filed, row-shown}
 use Rattle.md_dirs.specs.Slots.{slots_of}
 use Rattle.md_dirs.proofs.index.IndexDirsDirs.row_at.Goals as goal
 
-pub shown_row-requires : goal.shown_row-requires
-shown_row-requires c =
+pub row_at-requires : goal.row_at-requires
+row_at-requires c =
     let s = c.self.inside in
-    row-filed s.folders s.names (slots_of s.slots) c.self.invariant c.args.folder c.args.place c.args.at (c.in_ok-name.name.now, c.in_ok-name.file)
-    (sym c.in_ok-name.ensures.row)
+    all-filed s.folders s.names (slots_of s.slots) c.self.invariant c.args.folder c.args.place
 
 pub returns-clause-row : goal.returns-clause-row
 returns-clause-row c =
     let s = c.self.inside in
-    rw (c.shown_row.ensures, ← c.self.view_is)
-    (row-shown s.folders s.names (slots_of s.slots) c.self.invariant c.args.folder c.args.place c.args.at (Some (c.in_ok-name.name.now, c.in_ok-name.file))
-    (sym c.in_ok-name.ensures.row))
+    rw (← c.self.view_is)
+    (c.row_at.ensures.row
+    ∙ row-shown s.folders s.names (slots_of s.slots) c.self.invariant c.args.folder c.args.place c.args.at
+    (slice_get (rows_in s.names c.args.folder c.args.place) c.args.at) refl)

@@ -3,7 +3,6 @@ use Rattle.std.proofs.lemmas.List.{take_more, take_all, map_push, length-map, ge
 use Rattle.std.proofs.lemmas.List.Elements.{All-get_or, All-drop}
 use Rattle.std.specs.FinMap as finmap
 use Rattle.md_dirs.specs.State.{file_by}
-use Rattle.md_dirs.specs.Rows.{row_shown}
 use Rattle.md_dirs.specs.Files.{files_of, name_row}
 use Rattle.md_dirs.specs.Slots.{slots_of}
 use Rattle.md_dirs.specs.Index.{name_cmp, rows_at, IsOrderOf}
@@ -36,9 +35,9 @@ loop-at-preserved c =
     let i = c.loop-at.at-index in
     let within : i < length ps = c.loop-at-test.true in
     let order : IsOrderOf es c.deref.result.now = subst (IsOrderOf es) (sym c.deref.ensures.value) c.in_ok-order.ensures in
-    let shown : row_shown c.shown_row.result ≡ name_row files (get_or es (get_or ps i 0) ([], 0)) =
+    let shown : c.shown_row.result ≡ name_row files (get_or es (get_or ps i 0) ([], 0)) =
     c.shown_row.ensures ∙ ap (name_row files) (rest-row c.args.rows.now c.deref.result.now ps c.args.from order c.rest_of-positions.ensures i _ within) in
-    ap (map row_shown) c.in_ok-push.ensures.items ∙ map_push row_shown c.loop-at.lent.items c.shown_row.result
+    c.in_ok-push.ensures.items
     ∙ (λ j. c.loop-at.invariant j ++ shown j ∷ [])
     ∙ sym (map_push (name_row files) (rows_at es (take i ps)) (get_or es (get_or ps i 0) ([], 0)))
     ∙ ap (map (name_row files)) (sym (map_push (λ k. get_or es k ([], 0)) (take i ps) (get_or ps i 0)))

@@ -4,7 +4,6 @@ use Rattle.std.specs.FinMap as finmap
 use Rattle.std.specs.List.{IsDistinct}
 use Rattle.std.specs.Map.{keys_of}
 use Rattle.md_dirs.specs.State.{file_by}
-use Rattle.md_dirs.specs.Rows.{row_shown}
 use Rattle.md_dirs.specs.Lent.{AreNext}
 use Rattle.md_dirs.specs.Least.{lent_row}
 use Rattle.md_dirs.specs.Files.{files_of, name_row}
@@ -40,8 +39,8 @@ returns-then-is_arranged c =
     let listed : rows_at es c.deref-then-is_arranged.result.now ≡ finmap.entries c.args.self.now =
     ap (rows_at es) (c.deref-then-is_arranged.ensures.value ∙ sym c.deref.ensures.value) ∙ lists in
     if-ok c.lent_rows.result
-    (λ lent shown. subst (λ all. AreNext (map (name_row files) all) c.args.from (map row_shown lent.items)) listed
-    (next-rows es c.deref-then-is_arranged.result.now c.next_of.result.now c.args.from c.next_of.ensures.rest files (map row_shown lent.items)
+    (λ lent shown. subst (λ all. AreNext (map (name_row files) all) c.args.from lent.items) listed
+    (next-rows es c.deref-then-is_arranged.result.now c.next_of.result.now c.args.from c.next_of.ensures.rest files lent.items
     c.next_of.ensures.some shown))
     c.lent_rows.ensures
 
@@ -65,6 +64,6 @@ returns c =
     let listed : finmap.entries {R = name_cmp} (finmap.from_entries (map lent_row c.deref-2.result.now)) ≡ finmap.entries c.args.self.now =
     ap (λ es. finmap.entries {R = name_cmp} (finmap.from_entries es)) made ∙ ap finmap.entries c.self.view_is in
     if-ok c.sorted_rows.result
-    (λ lent shown. rest-next (map (name_row files) (finmap.entries c.args.self.now)) (map row_shown lent.items) c.args.from
+    (λ lent shown. rest-next (map (name_row files) (finmap.entries c.args.self.now)) lent.items c.args.from
     (shown ∙ ap (λ es. drop c.args.from (map (name_row files) es)) listed))
     c.sorted_rows.ensures

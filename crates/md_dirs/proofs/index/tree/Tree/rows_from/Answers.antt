@@ -1,7 +1,6 @@
-use Rattle.std.proofs.Common.{◌∙◌, ◌≡◌, ◌≤◌, ◌<◌, sym, ap, length, map, arith}
+use Rattle.std.proofs.Common.{◌∙◌, ◌≡◌, ◌≤◌, ◌<◌, sym, ap, length, arith}
 use Rattle.std.proofs.lemmas.List.{length-map}
 use Rattle.std.specs.FinMap as finmap
-use Rattle.md_dirs.specs.Rows.{row_shown}
 use Rattle.md_dirs.proofs.Lent.{none-next}
 use Rattle.md_dirs.specs.Files.{files_of, name_row}
 use Rattle.md_dirs.specs.Index.{directory_number, directory_at, rows_in, names_of}
@@ -15,7 +14,7 @@ returns-then-number-len c =
     let past : length t.items ≤ directory_number c.args.folder c.args.place = omega (arith, t.ok.0, c.number_of-number.ensures.number) in
     let none : length (rows_in (names_of t.items) c.args.folder c.args.place) ≡ 0 = ap length (no-rows t.items c.args.folder c.args.place past) in
     let shown = length-map (rows_in (names_of t.items) c.args.folder c.args.place) (name_row (files_of (slots_of c.args.slots.now))) in
-    rw (← c.self.view_is) (none-next _ _ c.args.from (omega (arith, none, shown)) (ap (map row_shown) c.new.ensures.items))
+    rw (← c.self.view_is) (none-next _ _ c.args.from (omega (arith, none, shown)) c.new.ensures.items)
 
 pub rows_from-requires : goal.rows_from-requires
 rows_from-requires c =

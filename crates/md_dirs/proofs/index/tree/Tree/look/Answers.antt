@@ -1,0 +1,37 @@
+use Rattle.std.proofs.Common.{◌∙◌, ◌≡◌, ◌≤◌, ◌<◌, sym, ap, length, arith, find as first_with}
+use Rattle.std.specs.Option.{option_map}
+use Rattle.std.specs.FinMap as finmap
+use Rattle.md_dirs.specs.Files.{files_of, name_row}
+use Rattle.md_dirs.specs.Slots.{slots_of}
+use Rattle.md_dirs.specs.Rows.{is_named}
+use Rattle.md_dirs.specs.Index.{directory_number, directory_at, rows_in, names_of}
+use Rattle.md_dirs.proofs.Directories.{no-rows, rows-in, read-directory}
+use Rattle.md_dirs.proofs.index.tree.Tree.look.Goals as goal
+
+pub returns-then-number-len : goal.returns-then-number-len
+returns-then-number-len c =
+    let t = c.self.inside.directories in
+    let files = files_of (slots_of c.args.slots.now) in
+    let past : length t.items ≤ directory_number c.args.folder c.args.place = omega (arith, t.ok.0, c.number_of-number.ensures.number) in
+    rw (← c.self.view_is) (sym (ap (λ rows. option_map (name_row files) (first_with (λ e. is_named c.args.unique.now e.0) rows))
+    (no-rows t.items c.args.folder c.args.place past)))
+
+pub look-requires : goal.look-requires
+look-requires c =
+    let t = c.self.inside.directories in
+    let n = c.number_of-number in
+    let within : n.result < length t.items = omega (arith, t.ok.0) in
+    let one : rows_in (names_of t.items) c.args.folder c.args.place ≡ finmap.entries c.index.result.now =
+    rows-in t.items c.args.folder c.args.place ∙ ap (λ k. finmap.entries (directory_at t.items k)) (sym n.ensures.number) ∙
+    ap finmap.entries (read-directory t.items n.result c.index.result.now within c.index.ensures) in
+    rw (← c.self.view_is, one) at c.requires
+
+pub returns : goal.returns
+returns c =
+    let t = c.self.inside.directories in
+    let n = c.number_of-number in
+    let within : n.result < length t.items = omega (arith, t.ok.0) in
+    let one : rows_in (names_of t.items) c.args.folder c.args.place ≡ finmap.entries c.index.result.now =
+    rows-in t.items c.args.folder c.args.place ∙ ap (λ k. finmap.entries (directory_at t.items k)) (sym n.ensures.number) ∙
+    ap finmap.entries (read-directory t.items n.result c.index.result.now within c.index.ensures) in
+    rw (← c.self.view_is, one) c.look.ensures
