@@ -96,7 +96,7 @@ fn listing<'a>(
         (λ e. (e ≡ Kind NoMemory) ⊎ (listed world.now folder ≡ Err e)) }
 {
     match list_lent(alloc, world, folder) {
-        Ok(entries) => Ok(entries),
+        Ok(listing) => Ok(listing.into_vec(alloc)?),
         Err(ViewError::NoFolder) => Err(Refusal::Kind(PlayKind::Core(CoreError::NoFolder))),
         Err(ViewError::NoMemory) => Err(NO_MEMORY),
     }

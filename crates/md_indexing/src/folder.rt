@@ -20,7 +20,7 @@ pub fn listing<'a, D: Dirs>(
     ensures { IfOk result (λ all. all.items ≡ listing_in (mailbox_of (dirs_of world.now)) folder) }
 {
     world.interleaves();
-    list_lent(alloc, world, folder)
+    Ok(list_lent(alloc, world, folder)?.into_vec(alloc)?)
 }
 
 /// The bytes of the message of a unique name, and none where it isn't there.

@@ -6,7 +6,7 @@ use crate::digits::push_number_and;
 use crate::few::push_word;
 use crate::flags::push_spaced_flags;
 use md_dirs::Place;
-use md_view::{Entry, EntryRef};
+use md_view::{Entry, EntryRef, Listing};
 use std::alloc::AllocError;
 
 /// How many bytes a line has at most for the names of usual deliverers.
@@ -25,16 +25,14 @@ pub fn push_entries(out: &mut Vec<u8>, entries: &[Entry]) -> Result<(), AllocErr
     Ok(())
 }
 
-/// The same for entries that are lent.
-pub(crate) fn push_lent_entries(
-    out: &mut Vec<u8>,
-    entries: &[EntryRef<'_>],
-) -> Result<(), AllocError>
-    ensures { OnOk result (out.new.items ≡ out.old.items ++ entries_text entries.now) }
+/// The same for a listing whose entries are lent.
+pub(crate) fn push_listing(out: &mut Vec<u8>, listing: &Listing<'_>) -> Result<(), AllocError>
+    ensures { OnOk result (out.new.items ≡ out.old.items ++ entries_text listing.now) }
 {
+    let mut entries = listing.entries();
     // Room for all lines at once, so that what is printed is moved once at most.
-    out.reserve(entries.len().saturating_mul(USUAL_LINE))?;
-    for entry in entries {
+    out.reserve(entries.at_most().saturating_mul(USUAL_LINE))?;
+    while let Some(entry) = entries.next() {
         push_entry(out, entry)?;
     }
     Ok(())

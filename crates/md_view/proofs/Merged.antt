@@ -1,15 +1,15 @@
 -- The merge of two lists in order is their join.
-use Rattle.std.proofs.Common.{ℕ, zero, suc, ◌≡◌, ◌≤◌, ◌-◌, ◌++◌, List, [], ◌∷◌, Some, None, true, false, cond, take, drop, length, refl, sym, ap, subst, ◌∙◌, arith}
-use Rattle.std.proofs.lemmas.List.{append-nil, append_assoc, length-drop}
-use Rattle.std.proofs.Math.Seq.{take-length}
+use Rattle.std.proofs.Common.{ℕ, zero, suc, ◌≡◌, ◌<◌, ◌≤◌, ◌+◌, ◌++◌, List, [], ◌∷◌, Some, None, true, false, cond, drop, get_or, length, refl, sym, ap, subst, ◌∙◌, arith}
+use Rattle.std.proofs.lemmas.List.{at_drop_more, length-drop}
 use Rattle.std.specs.Option.{option_or}
+use Rattle.std.specs.declared.cmp.Ordering.{Ordering}
 use Rattle.std.specs.declared.cmp.Ordering.TheVariants.{Less, Equal, Greater}
 use Rattle.std.specs.Ordering.{eq_by_cmp, is_eq}
 use Rattle.std.specs.FinMap.Entries.{by_order}
 use Rattle.md_core.specs.Mailbox.{name_cmp}
 use Rattle.md_view.specs.declared.entry.Entry.{Entry}
 use Rattle.md_view.specs.Readings.{join_of}
-use Rattle.md_view.proofs.Keyed.{lookup, IsBelow, IsSorted, both, first, second, is_less, turned, tie-itself, tie-same, below-less, lookup-below, lookup-append, sorted-values}
+use Rattle.md_view.proofs.Keyed.{lookup, IsBelow, IsSorted, both, first, second, less, is_less, turned, tie-same, below-less, lookup-below, lookup-append, sorted-values}
 
 -- an entry of new among those of cur, and what else is merged behind it
 abbrev pub into : Entry → (List Entry → List Entry) → List Entry → List Entry
@@ -33,7 +33,7 @@ below-into k n rest more less (c ∷ cur) below =
 below-merged : (k : List ℕ) (new cur : List Entry) → IsBelow k new → IsBelow k cur → IsBelow k (merged new cur)
 below-merged k [] cur before below = below
 below-merged k (n ∷ new) cur before below =
-    below-into k n (merged new) (λ cs. below-merged k new cs (second _ _ before)) (Rattle.md_view.proofs.Keyed.less _ (first _ _ before)) cur below
+    below-into k n (merged new) (λ cs. below-merged k new cs (second _ _ before)) (less _ (first _ _ before)) cur below
 
 -- one entry goes into cur before the rest
 module _ (n : Entry) (new : List Entry) (before : IsBelow n.unique new) (rest : List Entry → List Entry) where
@@ -116,26 +116,98 @@ drop-past [] (suc i) past = refl
 drop-past (x ∷ xs) zero past = absurd (omega arith)
 drop-past (x ∷ xs) (suc i) past = drop-past xs i (omega arith)
 
--- what is left of a list from a place on, as a range of a slice says it
-rest_whole : (es : List Entry) (i : ℕ) → take (length es - i) (drop i es) ≡ drop i es
-rest_whole es i = rw (← length-drop i es) (take-length (drop i es))
+drop-sorted : (es : List Entry) (i : ℕ) → IsSorted es → IsSorted (drop i es)
+drop-sorted [] zero sorted = tt
+drop-sorted [] (suc i) sorted = tt
+drop-sorted (e ∷ es) zero sorted = sorted
+drop-sorted (e ∷ es) (suc i) sorted = drop-sorted es i (second _ _ sorted)
 
-pub ended-new : (new cur : List Entry) (i j : ℕ) → length new ≤ i → merged (drop i new) (drop j cur) ≡ drop i new ++ drop j cur
-ended-new new cur i j past =
-    ap (λ (es : List Entry). merged es (drop j cur)) (drop-past new i past) ∙ sym (ap (λ (es : List Entry). es ++ drop j cur) (drop-past new i past))
+next : (es : List Entry) (i : ℕ) (e : Entry) → i < length es → e ≡ get_or es i e → drop i es ≡ e ∷ drop (i + 1) es
+next es i e within is =
+    at_drop_more (λ (rest : List Entry). rest) es i e within ∙ ap (λ (x : Entry). x ∷ drop (i + 1) es) (sym is)
 
-pub ended-cur : (new cur : List Entry) (i j : ℕ) → length cur ≤ j → merged (drop i new) (drop j cur) ≡ drop i new ++ drop j cur
-ended-cur new cur i j past =
-    ap (merged (drop i new)) (drop-past cur j past) ∙ merged-none (drop i new)
-    ∙ sym (ap (λ (es : List Entry). drop i new ++ es) (drop-past cur j past) ∙ append-nil (drop i new))
+-- the merge is no longer than both lists
+length-into : (n : Entry) (k : ℕ) (rest : List Entry → List Entry) → ((cs : List Entry) → length (rest cs) ≤ k + length cs)
+    → (cur : List Entry) → length (into n rest cur) ≤ suc k + length cur
+length-into n k rest short [] = let most = short [] in omega (arith, most)
+length-into n k rest short (c ∷ cur) =
+    elim (name_cmp n.unique c.unique)
+    as (λ o. length (by_order o (n ∷ rest (c ∷ cur)) (rest (c ∷ cur)) (c ∷ into n rest cur)) ≤ suc k + suc (length cur)) [
+      | Less ↦ let most = short (c ∷ cur) in omega (arith, most)
+      | Equal ↦ let most = short (c ∷ cur) in omega (arith, most)
+      | Greater ↦ let most = length-into n k rest short cur in omega (arith, most)
+    ]
 
--- what was merged, and what is left of both lists, are their join
-pub whole-join : (new cur all one two : List Entry) (i j : ℕ) → IsSorted new → IsSorted cur → all ++ merged (drop i new) (drop j cur) ≡ merged new cur
-    → merged (drop i new) (drop j cur) ≡ drop i new ++ drop j cur → one ≡ all ++ take (length new - i) (drop i new)
-    → two ≡ one ++ take (length cur - j) (drop j cur) → two ≡ join_of new cur
-whole-join new cur all one two i j before sorted merges ended first second =
-    second ∙ (λ k. first k ++ rest_whole cur j k) ∙ (λ k. (all ++ rest_whole new i k) ++ drop j cur)
-    ∙ append_assoc all (drop i new) (drop j cur) ∙ ap (λ (es : List Entry). all ++ es) (sym ended) ∙ merges ∙ merged-join new cur before sorted
+length-merged : (new cur : List Entry) → length (merged new cur) ≤ length new + length cur
+length-merged [] cur = omega arith
+length-merged (n ∷ new) cur = length-into n (length new) (merged new) (length-merged new) cur
+
+-- an entry of cur comes first where it is below all of new
+comes-first : (c : Entry) (cur new : List Entry) → IsBelow c.unique new → merged new (c ∷ cur) ≡ c ∷ merged new cur
+comes-first c cur [] below = refl
+comes-first c cur (n ∷ new) below =
+    ap (λ o. by_order o (n ∷ merged new (c ∷ cur)) (merged new (c ∷ cur)) (c ∷ into n (merged new) cur))
+    (turned n.unique c.unique Less (less _ (first _ _ below)))
+
+-- how the join goes on from places in both lists
+module _ (new cur : List Entry) (before : IsSorted new) (sorted : IsSorted cur) where
+  left-is : (i j : ℕ) → join_of (drop i new) (drop j cur) ≡ merged (drop i new) (drop j cur)
+  left-is i j = sym (merged-join (drop i new) (drop j cur) (drop-sorted new i before) (drop-sorted cur j sorted))
+
+  pub length-left : (i j : ℕ) → length (join_of (drop i new) (drop j cur)) ≤ length new + length cur
+  length-left i j =
+      let most = length-merged (drop i new) (drop j cur) in
+      let n = length-drop i new in
+      let m = length-drop j cur in
+      let same = ap length (left-is i j) in
+      omega (arith, most, n, m, same)
+
+  pub both-ended : (i j : ℕ) → length new ≤ i → length cur ≤ j → join_of (drop i new) (drop j cur) ≡ []
+  both-ended i j past ended = left-is i j ∙ (λ k. merged (drop-past new i past k) (drop-past cur j ended k))
+
+  pub cur-left : (i j : ℕ) (c : Entry) → length new ≤ i → j < length cur → c ≡ get_or cur j c
+      → join_of (drop i new) (drop j cur) ≡ c ∷ join_of (drop i new) (drop (j + 1) cur)
+  cur-left i j c past within is =
+      left-is i j ∙ (λ k. merged (drop-past new i past k) (next cur j c within is k))
+      ∙ ap (λ (es : List Entry). c ∷ es)
+      (sym (left-is i (j + 1) ∙ ap (λ (es : List Entry). merged es (drop (j + 1) cur)) (drop-past new i past)))
+
+  pub new-left : (i j : ℕ) (n : Entry) → length cur ≤ j → i < length new → n ≡ get_or new i n
+      → join_of (drop i new) (drop j cur) ≡ n ∷ join_of (drop (i + 1) new) (drop j cur)
+  new-left i j n past within is =
+      left-is i j ∙ (λ k. merged (next new i n within is k) (drop-past cur j past k))
+      ∙ ap (λ (es : List Entry). n ∷ es) (sym (left-is (i + 1) j ∙ ap (merged (drop (i + 1) new)) (drop-past cur j past)))
+
+  module _ (i j : ℕ) (n c : Entry) (within : i < length new) (here : n ≡ get_or new i n) (inside : j < length cur) (there : c ≡ get_or cur j c) where
+    next-new : drop i new ≡ n ∷ drop (i + 1) new
+    next-new = next new i n within here
+
+    next-cur : drop j cur ≡ c ∷ drop (j + 1) cur
+    next-cur = next cur j c inside there
+
+    abbrev by : Ordering → List Entry
+    by o = by_order o (n ∷ merged (drop (i + 1) new) (c ∷ drop (j + 1) cur)) (merged (drop (i + 1) new) (c ∷ drop (j + 1) cur))
+        (c ∷ merged (n ∷ drop (i + 1) new) (drop (j + 1) cur))
+
+    both-left : (o : Ordering) → name_cmp n.unique c.unique ≡ o → join_of (drop i new) (drop j cur) ≡ by o
+    both-left o is = left-is i j ∙ (λ k. merged (next-new k) (next-cur k)) ∙ ap by is
+
+    pub new-first : name_cmp n.unique c.unique ≡ Less → join_of (drop i new) (drop j cur) ≡ n ∷ join_of (drop (i + 1) new) (drop j cur)
+    new-first is = both-left Less is
+        ∙ ap (λ (es : List Entry). n ∷ es) (sym (left-is (i + 1) j ∙ ap (merged (drop (i + 1) new)) next-cur))
+
+    pub cur-first : name_cmp n.unique c.unique ≡ Greater → join_of (drop i new) (drop j cur) ≡ c ∷ join_of (drop i new) (drop (j + 1) cur)
+    cur-first is = both-left Greater is
+        ∙ ap (λ (es : List Entry). c ∷ es) (sym (left-is i (j + 1) ∙ ap (λ (es : List Entry). merged es (drop (j + 1) cur)) next-new))
+
+    -- one that both lists have
+    pub cur-counts : name_cmp n.unique c.unique ≡ Equal → join_of (drop i new) (drop j cur) ≡ c ∷ join_of (drop (i + 1) new) (drop (j + 1) cur)
+    cur-counts is =
+        let below : IsBelow n.unique (drop (i + 1) new) = first _ _ (subst IsSorted next-new (drop-sorted new i before)) in
+        both-left Equal is
+        ∙ comes-first c (drop (j + 1) cur) (drop (i + 1) new)
+        (subst (λ u. IsBelow u (drop (i + 1) new)) (tie-same n.unique c.unique (ap is_eq is)) below)
+        ∙ ap (λ (es : List Entry). c ∷ es) (sym (left-is (i + 1) (j + 1)))
 
 none-left : (es : List Entry) → length es ≤ 0 → es ≡ []
 none-left [] past = refl

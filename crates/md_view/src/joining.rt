@@ -1,13 +1,12 @@
 // One list of what new and cur show.
-ghost use Rattle.std.specs.Prelude.{◌≡◌, ◌≤◌, ◌+◌, ◌++◌, IfOk, IfErr, length, vec_len, vec_capacity};
+ghost use Rattle.std.specs.Prelude.{◌≡◌, IfOk, IfErr};
 ghost use Rattle.md_view.specs.Readings.{join_of, IsInOrder};
 ghost use Rattle.md_view.specs.declared.error.ViewError.TheVariants.{NoMemory};
 
-use crate::comparing::compare;
 use crate::entry::{Entry, EntryRef, copied, lend};
 use crate::error::ViewError;
+use crate::merging::Entries;
 use std::alloc::{AllocError, Global};
-use std::cmp::Ordering;
 
 /// The listing of a folder: the entries of cur, and those of new whose unique name isn't in cur, in order of unique name.
 ///
@@ -37,57 +36,5 @@ pub fn join_lent<'a>(
     ensures entries { IfOk result (λ all. all.items ≡ join_of new.now cur.now) }
     ensures order { IfOk result (λ all. IsInOrder all.items) }
 {
-    let mut all = Vec::new(alloc);
-    all.reserve(new.len() + cur.len())?;
-    let mut from_new = 0;
-    let mut from_cur = 0;
-    while from_new < new.len() && from_cur < cur.len() {
-        let entry = &new[from_new];
-        let other = &cur[from_cur];
-        match compare(entry.unique(), other.unique()) {
-            Ordering::Less => {
-                all.push_reserved(entry.again());
-                from_new += 1;
-            }
-            Ordering::Equal => from_new += 1,
-            Ordering::Greater => {
-                all.push_reserved(other.again());
-                from_cur += 1;
-            }
-        }
-    }
-    push_all(&mut all, &new[from_new..]);
-    push_all(&mut all, &cur[from_cur..]);
-    Ok(all)
-}
-
-/// The same of lists that are given away: where one of them is empty, it is the other.
-pub(crate) fn join_owned<'a>(
-    alloc: Global,
-    new: Vec<EntryRef<'a>>,
-    cur: Vec<EntryRef<'a>>,
-) -> Result<Vec<EntryRef<'a>>, AllocError>
-    requires new { IsInOrder new.items }
-    requires cur { IsInOrder cur.items }
-    ensures { IfOk result (λ all. all.items ≡ join_of new.entry.items cur.entry.items) }
-{
-    if new.is_empty() {
-        return Ok(cur);
-    }
-    if cur.is_empty() {
-        return Ok(new);
-    }
-    join_lent(alloc, &new, &cur)
-}
-
-// Adds entries at the end, where there is room for them.
-fn push_all<'a>(all: &mut Vec<EntryRef<'a>>, entries: &[EntryRef<'a>])
-    requires { vec_len all.old + length entries.now ≤ vec_capacity all.old }
-    ensures items { all.new.items ≡ all.old.items ++ entries.now }
-    ensures len { vec_len all.new ≡ vec_len all.old + length entries.now }
-    ensures capacity { vec_capacity all.new ≡ vec_capacity all.old }
-{
-    for entry in entries {
-        all.push_reserved(entry.again());
-    }
+    Entries::of(new, cur).collect(alloc)
 }

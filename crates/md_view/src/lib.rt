@@ -6,14 +6,18 @@
 mod comparing;
 mod entry;
 mod error;
+mod joined;
 mod joining;
 pub mod laws;
 mod listing;
+mod merging;
 mod owned;
 mod read;
 
 pub use entry::{Entry, EntryRef, copied, lend};
 pub use error::ViewError;
+pub use joined::Listing;
 pub use joining::{join, join_lent};
 pub use listing::{BegunListing, list, list_lent};
+pub use merging::Entries;
 pub use read::{lent_reading, reading};

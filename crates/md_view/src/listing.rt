@@ -4,9 +4,9 @@ ghost use Rattle.md_core.specs.Runs.{dirs_of};
 ghost use Rattle.md_view.specs.Readings.{reading_refusal};
 ghost use Rattle.md_view.specs.Law.{names_at, listing_of, HasBegun, IsGoodListing};
 
-use crate::entry::{Entry, EntryRef, copied};
+use crate::entry::{Entry, copied};
 use crate::error::ViewError;
-use crate::joining::join_owned;
+use crate::joined::Listing;
 use crate::owned::Owned;
 use crate::read::lent_reading;
 use md_core::World;
@@ -53,7 +53,7 @@ impl BegunListing {
         ensures law { IfOk result (λ all. IsGoodListing (names_at world.now) self.now.folder self.now.begun (length world.now.events) all.items) }
         ensures refusal { IfErr result (λ error. error ≡ reading_refusal (dirs_of world.now) self.now.folder) }
     {
-        let all = self.finish_lent(alloc, world)?;
+        let all = self.finish_lent(alloc, world)?.into_vec(alloc)?;
         Ok(copied(alloc, &all)?)
     }
 
@@ -62,11 +62,11 @@ impl BegunListing {
         &'a self,
         alloc: Global,
         world: &'a World<D>,
-    ) -> Result<Vec<EntryRef<'a>>, ViewError>
+    ) -> Result<Listing<'a>, ViewError>
         requires { HasBegun world.now self.now }
-        ensures entries { IfOk result (λ all. all.items ≡ listing_of (names_at world.now) self.now.folder self.now.begun (length world.now.events)) }
+        ensures entries { IfOk result (λ listing. listing ≡ listing_of (names_at world.now) self.now.folder self.now.begun (length world.now.events)) }
         ensures folder { IfOk result (λ _. self.now.folder < (dirs_of world.now).folders) }
-        ensures law { IfOk result (λ all. IsGoodListing (names_at world.now) self.now.folder self.now.begun (length world.now.events) all.items) }
+        ensures law { IfOk result (λ listing. IsGoodListing (names_at world.now) self.now.folder self.now.begun (length world.now.events) listing) }
         ensures refusal { IfErr result (λ error. error ≡ reading_refusal (dirs_of world.now) self.now.folder) }
     {
         world.interleaves();
@@ -74,7 +74,7 @@ impl BegunListing {
         md_core::laws::legal_histories_keep_messages_out_of_new();
         let cur = lent_reading(alloc, world, self.folder, Place::Cur)?;
         let new = self.new.lent(alloc)?;
-        Ok(join_owned(alloc, new, cur)?)
+        Ok(Listing::of(new, cur))
     }
 }
 
@@ -84,7 +84,7 @@ pub fn list<D: Dirs>(alloc: Global, world: &World<D>, folder: u32) -> Result<Vec
     ensures entries { IfOk result (λ all. all.items ≡ listing_of (names_at world.now) folder (length world.now.events) (length world.now.events)) }
     ensures refusal { IfErr result (λ error. error ≡ reading_refusal (dirs_of world.now) folder) }
 {
-    let all = list_lent(alloc, world, folder)?;
+    let all = list_lent(alloc, world, folder)?.into_vec(alloc)?;
     Ok(copied(alloc, &all)?)
 }
 
@@ -93,13 +93,13 @@ pub fn list_lent<'a, D: Dirs>(
     alloc: Global,
     world: &'a World<D>,
     folder: u32,
-) -> Result<Vec<EntryRef<'a>>, ViewError>
-    ensures entries { IfOk result (λ all. all.items ≡ listing_of (names_at world.now) folder (length world.now.events) (length world.now.events)) }
+) -> Result<Listing<'a>, ViewError>
+    ensures entries { IfOk result (λ listing. listing ≡ listing_of (names_at world.now) folder (length world.now.events) (length world.now.events)) }
     ensures folder { IfOk result (λ _. folder < (dirs_of world.now).folders) }
     ensures refusal { IfErr result (λ error. error ≡ reading_refusal (dirs_of world.now) folder) }
 {
     world.interleaves();
     let new = lent_reading(alloc, world, folder, Place::New)?;
     let cur = lent_reading(alloc, world, folder, Place::Cur)?;
-    Ok(join_owned(alloc, new, cur)?)
+    Ok(Listing::of(new, cur))
 }

@@ -7,7 +7,7 @@ ghost use Rattle.md_script.specs.Held.{MayWait};
 ghost use Rattle.md_script.specs.Sessions.{submit_in, step_in, finish_in, list_in, read_in};
 
 use crate::error::PlayKind;
-use crate::listing::push_lent_entries;
+use crate::listing::push_listing;
 use crate::storage::Storage;
 use crate::store::printing::{push_bytes, push_job, push_step};
 use md_core::{Call, Event, World};
@@ -87,8 +87,8 @@ pub(super) fn list<D: Storage>(
 ) -> Result<(), PlayKind>
     ensures { Steps (list_in world.now folder) world.now out.old.items out.new.items result }
 {
-    let entries = list_lent(alloc, world, folder)?;
-    push_lent_entries(out, &entries)?;
+    let listing = list_lent(alloc, world, folder)?;
+    push_listing(out, &listing)?;
     Ok(())
 }
 

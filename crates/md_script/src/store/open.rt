@@ -4,7 +4,7 @@ ghost use Rattle.md_script.specs.Step.{Steps};
 ghost use Rattle.md_script.specs.Sessions.{new_store, on_run, submit_in, step_in, finish_in, list_in, read_in, read_first, read_second};
 
 use crate::error::PlayKind;
-use crate::listing::push_lent_entries;
+use crate::listing::push_listing;
 use crate::storage::Storage;
 use crate::store::acts;
 use crate::store::kept::{keep, kept_of, use_up};
@@ -109,12 +109,12 @@ impl<D: Storage> OpenStore<D> {
     pub(super) fn second(&mut self, folder: u32, out: &mut Vec<u8>) -> Result<(), PlayKind>
         ensures { Steps (read_second self.old folder) self.new out.old.items out.new.items result }
     {
-        let Some(listing) = kept_of(&self.kept, folder) else {
+        let Some(begun) = kept_of(&self.kept, folder) else {
             return Err(PlayKind::NoFirst);
         };
-        let entries = listing.finish_lent(self.alloc, &self.world)?;
-        push_lent_entries(out, &entries)?;
-        drop(entries);
+        let listing = begun.finish_lent(self.alloc, &self.world)?;
+        push_listing(out, &listing)?;
+        drop(listing);
         use_up(&mut self.kept, folder);
         Ok(())
     }

@@ -10,8 +10,8 @@ use Rattle.md_view.proofs.Readings.{reading-sorted}
 use Rattle.md_view.proofs.Waiting.{names-now}
 use Rattle.md_view.proofs.listing.BegunListing.finish_lent.Goals as goal
 
-pub join_owned-requires-clause-new : goal.join_owned-requires-clause-new
-join_owned-requires-clause-new g c =
+pub of-requires-clause-new : goal.of-requires-clause-new
+of-requires-clause-new g c =
     subst (λ (es : List Entry). IsInOrder es) (sym (c.in_ok-new.ensures ∙ c.requires.new))
     (in-order _ (reading-sorted c.args.self.now.folder New (names_at c.args.world.now c.args.self.now.begun)))
 
@@ -24,6 +24,6 @@ returns-clause-law g c =
     c.in_ok-new.ensures ∙ c.requires.new in
     let cur : c.in_ok-cur.cur.items ≡ reading_of (names_at r (length r.events)) folder Cur =
     c.in_ok-cur.ensures.entries ∙ ap (λ (n : Names). reading_of n folder Cur) (names-now r c.interleaves.ensures.shown) in
-    subst (IsGoodListing (names_at r) folder begun (length r.events)) (sym (c.in_ok-join_owned.ensures ∙ (λ i. join_of (new i) (cur i))))
+    subst (IsGoodListing (names_at r) folder begun (length r.events)) (sym (c.of.ensures ∙ (λ i. join_of (new i) (cur i))))
     (good-run c.names_show_their_directories.ensures.shown c.legal_histories_keep_messages_out_of_new.ensures r c.interleaves.ensures.theorem
     folder begun (length r.events) c.requires.past)

@@ -13,7 +13,7 @@ returns-in_default g c =
 
 pub finish_lent-requires : goal.finish_lent-requires
 finish_lent-requires g c =
-    (found (HasBegun c.self.inside.world) (λ l. l.folder == c.args.folder) c.self.inside.kept.items c.in-Some.listing.now c.self.invariant
+    (found (HasBegun c.self.inside.world) (λ l. l.folder == c.args.folder) c.self.inside.kept.items c.in-Some.begun.now c.self.invariant
     (sym (rw c.deref.ensures.value at c.in-Some.ensures))).0
 
 pub invariant_of-self : goal.invariant_of-self
@@ -22,8 +22,8 @@ invariant_of-self g c = begun-others c.self.inside.world c.args.folder c.self.in
 pub returns : goal.returns
 returns g c = (
   _,
-  second-read c.args.self.now c.args.folder c.self.inside.world c.self.inside.kept.items c.self.view_is _ c.in-Some.listing.now _
+  second-read c.args.self.now c.args.folder c.self.inside.world c.self.inside.kept.items c.self.view_is _ c.in-Some.begun.now _
       (sym (rw c.deref.ensures.value at c.in-Some.ensures)) c.self.invariant
-      c.use_up.ensures c.in_ok-entries.ensures.entries,
-  rw c.deref-2.ensures.value at c.in_ok-push_lent_entries.ensures,
+      c.use_up.ensures c.in_ok-listing.ensures.entries,
+  c.in_ok-push_listing.ensures,
 )
