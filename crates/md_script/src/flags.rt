@@ -82,7 +82,8 @@ fn push_spaced(out: &mut Vec<u8>, letters: &[u8]) -> Result<(), AllocError>
 /// The letters of a message's flags where they stand in its name as they print: in ASCII order, each once. They nearly always do, and
 /// are then copied, where other flags are read and spelled.
 #[tactic(auto, using(crate::proofs::Written::bare, crate::proofs::Written::after_colon))]
-fn written_flags(name: &[u8], colon: Option<usize>) -> Option<&[u8]>
+#[inline(always)]
+pub(crate) fn written_flags(name: &[u8], colon: Option<usize>) -> Option<&[u8]>
     requires colon { colon ≡ position is_colon name.now }
     requires within { IfSome colon (λ at. at < length name.now) }
     ensures { IfSome result (λ letters. flags_text (flags_by (split_of name.now)) ≡ letters_text letters.now) }

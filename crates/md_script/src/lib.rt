@@ -4,6 +4,7 @@
 mod chunk;
 mod command;
 mod digits;
+mod entry_line;
 mod error;
 mod escapes;
 mod few;

@@ -1,8 +1,9 @@
 //! The lines of listings.
-ghost use Rattle.std.specs.Prelude.{◌≡◌, ◌++◌, OnOk, codes};
+ghost use Rattle.std.specs.Prelude.{◌≡◌, ◌≤◌, ◌++◌, IfOk, OnOk, take, length, codes};
 ghost use Rattle.md_script.specs.Texts.{place_text, entry_line, entries_text};
 
 use crate::digits::push_number_and;
+use crate::entry_line::{LONGEST_USUAL, lay_line};
 use crate::few::push_word;
 use crate::flags::push_spaced_flags;
 use md_dirs::Place;
@@ -11,6 +12,9 @@ use std::alloc::AllocError;
 
 /// How many bytes a line has at most for the names of usual deliverers.
 const USUAL_LINE: usize = 64;
+
+/// How many bytes the lines have at most that gather before they are appended at once.
+const BUFFER: usize = 2048;
 
 /// Appends the lines of a listing, `PLACE UNIQUE FLAGS SIZE` for each entry.
 ///
@@ -32,10 +36,41 @@ pub(crate) fn push_listing(out: &mut Vec<u8>, listing: &Listing<'_>) -> Result<(
     let mut entries = listing.entries();
     // Room for all lines at once, so that what is printed is moved once at most.
     out.reserve(entries.at_most().saturating_mul(USUAL_LINE))?;
+    let mut lines = [0; BUFFER];
+    let buffer = &mut lines[..];
+    let mut filled = 0;
     while let Some(entry) = entries.next() {
-        push_entry(out, entry)?;
+        filled = put_entry(out, buffer, filled, entry)?;
     }
-    Ok(())
+    out.extend_from_slice(&buffer[..filled])
+}
+
+/// Puts the line of an entry behind those that fill a buffer, and gives how far the buffer is filled then. Where it is too full, or the line
+/// is no usual one, the lines are appended first.
+#[inline(always)]
+fn put_entry(
+    out: &mut Vec<u8>,
+    buffer: &mut [u8],
+    filled: usize,
+    entry: &EntryRef<'_>,
+) -> Result<usize, AllocError>
+    requires within { filled ≤ length buffer.old }
+    requires long { 162 ≤ length buffer.old }
+    ensures lines { IfOk result (λ end. out.new.items ++ take end buffer.new ≡ (out.old.items ++ take filled buffer.old) ++ entry_line entry.now) }
+    ensures within { IfOk result (λ end. end ≤ length buffer.new) }
+    ensures length { length buffer.new ≡ length buffer.old }
+{
+    let mut at = filled;
+    if buffer.len() - at < LONGEST_USUAL {
+        out.extend_from_slice(&buffer[..at])?;
+        at = 0;
+    }
+    if let Some(end) = lay_line(buffer, at, entry) {
+        return Ok(end);
+    }
+    out.extend_from_slice(&buffer[..at])?;
+    push_entry(out, entry)?;
+    Ok(0)
 }
 
 /// Appends the line of an entry.
