@@ -182,6 +182,15 @@ impl<D: Dirs> Dirs for NotedDirs<D> {
         self.dirs.rows_from(alloc, folder, place, from)
     }
 
+    fn rows_unordered(
+        &self,
+        alloc: Global,
+        folder: u32,
+        place: Place,
+    ) -> Result<Vec<RowRef<'_>>, AllocError> {
+        self.dirs.rows_unordered(alloc, folder, place)
+    }
+
     // No line of a log tells of it: it is no call.
     fn arrange(&mut self, folder: u32, place: Place) -> Result<(), AllocError> {
         self.dirs.arrange(folder, place)

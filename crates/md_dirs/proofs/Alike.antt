@@ -232,6 +232,11 @@ permuted es fs moves distinct q = elim (get_name es q) as (λ r. get_name es q �
       ap (get_name fs) (equal q p.1 p.3) ∙ lookup_from_place nat_list_eq_equiv fs there.0 p.1 v distinct read
 ] refl
 
+-- no row has a name that differs from all names
+pub none-of : (x : List ℕ) (es : List Row) → AllByRecursion (λ y. same x y ≡ false) (keys_of es) → get_name es x ≡ None
+none-of x [] h = refl
+none-of x (e ∷ es) h = ap (λ b. cond b (Some e.1) (lookup (same x) es)) h.0 ∙ none-of x es h.1
+
 pub swapped-out : (rows : List Row) (i : ℕ) (k : List ℕ) (v : ℕ) → IsDistinct is_alike rows → slice_get rows i ≡ Some (k, v) →
     Changed rows (swap_remove rows i (k, v)) k None
 unfolding IsDistinct
@@ -246,10 +251,6 @@ swapped-out rows i k v d at q =
       | true ↦ λ t. ap (get_name left) (sym (equal k q t)) ∙ none-of k left distinct.0
       | false ↦ λ t. ap (λ b. cond b (Some v) (get_name left q)) (sym (turned q k ∙ t)) ∙ found
     ] refl
-  where
-    none-of : (x : List ℕ) (es : List Row) → AllByRecursion (λ y. same x y ≡ false) (keys_of es) → get_name es x ≡ None
-    none-of x [] h = refl
-    none-of x (e ∷ es) h = ap (λ b. cond b (Some e.1) (lookup (same x) es)) h.0 ∙ none-of x es h.1
 
 -- a row in the place of that of a name
 abbrev pub moved : List ℕ → Row → Row → Row

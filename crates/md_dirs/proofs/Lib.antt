@@ -27,3 +27,4 @@ pub mod Keyed
 pub mod Slotted
 pub mod Sorting
 pub mod Arranged
+pub mod Lying

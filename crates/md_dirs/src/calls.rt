@@ -1,5 +1,5 @@
 // The directory calls and looks.
-ghost use Rattle.std.specs.Prelude.{◌≡◌, ◌+◌, ◌^◌, ◌<◌, IsErrOf, IfOk, OnErr, IfSome, length, slice_get};
+ghost use Rattle.std.specs.Prelude.{◌≡◌, ◌+◌, ◌^◌, ◌<◌, IsErrOf, IfOk, OnErr, IfSome, length, slice_get, IsPermutation};
 ghost use Rattle.std.specs.Option.{option_map};
 ghost use Rattle.md_dirs.specs.Path.{path_of};
 ghost use Rattle.md_dirs.specs.State.{IsSound, bytes_at_path};
@@ -54,7 +54,7 @@ impl<T: Drop> From<AllocFailed<T>> for DirError {
 /// Each of the calls is one atomic step, after POSIX's link, rename and unlink. `now` is the moment of the call in
 /// seconds. A call may answer `Fault`, where the number of failures has risen by one, and `NoMemory`, after all its other
 /// checks; neither changes anything. The looks, which take `&self`, are no steps: they take no memory and never fail, but
-/// for `rows_from`, which takes memory for the rows that it lends.
+/// for `rows_from` and `rows_unordered`, which take memory for the rows that they lend.
 pub trait Dirs {
     /// The folders, the names and the files; how often a call has failed by itself; and how many calls were made, a `find` among
     /// them. A call that is refused when out of memory is none, and neither is a look.
@@ -135,6 +135,23 @@ pub trait Dirs {
     {
         let mut rows = Vec::new(alloc);
         if let Some(row) = self.row_at(folder, place, from) {
+            rows.push(row)?;
+        }
+        Ok(rows)
+    }
+
+    /// All rows of a directory, each once, in an order that is nothing to go by: the one that costs the least. It is refused only when
+    /// out of memory. By itself it lends them by their positions.
+    fn rows_unordered(
+        &self,
+        alloc: Global,
+        folder: u32,
+        place: Place,
+    ) -> Result<Vec<RowRef<'_>>, AllocError>
+        ensures { IfOk result (λ rows. IsPermutation (rows_of (device self.now).state folder place) rows.items) }
+    {
+        let mut rows = Vec::new(alloc);
+        while let Some(row) = self.row_at(folder, place, rows.len()) {
             rows.push(row)?;
         }
         Ok(rows)

@@ -158,6 +158,15 @@ impl<D: Dirs> Dirs for FailAt<D> {
         self.dirs.rows_from(alloc, folder, place, from)
     }
 
+    fn rows_unordered(
+        &self,
+        alloc: Global,
+        folder: u32,
+        place: Place,
+    ) -> Result<Vec<RowRef<'_>>, AllocError> {
+        self.dirs.rows_unordered(alloc, folder, place)
+    }
+
     fn arrange(&mut self, folder: u32, place: Place) -> Result<(), AllocError> {
         self.dirs.arrange(folder, place)
     }

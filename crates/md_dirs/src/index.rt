@@ -1,6 +1,7 @@
 // Directories as one hash table for each with the order of its names, and the files in the order of their making.
 mod key;
 mod least;
+mod lying;
 mod named;
 mod names;
 mod sorting;
@@ -231,7 +232,6 @@ impl Dirs for IndexDirs {
         self.names.arrange(self.alloc, folder, place)
     }
 
-    // A world that begins asks this for each name.
     #[inline(always)]
     fn row_at(&self, folder: u32, place: Place, at: usize) -> Option<RowRef<'_>> {
         self.names.row_at(folder, place, at, &self.slots)
@@ -247,6 +247,16 @@ impl Dirs for IndexDirs {
     ) -> Result<Vec<RowRef<'_>>, AllocError> {
         self.names
             .rows_from(alloc, folder, place, from, &self.slots)
+    }
+
+    // The rows as they lie.
+    fn rows_unordered(
+        &self,
+        alloc: Global,
+        folder: u32,
+        place: Place,
+    ) -> Result<Vec<RowRef<'_>>, AllocError> {
+        self.names.rows_unordered(alloc, folder, place, &self.slots)
     }
 
     fn count(&self, folder: u32, place: Place) -> usize {

@@ -1,5 +1,5 @@
 // The names of one directory, hashed, and their order, once it is asked for.
-ghost use Rattle.std.specs.Prelude.{◌≡◌, ◌⊎◌, ◌<◌, ◌+◌, ◌++◌, ◌∷◌, ◌^◌, [], None, Some, OnOk, OnErr, IfOk, IfSome, IfNone, IsSome, IsTrue, All, true, false, length, map, slice_get, take, drop, is_none, if◌then◌else◌, find as first_with};
+ghost use Rattle.std.specs.Prelude.{◌≡◌, ◌⊎◌, ◌<◌, ◌+◌, ◌++◌, ◌∷◌, ◌^◌, [], None, Some, OnOk, OnErr, IfOk, IfSome, IfNone, IsSome, IsTrue, All, true, false, length, map, slice_get, take, drop, is_none, if◌then◌else◌, find as first_with, IsPermutation};
 ghost use Rattle.std.specs.Option.{option_map};
 ghost use Rattle.std.specs.List.{list_any, IsDistinct};
 ghost use Rattle.std.specs.Map.{keys_of};
@@ -16,6 +16,7 @@ ghost use Rattle.md_dirs.specs.Index.{name_cmp, rows_at, get_name, IsOrderOf};
 
 use crate::files::shown_row;
 use crate::index::least::{Wanted, least, nth};
+use crate::index::lying::{with_others, with_rows};
 use crate::index::named::Named;
 use crate::index::sorting::{all_rows, sorted_order};
 use crate::name_key::NameKey;
@@ -546,5 +547,20 @@ impl Names {
         }
         let rows = all_rows(alloc, &self.table, &self.others)?;
         sorted_rows(alloc, &rows, from, slots)
+    }
+
+    /// All rows as they lie, lent. It is refused only when out of memory.
+    pub fn rows_unordered<'a>(
+        &'a self,
+        alloc: Global,
+        slots: &'a Slots,
+    ) -> Result<Vec<RowRef<'a>>, AllocError>
+        requires { All (λ e. IsSome (file_by (files_of (slots_of slots.now)) e.1)) (finmap.entries self.now) }
+        ensures { IfOk result (λ lent.
+            IsPermutation (map (name_row (files_of (slots_of slots.now))) (finmap.entries self.now)) lent.items) }
+    {
+        let room = Vec::with_capacity(alloc, self.table.len() + self.others.len())?;
+        let lent = with_rows(room, &self.table, slots)?;
+        with_others(lent, &self.others, slots)
     }
 }

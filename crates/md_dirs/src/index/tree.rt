@@ -1,5 +1,5 @@
 // The directories of all folders, side by side.
-ghost use Rattle.std.specs.Prelude.{◌≡◌, ◌<◌, ◌≤◌, ◌+◌, ◌^◌, ℕ, false, OnOk, OnErr, None, IfOk, IfSome, IsSome, IsTrue, All, length, map, slice_get, vec_len, is_none, if◌then◌else◌, find as first_with};
+ghost use Rattle.std.specs.Prelude.{◌≡◌, ◌<◌, ◌≤◌, ◌+◌, ◌^◌, ℕ, false, OnOk, OnErr, None, IfOk, IfSome, IsSome, IsTrue, All, length, map, slice_get, vec_len, is_none, if◌then◌else◌, find as first_with, IsPermutation};
 ghost use Rattle.std.specs.Option.{option_map};
 ghost use Rattle.std.specs.FinMap as finmap;
 ghost use Rattle.md_dirs.specs.Path.{path_of};
@@ -203,6 +203,25 @@ impl Tree {
             return Ok(Vec::new(alloc));
         }
         self.directories[number].rows_from(alloc, from, slots)
+    }
+
+    /// All rows of a directory as they lie, lent. It is refused only when out of memory.
+    pub fn rows_unordered<'a>(
+        &'a self,
+        alloc: Global,
+        folder: u32,
+        place: Place,
+        slots: &'a Slots,
+    ) -> Result<Vec<RowRef<'a>>, AllocError>
+        requires { All (λ e. IsSome (file_by (files_of (slots_of slots.now)) e.1)) (rows_in self.now folder place) }
+        ensures { IfOk result (λ rows.
+            IsPermutation (map (name_row (files_of (slots_of slots.now))) (rows_in self.now folder place)) rows.items) }
+    {
+        let number = number_of(folder, place);
+        if number >= self.directories.len() {
+            return Ok(Vec::new(alloc));
+        }
+        self.directories[number].rows_unordered(alloc, slots)
     }
 
     /// Gives the file of a path another path, unless that is there: whether it did. The new name is copied. When out of memory, nothing has
