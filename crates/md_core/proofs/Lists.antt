@@ -1,3 +1,4 @@
 pub mod Found
 pub mod Places
 pub mod Pieces
+pub mod Permuted

@@ -3,3 +3,5 @@ pub mod Faults
 pub mod Rows
 pub mod Whole
 pub mod Loaded
+pub mod Permuted
+pub mod Unordered

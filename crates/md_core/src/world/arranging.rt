@@ -25,8 +25,8 @@ impl<D: Dirs> World<D> {
     }
 }
 
-/// Makes the directories of all folders ready for a look at each of their names, tmp among them, as `World::arrange` makes a folder ready
-/// to be listed: called before `World::load`, it makes the order that the look of a beginning world and the first listing go by.
+/// Makes the directories of all folders ready for looks at their names by their positions, tmp among them, as `World::arrange` makes a
+/// folder ready to be listed. `World::load` needs no order, unless a name has a fault: called before, this makes that of the first listing.
 pub fn arrange_all<D: Dirs>(dirs: &mut D) -> Result<(), AllocError>
     ensures { D.device dirs.new ≡ D.device dirs.old }
 {

@@ -24,7 +24,7 @@ impl<D: Dirs> World<D> {
     ///
     /// Every name is looked at, by folder, then tmp, new and cur, then name. The first fault is the refusal: `BadName`, `LongUnique` and
     /// `DuplicateUnique`, in this order at one name. `NoMemory` may come in place of any of these. The directories come back.
-    /// Names whose order isn't made are sorted once for the look, and once more at the first listing: `arrange_all` makes it for both.
+    /// They are looked at as they lie: their order, where it isn't made, is asked for only where one has a fault.
     pub fn load(alloc: Global, dirs: D) -> Result<World<D>, LoadRefused<D>>
         ensures ok { IfOk result (λ w. w ≡ new_run (D.device dirs)) }
         ensures accepted { OnOk result (load_refusal (D.device dirs).state ≡ None) }

@@ -1,4 +1,6 @@
 // A look at all names of directories, before a world begins with them.
+mod unordered;
+
 ghost use Rattle.std.specs.Prelude.{◌≡◌, [], ◌||◌, ◌+◌, max, true, Some, None, IfOk, IfErr, OnOk, MatchResult};
 ghost use Rattle.std.specs.List.{list_any};
 ghost use Rattle.std.specs.FinMap as finmap;
@@ -15,6 +17,7 @@ use md_dirs::{Dirs, Place, RowRef};
 use md_jobs::CoreError;
 use md_name::{holds_terminator, is_message};
 use std::alloc::{AllocError, Global};
+use unordered::look_unordered;
 
 /// The longest file name of the usual systems, in bytes.
 const MOST_NAME_BYTES: usize = 255;
@@ -64,7 +67,8 @@ impl Seen {
         Seen::with_room(alloc, messages, tmp)
     }
 
-    // Looks at one more name, and refuses it where it has a fault.
+    // Looks at one more name, and refuses it where it has a fault. Of the two that call it, one does so at each name of a world that begins.
+    #[inline(always)]
     fn add(&mut self, place: Place, row: &RowRef<'_>) -> Result<(), CoreError>
         ensures fault { let fault = fault_after self.old.messages (somewhere place row.now) in MatchResult result (λ _. fault ≡ None) (IsFault fault) }
         ensures messages { OnOk result ((u : _) →
@@ -145,14 +149,12 @@ fn look_in<D: Dirs>(
     }
 }
 
-/// Looks at all names of directories, by folder, then tmp, new and cur, then by the order of names. It makes no directory call.
-///
-/// The first fault is the refusal; else it is refused only when out of memory.
-pub(crate) fn look<D: Dirs>(alloc: Global, dirs: &D) -> Result<Looked, CoreError>
-    ensures accepted { IfOk result (λ l. load_refusal (D.device dirs.now).state ≡ None) }
-    ensures clock { IfOk result (λ l. l.clock ≡ first_clock (D.device dirs.now).state) }
-    ensures used { IfOk result (λ l. (u : _) → is_among u l.used ≡ list_any (λ e. uses u e.0) (finmap.entries (D.device dirs.now).state.names)) }
-    ensures refused { IfErr result (IsFault (load_refusal (D.device dirs.now).state)) }
+// Looks at all names of directories, by folder, then tmp, new and cur, then by the order of names: the first fault is the refusal, unless
+// memory runs out.
+fn look_in_order<D: Dirs>(alloc: Global, dirs: &D) -> Result<Seen, CoreError>
+    ensures { MatchResult result
+        (IsLookOf (D.device dirs.now).state (finmap.entries (D.device dirs.now).state.names))
+        (IsFault (load_refusal (D.device dirs.now).state)) }
 {
     let mut seen = Seen::for_names(alloc, dirs)?;
     for folder in 0..dirs.folders() {
@@ -160,6 +162,33 @@ pub(crate) fn look<D: Dirs>(alloc: Global, dirs: &D) -> Result<Looked, CoreError
         look_in(alloc, dirs, folder, Place::New, &mut seen)?;
         look_in(alloc, dirs, folder, Place::Cur, &mut seen)?;
     }
+    Ok(seen)
+}
+
+// Looks at all names of directories, as they lie. Only where one has a fault are they looked at again, in order, to find the first.
+fn look_at_all<D: Dirs>(alloc: Global, dirs: &D) -> Result<Seen, CoreError>
+    ensures { MatchResult result
+        (IsLookOf (D.device dirs.now).state (finmap.entries (D.device dirs.now).state.names))
+        (IsFault (load_refusal (D.device dirs.now).state)) }
+{
+    match look_unordered(alloc, dirs) {
+        Ok(seen) => Ok(seen),
+        Err(CoreError::NoMemory) => Err(CoreError::NoMemory),
+        Err(_) => look_in_order(alloc, dirs),
+    }
+}
+
+/// Looks at all names of directories. It makes no directory call.
+///
+/// The first fault, by folder, then tmp, new and cur, then by the order of names, is the refusal; else it is refused only when out of memory.
+/// Where no name has a fault, none is looked for by its order.
+pub(crate) fn look<D: Dirs>(alloc: Global, dirs: &D) -> Result<Looked, CoreError>
+    ensures accepted { IfOk result (λ l. load_refusal (D.device dirs.now).state ≡ None) }
+    ensures clock { IfOk result (λ l. l.clock ≡ first_clock (D.device dirs.now).state) }
+    ensures used { IfOk result (λ l. (u : _) → is_among u l.used ≡ list_any (λ e. uses u e.0) (finmap.entries (D.device dirs.now).state.names)) }
+    ensures refused { IfErr result (IsFault (load_refusal (D.device dirs.now).state)) }
+{
+    let seen = look_at_all(alloc, dirs)?;
     Ok(Looked {
         used: UsedNames::of(seen.messages, seen.tmp),
         clock: seen.clock,

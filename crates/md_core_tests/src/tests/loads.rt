@@ -2,11 +2,27 @@
 use super::BODY;
 use super::scene::{Scene, plays};
 use md_core::{CoreError, LoadRefused, World};
-use md_dirs::{Bytes, DirError, Dirs, Path, Place, PlainDirs};
+use md_dirs::{Bytes, DirError, Dirs, IndexDirs, Path, Place, PlainDirs};
 use std::alloc::Global;
 
 // A name with a line feed, which no line of a script can have. Other bad names are loaded by tools/tests/ffi.
 const BAD: &str = "a\n";
+
+// A unique name of 201 bytes, one more than any has, in few letters.
+const LONG: &str = "long";
+
+// The orders that three files come in.
+const ORDERS: [[usize; 3]; 6] = [
+    [0, 1, 2],
+    [0, 2, 1],
+    [1, 0, 2],
+    [1, 2, 0],
+    [2, 0, 1],
+    [2, 1, 0],
+];
+
+/// A file by its folder, place and name.
+pub(super) type Named = (u32, Place, &'static str);
 
 // Adds a file, stamped at 0.
 fn add(alloc: Global, dirs: &mut PlainDirs, place: Place, name: &str) -> Result<(), DirError> {
@@ -59,6 +75,112 @@ pub(super) fn is_refused(alloc: Global, place: Place) -> Result<bool, CoreError>
     match World::load(alloc, directories(alloc, place, BAD)?).err() {
         Some(refused) => is_bad(&refused, place),
         None => Ok(false),
+    }
+}
+
+// The name of a file, spelled out.
+fn name_of(alloc: Global, name: &str) -> Result<Bytes, CoreError> {
+    if name == LONG {
+        Ok(Bytes::copied(alloc, &[b'm'; 201])?)
+    } else {
+        Ok(Bytes::copied(alloc, name.as_bytes())?)
+    }
+}
+
+// Hashed directories of two folders, whose files came in an order.
+fn arrived(alloc: Global, files: &[Named; 3], order: [usize; 3]) -> Result<IndexDirs, CoreError> {
+    let mut dirs = IndexDirs::new(alloc, 2);
+    for at in order {
+        if let Some((folder, place, name)) = files.get(at) {
+            let path = Path {
+                folder: *folder,
+                place: *place,
+                name: name_of(alloc, name)?,
+            };
+            if dirs.create(&path, 0).is_err() {
+                return Err(CoreError::NoMemory);
+            }
+        }
+    }
+    Ok(dirs)
+}
+
+/// Whether files are refused by one fault, in whatever order they came.
+pub(super) fn is_first(
+    alloc: Global,
+    files: &[Named; 3],
+    fault: CoreError,
+) -> Result<bool, CoreError> {
+    for order in ORDERS {
+        match World::load(alloc, arrived(alloc, files, order)?).err() {
+            Some(refused) if refused.error == fault => {}
+            Some(refused) if refused.error == CoreError::NoMemory => {
+                return Err(CoreError::NoMemory);
+            }
+            _ => return Ok(false),
+        }
+    }
+    Ok(true)
+}
+
+// The refusal is the first fault by folder, then tmp, new and cur, then name: so `World::load` says.
+#[test]
+fn the_first_of_several_faults_is_the_refusal(rt: HostRuntime) {
+    for (files, fault) in [
+        // tmp comes before new,
+        (
+            [
+                (0, Place::Tmp, "z\n"),
+                (0, Place::New, LONG),
+                (1, Place::Tmp, "u"),
+            ],
+            CoreError::BadName,
+        ),
+        // new before cur, and folder 0 before folder 1.
+        (
+            [
+                (0, Place::New, LONG),
+                (0, Place::Cur, "a\n"),
+                (1, Place::Tmp, "a\n"),
+            ],
+            CoreError::LongUnique,
+        ),
+        (
+            [
+                (0, Place::New, "u"),
+                (0, Place::Cur, "u:2,S"),
+                (1, Place::New, LONG),
+            ],
+            CoreError::DuplicateUnique,
+        ),
+        // A unique name that is met twice is a fault of the later name.
+        (
+            [
+                (0, Place::New, "u"),
+                (1, Place::New, LONG),
+                (1, Place::Cur, "u:2,S"),
+            ],
+            CoreError::LongUnique,
+        ),
+        // In one place names go by their bytes: m comes behind c and before z.
+        (
+            [
+                (0, Place::Cur, LONG),
+                (0, Place::Cur, "c\n"),
+                (0, Place::Cur, "u"),
+            ],
+            CoreError::BadName,
+        ),
+        (
+            [
+                (0, Place::Cur, LONG),
+                (0, Place::Cur, "z\n"),
+                (0, Place::Cur, "u"),
+            ],
+            CoreError::LongUnique,
+        ),
+    ] {
+        plays(&rt, rt.alloc(), Scene::Fault(files, fault));
     }
 }
 

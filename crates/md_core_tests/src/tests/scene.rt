@@ -1,7 +1,7 @@
 // Makes a world for a scene, and lends it. So it is let go in one place alone.
 use super::ends::{Next, begins_again};
 use super::faults::{Act, acts};
-use super::loads::{directories, is_refused};
+use super::loads::{Named, directories, is_first, is_refused};
 use super::runs::{gives_back, stops};
 use super::texts::{are_told, refusals_are_told};
 use super::{are_right, load};
@@ -28,6 +28,8 @@ pub(super) enum Scene {
     End(Next, u64),
     /// A name that is refused, in a place.
     BadName(Place),
+    /// Files that are refused by a fault, before which none comes in order.
+    Fault([Named; 3], CoreError),
     /// The texts of errors.
     Texts,
     /// Those of refused calls and settles.
@@ -66,6 +68,7 @@ fn is_played(alloc: Global, scene: Scene) -> Result<bool, CoreError> {
         Scene::Run(_) | Scene::Refused => is_played_over(alloc, scene, Act::Deliver, 0),
         Scene::End(next, clock) => begins_again(alloc, next, clock),
         Scene::BadName(place) => is_refused(alloc, place),
+        Scene::Fault(files, fault) => is_first(alloc, &files, fault),
         Scene::Texts => are_told(alloc),
         Scene::Refusals => refusals_are_told(alloc),
     }

@@ -22,15 +22,15 @@ use Rattle.md_core.proofs.Worlds.UsedLemmas.{bytes_eq-sym}
 
 -- ---- no entry has a fault
 
-both_none : {X : Type 0} (a b : Option X) → option_or a b ≡ None → (a ≡ None) × (b ≡ None)
+pub both_none : {X : Type 0} (a b : Option X) → option_or a b ≡ None → (a ≡ None) × (b ≡ None)
 both_none None b is = (refl, is)
 both_none (Some x) b is = cc
 
 -- a path has none of the three faults, after earlier paths
-record IsFaultless (earlier : List Path) (p : Path) : Type 0 where
-  name : is_bad_name p.name ≡ false
-  short : is_long_unique p ≡ false
-  single : list_any (is_same_message p) earlier ≡ false
+pub record IsFaultless (earlier : List Path) (p : Path) : Type 0 where
+  pub name : is_bad_name p.name ≡ false
+  pub short : is_long_unique p ≡ false
+  pub single : list_any (is_same_message p) earlier ≡ false
 
 three : (a b c : Bool) →
     cond {A = Option CoreError} a (Some core.BadName) (cond b (Some core.LongUnique) (cond c (Some core.DuplicateUnique) None)) ≡ None →
@@ -40,14 +40,14 @@ three false true c is = cc
 three false false true is = cc
 three false false false is = (refl, refl, refl)
 
-no-fault : (earlier : List Path) (p : Path) → fault_of earlier p ≡ None → IsFaultless earlier p
+pub no-fault : (earlier : List Path) (p : Path) → fault_of earlier p ≡ None → IsFaultless earlier p
 no-fault earlier p is = let each = three _ _ _ is in record { name = each.0; short = each.1; single = each.2 }
 
-later_none : (a b : Bool) → (a || b) ≡ false → b ≡ false
+pub later_none : (a b : Bool) → (a || b) ≡ false → b ≡ false
 later_none true b is = cc
 later_none false b is = is
 
-first_none : (a b : Bool) → (a || b) ≡ false → a ≡ false
+pub first_none : (a b : Bool) → (a || b) ≡ false → a ≡ false
 first_none true b is = cc
 first_none false b is = refl
 
@@ -74,7 +74,7 @@ and_turned true false = refl
 and_turned false true = refl
 and_turned false false = refl
 
-same-turned : (p q : Path) → is_same_message p q ≡ is_same_message q p
+pub same-turned : (p q : Path) → is_same_message p q ≡ is_same_message q p
 same-turned p q = (λ i. and_turned (is_message p) (is_message q) i && bytes_eq-sym (unique_of p.name) (unique_of q.name) i)
 
 -- two entries that are messages of one name are one

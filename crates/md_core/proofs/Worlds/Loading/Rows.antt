@@ -59,7 +59,7 @@ in-is f p q h =
     let parts = both_true _ _ h in
     λ i. record { folder = numbers q.folder f parts.0 i; place = same_place q.place p parts.1 i; name = q.name }
 
-passes : {X : Type 0} (q : X → Bool) (xs : List X) (at : ℕ) (x : X) → slice_get (filter q xs) at ≡ Some x → q x ≡ true
+pub passes : {X : Type 0} (q : X → Bool) (xs : List X) (at : ℕ) (x : X) → slice_get (filter q xs) at ≡ Some x → q x ≡ true
 passes q [] at x is = cc
 passes q (y ∷ xs) at x is = by (passes q xs) (q y) refl at is
   where
@@ -69,21 +69,41 @@ passes q (y ∷ xs) at x is = by (passes q xs) (q y) refl at is
     by rest true h (suc at) is = rest at x is
     by rest false h at is = rest at x is
 
-mapped : {X Y : Type 0} (g : X → Y) (o : Option X) (y : Y) → option_map g o ≡ Some y → (x : X) × (o ≡ Some x) × (g x ≡ y)
+pub mapped : {X Y : Type 0} (g : X → Y) (o : Option X) (y : Y) → option_map g o ≡ Some y → (x : X) × (o ≡ Some x) × (g x ≡ y)
 mapped g None y is = cc
 mapped g (Some x) y is = (x, refl, cc)
 
 module _ (s : State) (f : ℕ) (p : Place) where
+  -- a row's entry has its path and its file's stamp
+  pub shown-path : (e : Path × ℕ) (r : Row) → is_in f p e.0 ≡ true → row_of s.files e ≡ r → e.0 ≡ path_of f p r.name
+  shown-path e r inside shows =
+      in-is f p e.0 inside ∙ ap (path_of f p) (sym (row_name e.0.name (file_by s.files e.1)) ∙ ap (λ (x : Row). x.name) shows)
+
+  pub shown-stamp : (e : Path × ℕ) (r : Row) → row_of s.files e ≡ r → stamp_of (file_by s.files e.1) ≡ r.stamp
+  shown-stamp e r shows = sym (row_stamp e.0.name (file_by s.files e.1)) ∙ ap (λ (x : Row). x.stamp) shows
+
+  -- one more row, which has no fault
+  pub look-row : (es : List (Path × ℕ)) (seen : Seen) → IsLookOf s es seen → (e : Path × ℕ) (r : Row) → e.0 ≡ path_of f p r.name →
+      stamp_of (file_by s.files e.1) ≡ r.stamp → (seen' : Seen) → fault_after seen.messages (path_of 0 p r.name) ≡ None
+      → ((u : List ℕ) → is_among u seen'.messages ≡ (is_message_of u (path_of 0 p r.name) || is_among u seen.messages)) →
+      ((u : List ℕ) → is_among u seen'.tmp ≡ (is_tmp_of u (path_of 0 p r.name) || is_among u seen.tmp))
+      → seen'.clock ≡ max seen.clock r.stamp → IsLookOf s (es ++ e ∷ []) seen'
+  look-row es seen look e r path stamp seen' fault messages tmp clock =
+      look-more s es seen look e seen'
+      (ap (fault_after seen.messages) path ∙ fault)
+      (λ u. messages u ∙ ap (λ q. is_message_of u q || is_among u seen.messages) (sym path))
+      (λ u. tmp u ∙ ap (λ q. is_tmp_of u q || is_among u seen.tmp) (sym path))
+      (clock ∙ ap (max seen.clock) (sym stamp))
+
   pub row-at : (at : ℕ) (r : Row) → slice_get (rows_of s f p) at ≡ Some r → IsRowAt s f p at r
   row-at at r is =
       let found = mapped (row_of s.files) (slice_get (entries_in s f p) at) r (sym (get-map (row_of s.files) (entries_in s f p) at) ∙ is) in
       let e = found.0 in
-      let name : e.0.name ≡ r.name = sym (row_name e.0.name (file_by s.files e.1)) ∙ ap (λ (x : Row). x.name) found.2 in
       record {
         entry = e;
         there = found.1;
-        path = in-is f p e.0 (passes (λ x. is_in f p x.0) (entries s.names) at e found.1) ∙ ap (path_of f p) name;
-        stamp = sym (row_stamp e.0.name (file_by s.files e.1)) ∙ ap (λ (x : Row). x.stamp) found.2;
+        path = shown-path e r (passes (λ x. is_in f p x.0) (entries s.names) at e found.1) found.2;
+        stamp = shown-stamp e r found.2;
       }
 
   -- the entries before a position of a directory
@@ -124,11 +144,7 @@ module _ (s : State) (f : ℕ) (p : Place) where
     until-row seen' fault messages tmp stamp =
         let e = row.entry in
         subst (λ es. IsLookOf s es seen') (sym (until-more at e row.there))
-        (look-more s (entries_until at) seen look e seen'
-        (ap (fault_after seen.messages) row.path ∙ fault)
-        (λ u. messages u ∙ ap (λ q. is_message_of u q || is_among u seen.messages) (sym row.path))
-        (λ u. tmp u ∙ ap (λ q. is_tmp_of u q || is_among u seen.tmp) (sym row.path))
-        (stamp ∙ ap (max seen.clock) (sym row.stamp)))
+        (look-row (entries_until at) seen look e r row.path row.stamp seen' fault messages tmp stamp)
 
     -- a row with a fault
     pub refused-row : (error : CoreError) → fault_after seen.messages (path_of 0 p r.name) ≡ Some error → load_refusal s ≡ Some error

@@ -3,7 +3,8 @@ use Rattle.std.proofs.Common.{ℕ, ◌≡◌, List, [], ◌∷◌, ◌++◌, Boo
 use Rattle.std.specs.List.{list_any}
 use Rattle.std.specs.Str.{bytes_eq}
 use Rattle.std.proofs.lemmas.List.Folds.{list_any-append}
-use Rattle.md_dirs.specs.State.{State}
+use Rattle.std.specs.FinMap.{entries}
+use Rattle.md_dirs.specs.State.{State, IsSound}
 use Rattle.md_dirs.specs.declared.paths.Path.{Path}
 use Rattle.md_name.specs.Names.{unique_of, is_message_name}
 use Rattle.md_core.specs.Mailbox.{is_tmp}
@@ -12,7 +13,7 @@ use Rattle.md_core.specs.Looking.{IsLookOf, is_message_of, is_tmp_of, entries_be
 use Rattle.md_core.specs.Submitting.{uses}
 use Rattle.md_core.specs.Used.{is_among}
 use Rattle.md_name.proofs.Either.{either_first}
-use Rattle.md_core.proofs.Worlds.Loading.Order.{before-none}
+use Rattle.md_core.proofs.Worlds.Loading.Order.{before-none, before-all}
 use Rattle.md_core.proofs.Worlds.Loading.Faults.{or_none}
 
 -- ---- the beginning and the end
@@ -21,6 +22,9 @@ pub look-none : (s : State) (seen : Seen) → seen.messages ≡ [] → seen.tmp 
 look-none s seen no_message no_tmp none =
     subst (λ es. IsLookOf s es seen) (sym (before-none s))
     (record { messages = λ u. ap (is_among u) no_message; tmp = λ u. ap (is_among u) no_tmp; clock = none; faultless = refl })
+
+pub look-all : (s : State) (folder : ℕ) (seen : Seen) → IsSound s → folder ≡ s.folders → IsLookOf s (entries_before s folder 0) seen → IsLookOf s (entries s.names) seen
+look-all s folder seen sound all look = subst (λ es. IsLookOf s es seen) (ap (λ (k : ℕ). entries_before s k 0) all ∙ before-all s sound) look
 
 either_use : (u : List ℕ) (es : List (Path × ℕ)) →
     (list_any (λ e. is_message_of u e.0) es || list_any (λ e. is_tmp_of u e.0) es) ≡ list_any (λ e. uses u e.0) es
