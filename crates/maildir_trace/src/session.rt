@@ -66,7 +66,7 @@ impl Session {
     fn store(&mut self, log: &mut Log) -> Result<&mut Store, PlayKind> {
         if self.store.is_none() {
             self.open()?;
-            if let Some(store) = &self.store {
+            if let Some(store) = &mut self.store {
                 store.begin(log)?;
             }
         }

@@ -68,7 +68,9 @@ impl Store {
     }
 
     /// Logs what is there.
-    pub(crate) fn begin(&self, log: &mut Log) -> Result<(), PlayKind> {
+    pub(crate) fn begin(&mut self, log: &mut Log) -> Result<(), PlayKind> {
+        // The log has each name, in order.
+        arrange_all(&mut self.world);
         push_rows(log, &self.names, self.world.dirs(), Form::File);
         if self.with_states {
             push_states(log, &self.names, self.world.dirs());

@@ -5,7 +5,7 @@ ghost use Rattle.md_script.specs.Sessions.{image_of, run_over};
 
 use crate::error::PlayKind;
 use crate::storage::Storage;
-use md_core::{World, arrange_all};
+use md_core::World;
 use md_dirs::{DirError, ImageFile};
 use std::alloc::Global;
 
@@ -19,9 +19,7 @@ pub fn open_store<D: Storage>(
 ) -> Result<World<D>, PlayKind>
     ensures { Gives (λ world. world) result (run_over folders files.items) }
 {
-    let mut dirs = directories::<D>(alloc, folders, files)?;
-    // A world that begins looks at each name in order.
-    arrange_all(&mut dirs)?;
+    let dirs = directories::<D>(alloc, folders, files)?;
     match World::load(alloc, dirs) {
         Ok(world) => Ok(world),
         Err(refused) => Err(PlayKind::from(refused.error)),
