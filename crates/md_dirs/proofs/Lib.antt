@@ -16,6 +16,7 @@ pub mod Ordered
 pub mod Zones
 pub mod Uniques
 pub mod Alike
+pub mod Once
 pub mod Moved
 pub mod Behind
 pub mod Directories

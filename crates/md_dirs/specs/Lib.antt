@@ -3,6 +3,7 @@ pub mod State
 pub mod Calls
 pub mod Rows
 pub mod Lent
+pub mod Once
 pub mod Image
 pub mod Laws
 pub mod Keys

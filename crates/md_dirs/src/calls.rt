@@ -1,11 +1,12 @@
 // The directory calls and looks.
-ghost use Rattle.std.specs.Prelude.{◌≡◌, ◌+◌, ◌^◌, ◌<◌, IsErrOf, IfOk, OnErr, IfSome, length, slice_get, IsPermutation};
+ghost use Rattle.std.specs.Prelude.{◌≡◌, ◌+◌, ◌^◌, ◌<◌, IsErrOf, IfOk, OnErr, IfSome, IsTrue, length, slice_get, IsPermutation};
 ghost use Rattle.std.specs.Option.{option_map};
 ghost use Rattle.md_dirs.specs.Path.{path_of};
 ghost use Rattle.md_dirs.specs.State.{IsSound, bytes_at_path};
 ghost use Rattle.md_dirs.specs.Calls.{Device, Obeys, create, append, link, rename, unlink, list};
 ghost use Rattle.md_dirs.specs.Rows.{rows_of, row_named};
 ghost use Rattle.md_dirs.specs.Lent.{AreNext};
+ghost use Rattle.md_dirs.specs.Once.{HoldsEachOnce};
 ghost use Rattle.md_dirs.specs.declared.calls.DirError.TheVariants.{NoMemory};
 
 use crate::paths::{Path, Place};
@@ -223,6 +224,14 @@ pub trait Dirs {
         } else {
             None
         }
+    }
+
+    /// Whether a directory holds each unique part once: then no two of its names have one. False says nothing, and it is what this answers by
+    /// itself.
+    fn holds_each_once(&self, folder: u32, place: Place) -> bool
+        ensures { IsTrue result → HoldsEachOnce (device self.now).state folder place }
+    {
+        false
     }
 
     /// The bytes of the file of a name. None where the name is not there.

@@ -179,6 +179,10 @@ impl<D: Dirs> Dirs for FailAt<D> {
         self.dirs.look(folder, place, unique)
     }
 
+    fn holds_each_once(&self, folder: u32, place: Place) -> bool {
+        self.dirs.holds_each_once(folder, place)
+    }
+
     fn read(&self, folder: u32, place: Place, name: &[u8]) -> Option<&[u8]> {
         self.dirs.read(folder, place, name)
     }

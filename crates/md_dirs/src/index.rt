@@ -267,6 +267,10 @@ impl Dirs for IndexDirs {
         self.names.look(folder, place, unique, &self.slots)
     }
 
+    fn holds_each_once(&self, folder: u32, place: Place) -> bool {
+        self.names.holds_each_once(folder, place)
+    }
+
     fn read(&self, folder: u32, place: Place, name: &[u8]) -> Option<&[u8]> {
         let file = self.names.file_of(folder, place, name)?;
         let kept = self.slots.get(file)?;

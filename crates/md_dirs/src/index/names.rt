@@ -10,6 +10,7 @@ ghost use Rattle.md_dirs.specs.Files.{files_of, name_row};
 ghost use Rattle.md_dirs.specs.Slots.{slots_of};
 ghost use Rattle.md_dirs.specs.Rows.{is_named};
 ghost use Rattle.md_dirs.specs.Lent.{AreNext};
+ghost use Rattle.md_dirs.specs.Once.{EachOnce};
 ghost use Rattle.md_dirs.specs.Least.{lent_row};
 ghost use Rattle.md_dirs.specs.Named.{is_alike, GoesLast};
 ghost use Rattle.md_dirs.specs.Index.{name_cmp, rows_at, get_name, IsOrderOf};
@@ -475,6 +476,15 @@ impl Names {
         }
         let at = self.table.get_index_of(&key)?;
         Some(self.table.as_slice()[at].shown(slots))
+    }
+
+    /// Whether no two names have one unique part: none stands beside the table. False says nothing.
+    pub fn holds_each_once(&self) -> bool
+        ensures { IsTrue result → EachOnce (finmap.get self.now) }
+    {
+        // To count the rows says that no two of the table are alike.
+        let _rows = self.table.len();
+        self.others.is_empty()
     }
 
     /// How many names there are.

@@ -6,6 +6,7 @@ ghost use Rattle.md_dirs.specs.Path.{path_of};
 ghost use Rattle.md_dirs.specs.State.{file_by};
 ghost use Rattle.md_dirs.specs.Rows.{is_named};
 ghost use Rattle.md_dirs.specs.Lent.{AreNext};
+ghost use Rattle.md_dirs.specs.Once.{EachOnce};
 ghost use Rattle.md_dirs.specs.Index.{directory_number, directory_at, rows_in};
 ghost use Rattle.md_dirs.specs.Files.{files_of, name_row};
 ghost use Rattle.md_dirs.specs.Slots.{slots_of};
@@ -154,6 +155,17 @@ impl Tree {
             return None;
         }
         self.directories[number].look(unique, slots)
+    }
+
+    /// Whether a directory holds each unique part once. False says nothing.
+    pub fn holds_each_once(&self, folder: u32, place: Place) -> bool
+        ensures { IsTrue result → EachOnce (λ name. finmap.get self.now (path_of folder place name)) }
+    {
+        let number = number_of(folder, place);
+        if number >= self.directories.len() {
+            return true;
+        }
+        self.directories[number].holds_each_once()
     }
 
     /// How many names a directory has.

@@ -99,6 +99,10 @@ impl Dirs for Gated {
         self.dirs.arrange(folder, place)
     }
 
+    fn holds_each_once(&self, folder: u32, place: Place) -> bool {
+        self.dirs.holds_each_once(folder, place)
+    }
+
     fn read(&self, folder: u32, place: Place, name: &[u8]) -> Option<&[u8]> {
         self.dirs.read(folder, place, name)
     }
