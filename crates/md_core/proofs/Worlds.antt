@@ -1,7 +1,11 @@
 pub mod UsedLemmas
 pub mod UniqueNames
+pub mod Quick
+pub mod Held
+pub mod Gathered
 pub mod Loading
 pub mod Checking
+pub mod Before
 pub mod Submitted
 pub mod Stepping
 pub mod Steps

@@ -15,6 +15,8 @@ pub mod Stepping
 pub mod Worlds
 pub mod Settling
 pub mod Looking
+pub mod Gathering
+pub mod Quick
 pub mod Accepting
 pub mod Trace
 pub mod Bounds

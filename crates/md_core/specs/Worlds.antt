@@ -1,5 +1,5 @@
 -- What a world keeps beside its run, and how that is told from the run.
-use Rattle.std.specs.Prelude.{ℕ, ◌≡◌, ◌<◌, List, [], ◌∷◌, Some, Bool, length, map, take, slice_get, vec_len, vec_capacity}
+use Rattle.std.specs.Prelude.{ℕ, ◌≡◌, ◌<◌, List, [], ◌∷◌, Option, Some, None, Bool, length, map, take, slice_get, vec_len, vec_capacity}
 use Rattle.md_jobs.specs.declared.error.CoreError.{CoreError}
 use Rattle.md_jobs.specs.declared.step.Event.{Event}
 use Rattle.md_jobs.specs.declared.effect.Effect.{Effect}
@@ -39,15 +39,20 @@ run_of first began jobs events marks = record {
 abbrev pub machine_by : Device → ℕ → List JobView → List Effect → Machine
 machine_by now clock jobs effects = record { dirs = now.state; clock = clock; jobs = standings jobs; effects = effects }
 
+-- the names that a world keeps are those that are used up. Before the first call it may keep none, and has taken no step
+abbrev pub AreUsed : Run → Option (List (List ℕ)) → Type 0
+AreUsed r None = (r.calls ≡ []) × (r.events ≡ [])
+AreUsed r (Some names) = (u : List ℕ) → is_among u names ≡ is_used r u
+
 -- The directories, clock, jobs and effects that a world keeps are those of its run. Its directories failed as often since the
 -- beginning as the run has marks, as many calls of them were made as the run has events, and its used names are those of the run.
-pub record IsWorld (r : Run) (kept : Machine) (held : Device) (used : List (List ℕ))
+pub record IsWorld (r : Run) (kept : Machine) (held : Device) (used : Option (List (List ℕ)))
     (events : List Event) (marks : List Bool) : Type 0 where
   pub run : IsRun r
   pub now : kept ≡ machine_of r
   pub failed : held.failures ≡ failures_of r
   pub called : held.calls ≡ calls_made_of r
-  pub names : (u : List ℕ) → is_among u used ≡ is_used r u
+  pub names : AreUsed r used
   pub as_many : length marks ≡ length events
 
 -- the run goes on by these events, each with some mark

@@ -81,6 +81,16 @@ impl UsedNames {
         UsedNames { messages, tmp }
     }
 
+    /// No name, and room for so many.
+    pub(crate) fn with_room(alloc: Global, count: usize) -> Result<UsedNames, AllocError>
+        ensures { IfOk result (λ used. used ≡ []) }
+    {
+        Ok(UsedNames {
+            messages: NameSet::with_room(alloc, count)?,
+            tmp: NameSet::with_room(alloc, 0)?,
+        })
+    }
+
     /// Whether a name is used.
     pub(crate) fn contains(&self, name: &[u8]) -> bool
         ensures { result ≡ is_among name.now self.now }

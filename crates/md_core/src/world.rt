@@ -10,6 +10,7 @@ use std::marker::Model;
 pub(crate) mod arranging;
 pub(crate) mod call;
 pub(crate) mod checks;
+pub(crate) mod held;
 pub(crate) mod into_dirs;
 pub(crate) mod load;
 pub(crate) mod log;
@@ -36,7 +37,8 @@ pub struct World<D: Dirs> {
     // The clock now, in seconds.
     clock: u64,
     jobs: Vec<Job>,
-    used: UsedNames,
+    // The names that are used up, once there is a call.
+    used: Option<UsedNames>,
     log: Log,
 }
 

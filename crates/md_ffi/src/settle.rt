@@ -54,7 +54,7 @@ fn settle(alloc: Global, world: &mut World<IndexDirs>) -> Result<(), SettleError
 /// Settles the world of a handle: its directories and its clock stay, and it has no job and an empty log. `job` is set to 0.
 ///
 /// Refused `Closed`; `Unanswered`, with `job` the first job without an answer; and out of memory, where each job has its answer.
-/// The world is as it was then. It costs a look at each name, and makes no directory call.
+/// The world is as it was then. It looks at no name, and makes no directory call.
 #[unsafe(no_mangle)]
 #[tactic(auto, unfolding(crate::specs::Doing::Settles))]
 pub extern "C" fn md_ffi_settle(alloc: Global, handle: &mut Handle, job: &mut u64) -> u32

@@ -142,7 +142,7 @@ path-in folder place p is =
     let at : p.place ≡ place = same-place _ _ (and_second _ _ is) in
     λ i. record { folder = f i; place = at i; name = p.name }
 
-in-path : (folder : ℕ) (place : Place) (name : List ℕ) → is_in folder place (path_of folder place name) ≡ true
+pub in-path : (folder : ℕ) (place : Place) (name : List ℕ) → is_in folder place (path_of folder place name) ≡ true
 in-path folder place name = and_from _ _ (eq-eqb folder folder refl) (eq-eqb (place_index place) (place_index place) refl)
 
 -- ---- what was found

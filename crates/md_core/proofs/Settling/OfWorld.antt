@@ -1,22 +1,16 @@
--- What a settled world keeps, and that only memory can be wanting to it. And which job has no answer, by what a world keeps of its jobs.
-use Rattle.std.proofs.Common.{ℕ, ◌≡◌, ◌+◌, inl, inr, List, [], ◌∷◌, Some, None, Bool, cond, not, nat_lt, option_map, position, refl, sym, ap, subst, ◌∙◌}
-use Rattle.std.specs.List.{list_any, position_or_len}
+-- What a settled world keeps. And which job has no answer, by what a world keeps of its jobs.
+use Rattle.std.proofs.Common.{ℕ, ◌≡◌, ◌+◌, List, [], ◌∷◌, Option, Some, None, Bool, cond, not, nat_lt, option_map, position, refl, sym, ap, subst, ◌∙◌}
+use Rattle.std.specs.List.{position_or_len}
 use Rattle.std.proofs.lemmas.List.{length-map}
-use Rattle.std.specs.FinMap as finmap
 use Rattle.md_dirs.specs.Calls.{Device}
-use Rattle.md_core.proofs.Values.{CoreError, Effect, Event}
-use Rattle.md_jobs.specs.declared.error.CoreError.TheVariants as core
-use Rattle.md_core.specs.Loading.{load_refusal}
-use Rattle.md_core.specs.Looking.{IsFault}
+use Rattle.md_core.proofs.Values.{Effect, Event}
 use Rattle.md_core.specs.Machine.{Machine, is_working}
 use Rattle.md_core.specs.Runs.{Run}
 use Rattle.md_core.specs.Settling.{first_unanswered, settled}
 use Rattle.md_core.specs.Standing.{JobView, standings}
 use Rattle.md_core.specs.Stepping.{IsRun}
-use Rattle.md_core.specs.Submitting.{uses}
-use Rattle.md_core.specs.Used.{is_among}
 use Rattle.md_core.specs.Worlds.{IsWorld, run_of, machine_by}
-use Rattle.md_core.proofs.Worlds.Submitted.{begun-world}
+use Rattle.md_core.proofs.Worlds.Submitted.{begun-bare}
 use Rattle.md_core.proofs.Settling.EachRun.{is_run-settled}
 
 place-standings : (jobs : List JobView) → position_or_len is_working (standings jobs) ≡ position_or_len (λ job. is_working job.standing) jobs
@@ -28,7 +22,7 @@ position-standings jobs =
     λ i. cond (nat_lt (place-standings jobs i) (length-map jobs (λ (job : JobView). job.standing) i)) (Some (place-standings jobs i)) None
 
 module _ (first : Device) (began : ℕ) (jobs : List JobView) (events : List Event) (marks : List Bool) (held : Device) (clock : ℕ) (effects : List Effect)
-    (used : List (List ℕ)) (world : IsWorld (run_of first began jobs events marks) (machine_by held clock jobs effects) held used events marks) where
+    (used : Option (List (List ℕ))) (world : IsWorld (run_of first began jobs events marks) (machine_by held clock jobs effects) held used events marks) where
   abbrev run : Run
   run = run_of first began jobs events marks
 
@@ -45,17 +39,8 @@ module _ (first : Device) (began : ℕ) (jobs : List JobView) (events : List Eve
   begins : IsRun (run_of held clock [] [] [])
   begins = subst (λ (r : Run). IsRun r) (sym settled-is) (is_run-settled run world.run)
 
-  pub settled-world : (used' : List (List ℕ)) →
-      ((u : List ℕ) → is_among u used' ≡ list_any (λ e. uses u e.0) (finmap.entries held.state.names)) →
-      IsWorld (run_of held clock [] [] []) (machine_by held clock [] []) held used' [] []
-  settled-world used' names = begun-world held begins.sound begins.loaded clock begins.stamped used' names
-
-  -- no name has a fault
-  pub only-memory : (e : CoreError) → IsFault (load_refusal held.state) e → e ≡ core.NoMemory
-  only-memory e fault = elim fault [
-    | inl memory ↦ memory
-    | inr some ↦ let none = begins.loaded in cc
-  ]
+  pub settled-world : IsWorld (run_of held clock [] [] []) (machine_by held clock [] []) held None [] []
+  settled-world = begun-bare held begins.sound begins.loaded clock begins.stamped
 
   -- the first job without an answer, by the jobs that are held
   pub unanswered-is : (r : Run) → run ≡ r → first_unanswered r ≡ option_map (λ at. at + 1) (position (λ job. is_working job.standing) jobs)

@@ -12,7 +12,7 @@ use Rattle.md_jobs.specs.Asked.{is_fault}
 use Rattle.md_core.specs.Machine.{Machine, Standing, working, answered, is_working, Occurrence, moment_of, standing_of, after_event, after_turn, turn_of, job_at, step_of, step_out}
 use Rattle.md_core.specs.Standing.{JobView, TakesTurn, standings}
 use Rattle.md_core.specs.Runs.{Run, machine_of, jobs_of, failures_of, and_event, step_refusal, answer_of}
-use Rattle.md_core.specs.Worlds.{IsWorld, run_of, machine_by, occurrences}
+use Rattle.md_core.specs.Worlds.{IsWorld, AreUsed, run_of, machine_by, occurrences}
 use Rattle.md_core.proofs.Runs.Events.{goes_on-exact, happens-turned, done-turned, job_at-place}
 use Rattle.md_core.proofs.Runs.ByEvent.{machine-and_event}
 use Rattle.md_core.proofs.Runs.Extended.{is_run-and_event}
@@ -37,6 +37,11 @@ calls-set [] place old new at same = refl
 calls-set (x ∷ jobs) zero old new at same = let e : x ≡ old = cc in ap (λ c. c ∷ map (λ job. job.call) jobs) (same ∙ ap (λ (j : JobView). j.call) (sym e))
 calls-set (x ∷ jobs) (suc place) old new at same = ap (λ cs. x.call ∷ cs) (calls-set jobs place old new at same)
 
+-- where a job is, a call is
+some-call : (jobs : List JobView) (place : ℕ) (job : JobView) → slice_get jobs place ≡ Some job → map (λ job. job.call) jobs ≡ [] → ⊥
+some-call [] place job at none = cc
+some-call (x ∷ jobs) place job at none = cc
+
 -- how jobs stand, at a place and after a change of one
 standing-at : (jobs : List JobView) (place : ℕ) (job : JobView) → slice_get jobs place ≡ Some job → slice_get (standings jobs) place ≡ Some job.standing
 standing-at [] place job at = cc
@@ -57,7 +62,7 @@ pub moment-is : (clock now : ℕ) (own : Option ℕ) (at : Moment) → at.clock 
 moment-is clock now own at c o job = λ i. record { clock = sym c i; own = sym o i }
 
 module _ (first : Device) (began : ℕ) (jobs : List JobView) (events : List Event) (marks : List Bool) (held : Device) (clock : ℕ) (effects : List Effect)
-    (used : List (List ℕ))
+    (used : Option (List (List ℕ)))
     (event : Event) (place : ℕ) (is : place + 1 ≡ event.job) (job : JobView) (there : slice_get jobs place ≡ Some job)
     (out : StepOut) (effect : Option Effect) (job' : JobView) (held' : Device) where
   abbrev pub run : Run
@@ -126,13 +131,18 @@ module _ (first : Device) (began : ℕ) (jobs : List JobView) (events : List Eve
     failed true h w = omega arith
     failed false h w = omega arith
 
+    -- a job is there, so the names are kept already
+    still-used : (names : Option (List (List ℕ))) → AreUsed run names → AreUsed (and_event run marked_event) names
+    still-used None none = absurd (some-call jobs place job there none.0)
+    still-used (Some names) used_up = used_up
+
     stepped : IsWorld (and_event run marked_event) kept' held' used (events ++ event ∷ []) (marks ++ is_fault out.reply ∷ [])
     stepped = record {
       run = is_run-and_event run marked_event world.run refusal;
       now = sym goes-on ∙ ap (λ (m : Machine). after_event m marked_event) world.now ∙ sym (machine-and_event run marked_event);
       failed = failed (is_fault out.reply) turned.takes.failed world.failed ∙ ap (λ n. first.failures + n) (sym (count-push run.events marked_event));
       called = simp length-append (let one = turned.takes.called in let all = world.called in omega arith);
-      names = world.names;
+      names = still-used used world.names;
       as_many = simp length-append (let same = world.as_many in omega arith);
     }
 

@@ -5,6 +5,7 @@ ghost use Rattle.md_jobs.specs.declared.call.Call.TheVariants.{Deliver, Move, Co
 ghost use Rattle.md_core.specs.Submitting.{submit_refusal, no_folder, too_many, is_used as is_used_by, bad_tries, first_met, checks_of_look_up};
 
 use crate::world::World;
+use crate::world::held::is_held;
 use md_dirs::Dirs;
 use md_jobs::{Call, CoreError};
 use md_name::is_unique_name;
@@ -212,6 +213,9 @@ impl<D: Dirs> World<D> {
     fn is_used(&self, name: &[u8]) -> bool
         ensures { result ≡ is_used_by self.now name.now }
     {
-        self.used.contains(name)
+        match &self.used {
+            Some(used) => used.contains(name),
+            None => is_held(&self.dirs, name),
+        }
     }
 }

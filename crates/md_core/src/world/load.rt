@@ -8,6 +8,7 @@ ghost use Rattle.md_core.specs.Tracing.{trace_of};
 use crate::world::World;
 use crate::world::log::Log;
 use crate::world::looking::look;
+use crate::world::looking::quick::quick_look;
 use md_dirs::Dirs;
 use md_jobs::{CoreError, Image};
 use std::alloc::Global;
@@ -33,6 +34,18 @@ impl<D: Dirs> World<D> {
         ensures err { IfErr result (λ r. r.dirs ≡ dirs) }
     {
         let _sound = dirs.folders();
+        if let Some(clock) = quick_look(alloc, &dirs) {
+            return Ok(World {
+                alloc,
+                image: Image::of(&dirs),
+                dirs,
+                began: clock,
+                clock,
+                jobs: Vec::new(alloc),
+                used: None,
+                log: Log::new(alloc),
+            });
+        }
         match look(alloc, &dirs) {
             Ok(looked) => Ok(World {
                 alloc,
@@ -41,7 +54,7 @@ impl<D: Dirs> World<D> {
                 began: looked.clock,
                 clock: looked.clock,
                 jobs: Vec::new(alloc),
-                used: looked.used,
+                used: Some(looked.used),
                 log: Log::new(alloc),
             }),
             Err(error) => Err(LoadRefused { error, dirs }),

@@ -12,6 +12,9 @@ ghost use Rattle.md_core.specs.Runs.{first_clock};
 ghost use Rattle.md_core.specs.Submitting.{uses};
 ghost use Rattle.md_core.specs.Used.{is_among};
 
+pub(crate) mod names;
+pub(crate) mod quick;
+
 use crate::used::{NameSet, UsedNames};
 use md_dirs::{Dirs, Place, RowRef};
 use md_jobs::CoreError;

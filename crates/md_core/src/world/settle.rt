@@ -8,9 +8,8 @@ ghost use Rattle.md_core.specs.Tracing.{trace_of};
 use crate::jobs::job::Job;
 use crate::world::World;
 use crate::world::log::Log;
-use crate::world::looking::look;
 use md_dirs::Dirs;
-use md_jobs::{CoreError, Image, JobId};
+use md_jobs::{Image, JobId};
 use thiserror::Error;
 
 /// Why a world does not settle.
@@ -43,8 +42,8 @@ impl<D: Dirs> World<D> {
     /// The world with its directories, its mailbox and its clock as they are, with no job and an empty log. It may take 10,000 calls again,
     /// and of the names of earlier deliveries and copies only those are used that the directories hold now.
     ///
-    /// It is refused as `Unanswered`, with the first such job, where a job has no answer; else only as `NoMemory`, where a growth is
-    /// refused. The world then comes back as it was. Every name is looked at once, as in `load`, and no directory call is made.
+    /// It is refused as `Unanswered`, with the first such job, where a job has no answer, and the world then comes back as it was. It takes no
+    /// memory, looks at no name, and makes no directory call.
     pub fn settle(self) -> Result<World<D>, SettleRefused<D>>
         ensures ok { IfOk result (λ w. w ≡ settled self) }
         ensures answered { OnOk result (first_unanswered self ≡ None) }
@@ -58,35 +57,22 @@ impl<D: Dirs> World<D> {
                 world: self,
             });
         }
-        match look(self.alloc, &self.dirs) {
-            Ok(looked) => {
-                let World {
-                    alloc,
-                    dirs,
-                    clock,
-                    ..
-                } = self;
-                Ok(World {
-                    alloc,
-                    image: Image::of(&dirs),
-                    dirs,
-                    began: clock,
-                    clock,
-                    jobs: Vec::new(alloc),
-                    used: looked.used,
-                    log: Log::new(alloc),
-                })
-            }
-            Err(error) => {
-                // No name has a fault, since the directories of every run load.
-                let memory = matches!(error, CoreError::NoMemory);
-                prove!(memory);
-                Err(SettleRefused {
-                    error: SettleError::NoMemory,
-                    world: self,
-                })
-            }
-        }
+        let World {
+            alloc,
+            dirs,
+            clock,
+            ..
+        } = self;
+        Ok(World {
+            alloc,
+            image: Image::of(&dirs),
+            dirs,
+            began: clock,
+            clock,
+            jobs: Vec::new(alloc),
+            used: None,
+            log: Log::new(alloc),
+        })
     }
 
     // The number of the first job that has no answer.

@@ -2,6 +2,7 @@
 ghost use Rattle.std.specs.Prelude.{◌≡◌, ◌+◌, ◌||◌, Some, None, length, vec_len, vec_capacity, MatchResult, IfOk, IfErr, OnOk, OnErr, ◌<◌};
 ghost use Rattle.md_core.specs.Runs.{and_call, effects_of, IsRefusal};
 ghost use Rattle.md_core.specs.Submitting.{submit_refusal, makes};
+ghost use Rattle.md_core.specs.Gathering.{KeepsMade};
 ghost use Rattle.md_core.specs.Used.{is_among};
 ghost use Rattle.md_core.specs.Interleaving.{Interleaves};
 ghost use Rattle.md_core.specs.Tracing.{trace_of};
@@ -9,9 +10,11 @@ ghost use Rattle.md_core.specs.Tracing.{trace_of};
 use crate::jobs::job::Job;
 use crate::used::UsedNames;
 use crate::world::World;
+use crate::world::looking::names::names_in;
 use crate::world::room::make_room;
 use md_dirs::Dirs;
 use md_jobs::{Call, CoreError, JobId};
+use std::alloc::{AllocError, Global};
 
 /// A call that was not submitted, and why.
 #[derive(Debug, Drop)]
@@ -20,15 +23,11 @@ pub struct SubmitRefused {
     pub call: Call,
 }
 
-// Makes room for the job, and uses the name that its call makes.
-fn prepare(jobs: &mut Vec<Job>, used: &mut UsedNames, call: &Call) -> Result<(), CoreError>
-    ensures jobs { jobs.new.items ≡ jobs.old.items }
-    ensures room { OnOk result (vec_len jobs.new < vec_capacity jobs.new) }
-    ensures used { OnOk result ((u : _) → is_among u used.new ≡ (makes u call.now || is_among u used.old)) }
-    ensures memory { IfErr result (λ e. e ≡ CoreError.NoMemory) }
-    ensures same { OnErr result (used.new ≡ used.old) }
+// Uses the name that a call makes.
+fn use_name(used: &mut UsedNames, call: &Call) -> Result<(), AllocError>
+    ensures ok { OnOk result ((u : _) → is_among u used.new ≡ (makes u call.now || is_among u used.old)) }
+    ensures err { OnErr result (used.new ≡ used.old) }
 {
-    make_room(jobs)?;
     match call {
         Call::Deliver { unique, .. } => used.insert(unique.as_slice())?,
         Call::Copy { fresh, .. } => used.insert(fresh.as_slice())?,
@@ -38,6 +37,31 @@ fn prepare(jobs: &mut Vec<Job>, used: &mut UsedNames, call: &Call) -> Result<(),
         Call::Expunge { .. } => {}
         Call::Clean { .. } => {}
     }
+    Ok(())
+}
+
+// Makes room for the job, and uses the name that its call makes. Before the first job the names of the directories are used.
+fn prepare<D: Dirs>(
+    alloc: Global,
+    dirs: &D,
+    jobs: &mut Vec<Job>,
+    used: &mut Option<UsedNames>,
+    call: &Call,
+) -> Result<(), CoreError>
+    ensures jobs { jobs.new.items ≡ jobs.old.items }
+    ensures room { OnOk result (vec_len jobs.new < vec_capacity jobs.new) }
+    ensures used { OnOk result (KeepsMade (D.device dirs.now).state call.now used.old used.new) }
+    ensures memory { IfErr result (λ e. e ≡ CoreError.NoMemory) }
+    ensures same { OnErr result (used.new ≡ used.old) }
+{
+    make_room(jobs)?;
+    if let Some(names) = used {
+        use_name(names, call)?;
+        return Ok(());
+    }
+    let mut names = names_in(alloc, dirs)?;
+    use_name(&mut names, call)?;
+    *used = Some(names);
     Ok(())
 }
 
@@ -58,7 +82,14 @@ impl<D: Dirs> World<D> {
         if let Some(error) = self.refusal_of(&call) {
             return Err(SubmitRefused { error, call });
         }
-        if let Err(error) = prepare(&mut self.jobs, &mut self.used, &call) {
+        let prepared = prepare(
+            self.alloc,
+            &self.dirs,
+            &mut self.jobs,
+            &mut self.used,
+            &call,
+        );
+        if let Err(error) = prepared {
             return Err(SubmitRefused { error, call });
         }
         self.jobs.push_reserved(Job::new(self.alloc, call));

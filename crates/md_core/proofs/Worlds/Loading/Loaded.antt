@@ -156,7 +156,7 @@ unique-message name is =
     let some = (both_true _ _ (both_true _ _ (both_true _ _ maildir).0).0) in
     (λ i. not (dot name some.0 i) && nat_lt 0 (length (unique_of name))) ∙ (λ i. some.1 i && some.0 i)
 
-none-has : (q : Path × ℕ → Bool) (es : List (Path × ℕ)) (x : Path × ℕ) → list_any q es ≡ false → Has es x → q x ≡ false
+pub none-has : (q : Path × ℕ → Bool) (es : List (Path × ℕ)) (x : Path × ℕ) → list_any q es ≡ false → Has es x → q x ≡ false
 none-has q [] x none has = absurd has
 none-has q (e ∷ es) x none has = elim has [
   | inl is ↦ ap q is ∙ first_none (q e) (list_any q es) none

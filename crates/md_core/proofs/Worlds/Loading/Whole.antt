@@ -26,7 +26,8 @@ look-none s seen no_message no_tmp none =
 pub look-all : (s : State) (folder : ℕ) (seen : Seen) → IsSound s → folder ≡ s.folders → IsLookOf s (entries_before s folder 0) seen → IsLookOf s (entries s.names) seen
 look-all s folder seen sound all look = subst (λ es. IsLookOf s es seen) (ap (λ (k : ℕ). entries_before s k 0) all ∙ before-all s sound) look
 
-either_use : (u : List ℕ) (es : List (Path × ℕ)) →
+-- a name is used by a message, or by a file in tmp
+pub either_use : (u : List ℕ) (es : List (Path × ℕ)) →
     (list_any (λ e. is_message_of u e.0) es || list_any (λ e. is_tmp_of u e.0) es) ≡ list_any (λ e. uses u e.0) es
 either_use u [] = refl
 either_use u (e ∷ es) =

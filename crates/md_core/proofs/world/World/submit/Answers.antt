@@ -3,7 +3,7 @@ use Rattle.md_core.specs.Runs.{Run, effects_of}
 use Rattle.md_core.specs.Submitting.{submit_refusal}
 use Rattle.md_core.specs.Worlds.{run_of}
 use Rattle.md_core.proofs.Traces.All.{interleaves}
-use Rattle.md_core.proofs.Worlds.Submitted.{submit-world, run-submitted, effects-submitted}
+use Rattle.md_core.proofs.Worlds.Submitted.{submit-kept, run-submitted, effects-submitted}
 use Rattle.md_core.proofs.world.World.submit.Goals as goal
 
 pub invariant_of-self-2 : goal.invariant_of-self-2
@@ -13,9 +13,9 @@ invariant_of-self-2 g c =
     let held = g.D.Dirs.device s.dirs in
     let goes : submit_refusal (run_of first s.began s.jobs.items s.log.events.items s.log.marks.items) c.args.call ≡ None =
     ap (λ (r : Run). submit_refusal r c.args.call) c.self.view_is ∙ sym c.in_default.ensures in
-    rw (c.push_reserved.ensures.items, c.new.ensures, c.prepare.ensures.jobs)
-    (submit-world first s.began s.jobs.items s.log.events.items s.log.marks.items held s.clock s.log.effects.items s.used c.args.call c.self.invariant goes
-    c.prepare.new.used c.in_default-prepare.ensures.used)
+    rw (c.push_reserved.ensures.items, c.new.ensures, c.prepare-prepared.ensures.jobs)
+    (submit-kept first s.began s.jobs.items s.log.events.items s.log.marks.items held s.clock s.log.effects.items s.used c.args.call c.self.invariant goes
+    c.prepare-prepared.new.used c.in_default-prepared.ensures.used)
 
 pub returns-clause-theorem : goal.returns-clause-theorem
 returns-clause-theorem g c = interleaves _ (invariant_of-self-2 g c).run
@@ -26,10 +26,7 @@ returns-clause-effects g c =
     let s = c.self.inside in
     let first = g.D.Dirs.device s.image.value in
     let held = g.D.Dirs.device s.dirs in
-    let goes : submit_refusal (run_of first s.began s.jobs.items s.log.events.items s.log.marks.items) c.args.call ≡ None =
-    ap (λ (r : Run). submit_refusal r c.args.call) c.self.view_is ∙ sym c.in_default.ensures in
-    rw (c.push_reserved.ensures.items, c.new.ensures, c.prepare.ensures.jobs)
+    rw (c.push_reserved.ensures.items, c.new.ensures, c.prepare-prepared.ensures.jobs)
     (ap effects_of (run-submitted first s.began s.jobs.items s.log.events.items s.log.marks.items held s.clock s.log.effects.items s.used c.args.call)
     ∙ effects-submitted first s.began s.jobs.items s.log.events.items s.log.marks.items held s.clock s.log.effects.items s.used c.args.call c.self.invariant
-    goes c.prepare.new.used c.in_default-prepare.ensures.used
     ∙ ap effects_of c.self.view_is)
