@@ -9,6 +9,7 @@ mod runs;
 mod scene;
 mod texts;
 mod threads;
+mod used;
 
 use md_core::{Answer, Call, CoreError, World};
 use md_dirs::{Bytes, Dirs, Place};

@@ -4,6 +4,7 @@ use super::faults::{Act, acts};
 use super::loads::{Named, directories, is_first, is_refused};
 use super::runs::{gives_back, stops};
 use super::texts::{are_told, refusals_are_told};
+use super::used::stay_used;
 use super::{are_right, load};
 use md_core::{CoreError, World};
 use md_dirs::{FailAt, Place, PlainDirs};
@@ -30,6 +31,8 @@ pub(super) enum Scene {
     BadName(Place),
     /// Files that are refused by a fault, before which none comes in order.
     Fault([Named; 3], CoreError),
+    /// Deliveries under names that are used.
+    Used,
     /// The texts of errors.
     Texts,
     /// Those of refused calls and settles.
@@ -69,6 +72,7 @@ fn is_played(alloc: Global, scene: Scene) -> Result<bool, CoreError> {
         Scene::End(next, clock) => begins_again(alloc, next, clock),
         Scene::BadName(place) => is_refused(alloc, place),
         Scene::Fault(files, fault) => is_first(alloc, &files, fault),
+        Scene::Used => stay_used(alloc),
         Scene::Texts => are_told(alloc),
         Scene::Refusals => refusals_are_told(alloc),
     }
