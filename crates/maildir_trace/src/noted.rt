@@ -1,15 +1,15 @@
 // Directories that note the call that was made of them last.
-ghost use Rattle.std.specs.Prelude.{◌≡◌, None, Ok, IsErrOf, IfOk, OnErr, IfSome, option_map};
+ghost use Rattle.std.specs.Prelude.{◌≡◌, None, Ok, IsErrOf, IfOk, OnErr, IfSome, filter, option_map};
 ghost use Rattle.md_dirs.specs.Calls.{Obeys, create, append, link, rename, unlink, list};
 ghost use Rattle.md_dirs.specs.Image.{image_state, image_refusal};
-ghost use Rattle.md_dirs.specs.Rows.{rows_of, row_named};
+ghost use Rattle.md_dirs.specs.Rows.{rows_of, row_named, is_old};
 ghost use Rattle.maildir_trace.specs.declared.noted.Asked.TheVariants as asked;
 
-use md_dirs::{Bytes, DirError, Dirs, ImageFile, Path, Place, Row, RowRef};
+use md_dirs::{Bytes, DirError, Dirs, ImageFile, PackedRows, Path, Place, Row, RowRef};
 use md_script::Storage;
 use std::alloc::{AllocError, Global};
 
-/// A directory call, with its paths. A look for one message is a listing, of which one row is kept.
+/// A directory call, with its paths. A look for one message, or for old files, is a listing of which some rows are kept.
 #[derive(Drop)]
 pub(crate) enum Asked {
     Create(Path),
@@ -162,6 +162,22 @@ impl<D: Dirs> Dirs for NotedDirs<D> {
     {
         note(&mut self.noted, Ok(Asked::List { folder, place }));
         self.dirs.find(folder, place, unique)
+    }
+
+    fn list_old(
+        &mut self,
+        alloc: Global,
+        folder: u32,
+        place: Place,
+        now: u64,
+        seconds: u64,
+    ) -> Result<PackedRows, DirError>
+        ensures meets { Obeys (list folder place) (D.device self.old.dirs) result (D.device self.new.dirs) }
+        ensures rows { IfOk result (λ rows. rows ≡ filter (is_old now seconds) (rows_of (D.device self.old.dirs).state folder place)) }
+        ensures noted { IfSome self.new.noted (λ call. call ≡ asked.List folder place) }
+    {
+        note(&mut self.noted, Ok(Asked::List { folder, place }));
+        self.dirs.list_old(alloc, folder, place, now, seconds)
     }
 
     fn folders(&self) -> u32 {

@@ -1,5 +1,5 @@
 -- What a directory shows: its names in order, each with its file's stamp and size.
-use Rattle.std.specs.Prelude.{ℕ, List, [], ◌∷◌, Option, Some, None, Bool, true, ◌==◌, ◌&&◌, nat_eq, map, filter, find, length, drop}
+use Rattle.std.specs.Prelude.{ℕ, ◌-◌, List, [], ◌∷◌, Option, Some, None, Bool, true, ◌==◌, ◌&&◌, nat_eq, nat_le, map, filter, find, length, drop}
 use Rattle.std.specs.List.{starts_with}
 use Rattle.std.specs.FinMap as finmap
 use Rattle.md_dirs.specs.Path.{place_index}
@@ -39,3 +39,12 @@ is_named unique name = starts_with nat_eq name unique && ends_unique (drop (leng
 -- the first row of a directory that has the unique name
 abbrev pub row_named : List ℕ → List Row → Option Row
 row_named unique rows = find (λ row. is_named unique row.name) rows
+
+-- whether a row's file has not been used for so many seconds at a moment. A moment before the stamp counts as no time
+abbrev pub is_old : ℕ → ℕ → Row → Bool
+is_old now seconds row = nat_le seconds (now - row.stamp)
+
+-- the name of the first row, and no byte where there is none
+abbrev pub first_name : List Row → List ℕ
+first_name [] = []
+first_name (row ∷ rows) = row.name

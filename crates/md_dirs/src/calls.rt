@@ -1,14 +1,15 @@
 // The directory calls and looks.
-ghost use Rattle.std.specs.Prelude.{◌≡◌, ◌+◌, ◌^◌, ◌<◌, IsErrOf, IfOk, OnErr, IfSome, IsTrue, length, slice_get, IsPermutation};
+ghost use Rattle.std.specs.Prelude.{◌≡◌, ◌+◌, ◌^◌, ◌<◌, IsErrOf, IfOk, OnErr, IfSome, IsTrue, length, filter, slice_get, IsPermutation};
 ghost use Rattle.std.specs.Option.{option_map};
 ghost use Rattle.md_dirs.specs.Path.{path_of};
 ghost use Rattle.md_dirs.specs.State.{IsSound, bytes_at_path};
 ghost use Rattle.md_dirs.specs.Calls.{Device, Obeys, create, append, link, rename, unlink, list};
-ghost use Rattle.md_dirs.specs.Rows.{rows_of, row_named};
+ghost use Rattle.md_dirs.specs.Rows.{rows_of, row_named, is_old};
 ghost use Rattle.md_dirs.specs.Lent.{AreNext};
 ghost use Rattle.md_dirs.specs.Once.{HoldsEachOnce};
 ghost use Rattle.md_dirs.specs.declared.calls.DirError.TheVariants.{NoMemory};
 
+use crate::packed::PackedRows;
 use crate::paths::{Path, Place};
 use crate::rows::{Row, RowRef, first_named, is_below, is_below_info, is_named};
 use md_name::Bytes;
@@ -57,8 +58,8 @@ impl<T: Drop> From<AllocFailed<T>> for DirError {
 /// checks; neither changes anything. The looks, which take `&self`, are no steps: they take no memory and never fail, but
 /// for `rows_from` and `rows_unordered`, which take memory for the rows that they lend.
 pub trait Dirs {
-    /// The folders, the names and the files; how often a call has failed by itself; and how many calls were made, a `find` among
-    /// them. A call that is refused when out of memory is none, and neither is a look.
+    /// The folders, the names and the files; how often a call has failed by itself; and how many calls were made, `find` and
+    /// `list_old` among them. A call that is refused when out of memory is none, and neither is a look.
     ghost device: { Self → Device };
 
     /// Makes an empty file, as POSIX's open with O_CREAT and O_EXCL. `NotFound` where the folder is not there, `Exists`
@@ -110,6 +111,37 @@ pub trait Dirs {
             Ok(rows) => Ok(first_named(rows, unique)),
             Err(error) => Err(error),
         }
+    }
+
+    /// Lists the rows of a directory whose files have not been used for so many seconds at the moment `now`, by their stamps, packed. It is the
+    /// listing of that directory, with its refusals, of which these rows are kept. By itself it copies them by looks, and makes the call as a
+    /// `find`, so that memory which is wanting comes before the call.
+    fn list_old(
+        &mut self,
+        alloc: Global,
+        folder: u32,
+        place: Place,
+        now: u64,
+        seconds: u64,
+    ) -> Result<PackedRows, DirError>
+        ensures meets { Obeys (list folder place) (device self.old) result (device self.new) }
+        ensures rows { IfOk result (λ rows. rows ≡ filter (is_old now seconds) (rows_of (device self.old).state folder place)) }
+    {
+        let mut old = PackedRows::new(alloc);
+        if folder >= self.folders() {
+            self.find(folder, place, &[])?;
+            return Ok(old);
+        }
+        self.arrange(folder, place)?;
+        let count = self.count(folder, place);
+        let mut from = 0;
+        while from < count {
+            let rows = self.rows_from(alloc, folder, place, from)?;
+            old.push_old(alloc, &rows, now, seconds)?;
+            from += rows.len();
+        }
+        self.find(folder, place, &[])?;
+        Ok(old)
     }
 
     /// The number of folders.

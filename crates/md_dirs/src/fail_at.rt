@@ -1,10 +1,11 @@
 // Directories of which one call fails.
-ghost use Rattle.std.specs.Prelude.{◌≡◌, ◌+◌, ◌-◌, IsTrue, ◌↔◌, IsErrOf, IfOk, OnErr, if◌then◌else◌};
+ghost use Rattle.std.specs.Prelude.{◌≡◌, ◌+◌, ◌-◌, IsTrue, ◌↔◌, IsErrOf, IfOk, OnErr, filter, if◌then◌else◌};
 ghost use Rattle.md_dirs.specs.Calls.{Obeys, create, append, link, rename, unlink, list};
-ghost use Rattle.md_dirs.specs.Rows.{rows_of, row_named};
+ghost use Rattle.md_dirs.specs.Rows.{rows_of, row_named, is_old};
 
 use crate::calls::{DirError, Dirs};
 use crate::count::Count;
+use crate::packed::PackedRows;
 use crate::paths::{Path, Place};
 use crate::rows::{Row, RowRef};
 use md_name::Bytes;
@@ -12,7 +13,7 @@ use std::alloc::{AllocError, Global};
 
 /// Other directories, of which one call fails.
 ///
-/// Each call counts, whatever it answers, `list` and `find` alike. The call at the count answers `Fault` and doesn't reach
+/// Each call counts, whatever it answers, `list`, `find` and `list_old` alike. The call at the count answers `Fault` and doesn't reach
 /// the other directories; every other call is passed on, and so is every look.
 #[derive(Drop)]
 pub struct FailAt<D> {
@@ -138,6 +139,24 @@ impl<D: Dirs> Dirs for FailAt<D> {
             return Err(DirError::Fault);
         }
         self.dirs.find(folder, place, unique)
+    }
+
+    fn list_old(
+        &mut self,
+        alloc: Global,
+        folder: u32,
+        place: Place,
+        now: u64,
+        seconds: u64,
+    ) -> Result<PackedRows, DirError>
+        ensures meets { Obeys (list folder place) (and_own D.device self.old) result (and_own D.device self.new) }
+        ensures turn { IsTurn (list folder place) (failing D.device self.old) result (failing D.device self.new) }
+        ensures rows { IfOk result (λ rows. rows ≡ filter (is_old now seconds) (rows_of (D.device self.old.dirs).state folder place)) }
+    {
+        if self.is_due() {
+            return Err(DirError::Fault);
+        }
+        self.dirs.list_old(alloc, folder, place, now, seconds)
     }
 
     fn folders(&self) -> u32 {

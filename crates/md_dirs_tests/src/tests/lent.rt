@@ -58,7 +58,30 @@ fn lends_from<D: Dirs>(
     Ok(())
 }
 
-/// Fills directories, and looks at their rows before a listing and after it, from positions about those that are lent at once.
+// A listing keeps the rows of old files, in their order, and no other.
+fn lists_old<D: Dirs>(
+    rt: &impl Abort,
+    model: &Model,
+    dirs: &mut D,
+    now: u64,
+    seconds: u64,
+) -> Result<(), DirError> {
+    let mut old = dirs.list_old(model.alloc, 0, Place::Cur, now, seconds)?;
+    for at in 0..model.plain.count(0, Place::Cur) {
+        let Some(row) = model.plain.row_at(0, Place::Cur, at) else {
+            continue;
+        };
+        if now.saturating_sub(row.stamp) >= seconds {
+            assert!(rt; !old.is_empty() && old.first_name() == row.name, "row {at}");
+            old.drop_first();
+        }
+    }
+    assert!(rt; old.is_empty(), "old at {now}");
+    Ok(())
+}
+
+/// Fills directories, and looks at their rows before a listing and after it, from positions about those that are lent at once. Then it lists
+/// those of old files.
 pub fn lend_all<D: Dirs>(
     rt: &impl Abort,
     model: &mut Model,
@@ -77,6 +100,9 @@ pub fn lend_all<D: Dirs>(
         0, 1, 127, 128, 254, 255, 256, 257, 511, 998, 999, 1000, 1001,
     ] {
         lends_from(rt, model, dirs, from, most)?;
+    }
+    for seconds in [0, 1, 255, 256, 257, 1000] {
+        lists_old(rt, model, dirs, 600, seconds)?;
     }
     Ok(())
 }
