@@ -3,16 +3,15 @@ ghost use Rattle.std.specs.Prelude.{◌≡◌, IfOk, IfErr, IsErrOf, OnErr, None
 ghost use Rattle.md_dirs.specs.Calls.{Obeys, unlink};
 ghost use Rattle.md_jobs.specs.Tasks.Cleaning.{Remove};
 ghost use Rattle.md_jobs.specs.Turn.{Takes, IsUntouched};
-ghost use Rattle.md_jobs.specs.Machines.Clean.{new_cleaning, cleaning_turn, look_turn, unlink_turn, is_old as is_old_by, old_rows as old_rows_by, after_old, after_unlink, tmp as tmp_of};
+ghost use Rattle.md_jobs.specs.Machines.Clean.{new_cleaning, cleaning_turn, look_turn, unlink_turn, after_old, after_unlink, tmp as tmp_of};
 
 use crate::answer::Answer;
 use crate::error::CoreError;
 use crate::refusal::Refusal;
 use crate::step::{DirCall, DirReply, Moment};
 use crate::turn::{Turned, reply_of};
-use md_dirs::{Bytes, DirError, Dirs, Path, Place, Row};
-use std::alloc::Global;
-use std::collections::VecDeque;
+use md_dirs::{Bytes, DirError, Dirs, PackedRows, Path, Place};
+use std::alloc::{AllocError, Global};
 use std::marker::Model;
 use std::mem::replace;
 
@@ -26,11 +25,12 @@ const LIST: DirCall = DirCall::List(Place::Tmp);
 pub enum Stage {
     /// The directory is listed.
     Look,
-    /// This name is taken away, and then the rest. So many files will be removed by then, if none is gone before.
+    /// The names of these rows are taken away, one after another. So many files will be removed by then, if none is gone before. The path of each
+    /// call is made in the room of the one before.
     Remove {
-        name: Bytes,
-        rest: VecDeque<Row>,
+        old: PackedRows,
         files: u64,
+        room: Vec<u8>,
     },
 }
 
@@ -48,21 +48,6 @@ impl Model for Cleaning {
     ghost Value = { CleaningView };
 
     ghost view = { λ c. record { folder = c.folder; stage = cleaning_stage c.stage } };
-}
-
-// Whether a row's file has not been used for 36 hours. A clock that is before the stamp counts as no time.
-fn is_old(own: u64, row: &Row) -> bool
-    ensures { result ≡ is_old_by own row.now }
-{
-    own.saturating_sub(row.stamp) >= LEAST_SECONDS
-}
-
-// The rows of old files.
-fn old_rows(own: u64, mut rows: Vec<Row>) -> VecDeque<Row>
-    ensures { result.items ≡ old_rows_by own rows.items }
-{
-    rows.retain(|row| is_old(own, row));
-    VecDeque::from_vec(rows)
 }
 
 impl Cleaning {
@@ -93,12 +78,17 @@ impl Cleaning {
             (D.device dirs.new)) }
     {
         match &self.stage {
-            Stage::Look => self.look(dirs, at),
+            Stage::Look => self.look(alloc, dirs, at),
             Stage::Remove { .. } => self.unlink(alloc, dirs, at),
         }
     }
 
-    fn look<D: Dirs>(&mut self, dirs: &mut D, at: Moment) -> Result<Turned, CoreError>
+    fn look<D: Dirs>(
+        &mut self,
+        alloc: Global,
+        dirs: &mut D,
+        at: Moment,
+    ) -> Result<Turned, CoreError>
         ensures ok { IfOk result (λ t.
             Takes (look_turn self.old at.own) at (D.device dirs.old) t.out t.effect.value
             self.new (D.device dirs.new)) }
@@ -108,9 +98,9 @@ impl Cleaning {
         ensures dirs { OnErr result (IsUntouched (D.device dirs.old)
             (D.device dirs.new)) }
     {
-        match dirs.list(self.folder, Place::Tmp) {
-            Ok(rows) => {
-                let answer = self.listed(old_rows(at.own, rows));
+        match dirs.list_old(alloc, self.folder, Place::Tmp, at.own, LEAST_SECONDS) {
+            Ok(old) => {
+                let answer = self.listed(alloc, old);
                 Ok(Turned::plain(LIST, DirReply::Ok, answer))
             }
             Err(error) => {
@@ -136,45 +126,57 @@ impl Cleaning {
         ensures dirs { OnErr result (IsUntouched (D.device dirs.old)
             (D.device dirs.new)) }
     {
-        let reply = reply_of(self.take_away(alloc, dirs))?;
+        let path = self.next_path(alloc)?;
+        let reply = reply_of(self.take_away(dirs, path))?;
         let answer = self.unlinked(reply);
         Ok(Turned::plain(DirCall::Unlink, reply, answer))
     }
 
-    // Takes away the name that is next, if one is. The call's path is made of the name itself, which comes back behind the call: no name
-    // is copied.
-    fn take_away<D: Dirs>(&mut self, alloc: Global, dirs: &mut D) -> Result<(), DirError>
-        ensures meets { (name : _) (rest : _) (files : _) → self.old.stage ≡ Remove name rest files
-            → Obeys (unlink (tmp_of self.old name)) (D.device dirs.old) result (D.device dirs.new) }
-        ensures no_memory { IsErrOf result DirError.NoMemory → ⊥ }
+    // The path of the name that is next, in the room of the one before. When out of memory, nothing has changed.
+    fn next_path(&mut self, alloc: Global) -> Result<Path, AllocError>
+        ensures path { (name : _) (rest : _) (files : _) → self.old.stage ≡ Remove name rest files
+            → IfOk result (λ path. path ≡ tmp_of self.old name) }
         ensures same { self.new ≡ self.old }
     {
         let folder = self.folder;
-        let Stage::Remove { name, .. } = &mut self.stage else {
-            return Err(DirError::NotFound);
-        };
-        let path = Path {
+        let mut name = Vec::new(alloc);
+        if let Stage::Remove { old, room, .. } = &mut self.stage {
+            name = replace(room, name);
+            name.clear();
+            name.extend_from_slice(old.first_name())?;
+        }
+        Ok(Path {
             folder,
             place: Place::Tmp,
-            name: replace(name, Bytes::of(Vec::new(alloc))),
-        };
+            name: Bytes::of(name),
+        })
+    }
+
+    // Takes the name of a path away, and keeps its room for the next one.
+    fn take_away<D: Dirs>(&mut self, dirs: &mut D, path: Path) -> Result<(), DirError>
+        ensures meets { Obeys (unlink path) (D.device dirs.old) result (D.device dirs.new) }
+        ensures no_memory { IsErrOf result DirError.NoMemory → ⊥ }
+        ensures same { self.new ≡ self.old }
+    {
         let taken = dirs.unlink(&path);
-        *name = path.name;
+        if let Stage::Remove { room, .. } = &mut self.stage {
+            *room = path.name.into_vec();
+        }
         taken
     }
 
     // A listing was made, and these rows are of old files.
-    fn listed(&mut self, mut old: VecDeque<Row>) -> Option<Answer>
-        ensures { after_old self.old old.items ≡ record { task = self.new; answer = result; effect = None } }
+    fn listed(&mut self, alloc: Global, old: PackedRows) -> Option<Answer>
+        ensures { after_old self.old old ≡ record { task = self.new; answer = result; effect = None } }
     {
         let files = old.len() as u64;
-        let Some(row) = old.pop_front() else {
+        if old.is_empty() {
             return Some(Answer::Cleaned(files));
-        };
+        }
         self.stage = Stage::Remove {
-            name: row.name,
-            rest: old,
+            old,
             files,
+            room: Vec::new(alloc),
         };
         None
     }
@@ -184,7 +186,7 @@ impl Cleaning {
         ensures { (name : _) (rest : _) (files : _) → self.old.stage ≡ Remove name rest files →
             after_unlink self.old rest files reply ≡ record { task = self.new; answer = result; effect = None } }
     {
-        let Stage::Remove { name, rest, files } = &mut self.stage else {
+        let Stage::Remove { old, files, .. } = &mut self.stage else {
             return None;
         };
         let left = match reply {
@@ -192,10 +194,10 @@ impl Cleaning {
             DirReply::NotFound => files.saturating_sub(1),
             DirReply::Exists | DirReply::Fault => return Some(Refusal::Fault.answer()),
         };
-        let Some(row) = rest.pop_front() else {
+        if old.len() <= 1 {
             return Some(Answer::Cleaned(left));
-        };
-        *name = row.name;
+        }
+        old.drop_first();
         *files = left;
         None
     }

@@ -1,4 +1,6 @@
 -- What the definitions see of how far the code's tasks have come.
+use Rattle.std.specs.Prelude.{drop}
+use Rattle.md_dirs.specs.Rows.{first_name}
 use Rattle.md_dirs.specs.declared.paths.Path.{Path}
 use Rattle.md_jobs.specs.Tasks.Errand as errand
 use Rattle.md_jobs.specs.Tasks.Delivery as delivery
@@ -23,7 +25,7 @@ delivery_stage (delivery_at.Writing start written) = delivery.Writing start writ
 delivery_stage delivery_at.Linked = delivery.Linked
 delivery_stage (delivery_at.Undo refusal) = delivery.Undo (refusal_view refusal)
 
--- how far a clean has come, as the definitions see it
+-- how far a clean has come, as the definitions see it: the name that is next is that of the first row that is left
 abbrev pub cleaning_stage : CleaningStage → cleaning.Stage
 cleaning_stage cleaning_at.Look = cleaning.Look
-cleaning_stage (cleaning_at.Remove name rest files) = cleaning.Remove name rest.items files
+cleaning_stage (cleaning_at.Remove old files room) = cleaning.Remove (first_name old) (drop 1 old) files
