@@ -2,6 +2,7 @@ pub mod Order
 pub mod Faults
 pub mod Rows
 pub mod Lent
+pub mod Lying
 pub mod Whole
 pub mod Loaded
 pub mod Permuted
