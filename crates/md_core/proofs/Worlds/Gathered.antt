@@ -1,14 +1,15 @@
 -- The names that entries use up, one after another.
-use Rattle.std.proofs.Common.{ℕ, ◌≡◌, ◌∙◌, ◌+◌, List, [], Bool, true, false, ◌||◌, refl, sym, ap, subst}
+use Rattle.std.proofs.Common.{ℕ, ◌≡◌, ◌∙◌, List, [], Bool, true, false, ◌||◌, refl, sym, ap}
 use Rattle.std.specs.List.{list_any}
+use Rattle.std.proofs.lemmas.List.Sorted.{list_any-IsPermutation}
 use Rattle.md_dirs.specs.Path.{path_of}
 use Rattle.md_core.proofs.Values.{State, Place, Row}
 use Rattle.md_core.specs.Gathering.{AreOf}
 use Rattle.md_core.specs.Looking.{entries_before}
 use Rattle.md_core.specs.Submitting.{uses}
 use Rattle.md_core.specs.Used.{is_among}
+use Rattle.md_core.proofs.Worlds.Loading.Lying.{Follows, IsUnordered}
 use Rattle.md_core.proofs.Worlds.Loading.Order.{before-none}
-use Rattle.md_core.proofs.Worlds.Loading.Rows.{IsRowAt, entries_until, until-more}
 use Rattle.md_core.proofs.Worlds.Submitted.{any-push}
 
 turned : (a b : Bool) → (a || b) ≡ (b || a)
@@ -20,14 +21,14 @@ turned false false = refl
 pub gathered-none : (s : State) (names : List (List ℕ)) → names ≡ [] → AreOf (entries_before s 0 0) names
 gathered-none s names none u = ap (is_among u) none ∙ ap (list_any (λ e. uses u e.0)) (sym (before-none s))
 
-pub gathered-more : (s : State) (folder : ℕ) (place : Place) (at : ℕ) (r : Row) (old new : List (List ℕ)) → IsRowAt s folder place at r →
-    AreOf (entries_until s folder place at) old → ((u : List ℕ) → is_among u new ≡ (uses u (path_of 0 place r.name) || is_among u old)) →
-    AreOf (entries_until s folder place (at + 1)) new
-gathered-more s folder place at r old new row are more =
-    let e = row.entry in
-    let es = entries_until s folder place at in
-    subst (λ xs. AreOf xs new) (sym (until-more s folder place at e row.there)) (λ u.
+pub gathered-more : (s : State) (folder : ℕ) (place : Place) (r : Row) (old new : List (List ℕ)) →
+    ((u : List ℕ) → is_among u new ≡ (uses u (path_of 0 place r.name) || is_among u old)) →
+    Follows s folder place r (λ es. AreOf es old) (λ es. AreOf es new)
+gathered-more s folder place r old new more es e path stamp are u =
     more u
-    ∙ (λ i. uses u (sym row.path i) || are u i)
+    ∙ (λ i. uses u (sym path i) || are u i)
     ∙ turned (uses u e.0) (list_any (λ x. uses u x.0) es)
-    ∙ sym (any-push (λ x. uses u x.0) es e))
+    ∙ sym (any-push (λ x. uses u x.0) es e)
+
+pub gathered-moved : (names : List (List ℕ)) → IsUnordered (λ es. AreOf es names)
+gathered-moved names es fs moved are u = are u ∙ sym (list_any-IsPermutation (λ e. uses u e.0) es fs moved)

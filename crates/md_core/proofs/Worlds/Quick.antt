@@ -1,77 +1,31 @@
 -- What a quick look finds of names, and what that says of all directories.
-use Rattle.std.proofs.Common.{ℕ, ◌≡◌, ◌≢◌, ◌≤◌, ◌+◌, ◌∙◌, inl, inr, List, [], ◌∷◌, ◌++◌, Option, Some, None, Bool, true, false, cond, not, is_some, ◌&&◌, ◌||◌, ◌==◌, IsSome, nat_lt, max, length, take, filter, refl, sym, ap, subst, arith}
+use Rattle.std.proofs.Common.{ℕ, ◌≡◌, ◌≢◌, ◌+◌, ◌∙◌, inl, inr, List, [], ◌∷◌, ◌++◌, Option, Some, None, Bool, true, false, cond, not, is_some, ◌&&◌, ◌||◌, ◌==◌, IsSome, nat_lt, max, length, filter, refl, sym, ap, subst, arith}
 use Rattle.std.specs.List.{list_any}
 use Rattle.std.specs.FinMap.{entries}
-use Rattle.std.specs.Option.{option_map}
 use Rattle.std.proofs.lemmas.Bool.{cases_lt, or_parts, and_parts, not-true, eq-eqb, eqb-true}
 use Rattle.std.proofs.lemmas.Bool.Decides.{nat_tests}
-use Rattle.std.proofs.lemmas.List.{length-map, length-take, take_all}
+use Rattle.std.proofs.lemmas.List.Sorted.{list_any-IsPermutation}
 use Rattle.std.proofs.lemmas.List.Sums.{fold-append}
 use Rattle.md_dirs.specs.Once.{HoldsEachOnce}
 use Rattle.md_dirs.specs.Path.{path_of}
-use Rattle.md_dirs.specs.Rows.{is_in, row_of, rows_of, row_named}
+use Rattle.md_dirs.specs.Rows.{is_in, rows_of, row_named}
 use Rattle.md_dirs.specs.declared.paths.Path.{Path}
 use Rattle.md_dirs.proofs.PathOrder.{path_total, path_exact}
-use Rattle.md_dirs.proofs.Uniques.{take-unique}
-use Rattle.md_core.proofs.Values.{State, Info, IsSound, Place, Tmp, New, Cur, Row, file_at, file_by}
-use Rattle.md_name.specs.Names.{unique_of, info_of, is_message_name, split_of}
+use Rattle.md_core.proofs.Values.{State, IsSound, Place, Tmp, New, Cur, Row, file_at, file_by}
+use Rattle.md_name.specs.Names.{unique_of, is_message_name}
 use Rattle.md_core.specs.Loading.{is_bad_name, is_long_unique, load_refusal}
 use Rattle.md_core.specs.Mailbox.{is_tmp, is_message, HasOnePath}
 use Rattle.md_core.specs.Quick.{IsQuickLook, AreBare, AreFree, AreSingle, has_fault}
 use Rattle.md_core.specs.Runs.{stamp_of, first_clock}
 use Rattle.lists.proofs.Members.{Has, get-has}
 use Rattle.md_core.specs.Looking.{entries_before}
-use Rattle.md_core.proofs.Lists.Places.{take-one_more}
+use Rattle.md_core.proofs.Lists.Permuted.{greatest-moved}
 use Rattle.md_core.proofs.Looking.LookUps.{in-path, no-row}
 use Rattle.md_core.proofs.Settling.Loadable.{IsGoodPath, IsLoadable, loadable-loads}
 use Rattle.md_core.proofs.Worlds.Loading.Loaded.{none-has, first-clock}
+use Rattle.md_core.proofs.Worlds.Loading.Lying.{Follows, IsUnordered}
 use Rattle.md_core.proofs.Worlds.Loading.Order.{entries_in, before-none}
-use Rattle.md_core.proofs.Worlds.Loading.Rows.{IsRowAt, entries_until, until-more}
 use Rattle.md_core.proofs.Worlds.Submitted.{any-push}
-
--- ---- one name
-
--- the unique part is no longer than the name
-pub unique-length : (name : List ℕ) → length (unique_of name) ≤ length name
-unique-length name =
-    let cut = ap length (sym (take-unique name)) ∙ length-take (length (unique_of name)) name in
-    omega (arith, cut)
-
--- a name that isn't bad, and whose unique part is short where it has one
-pub no-fault : (name : List ℕ) → is_bad_name name ≡ false → (is_message_name name ≡ true → length (unique_of name) ≤ 200) → (place : Place) →
-    has_fault (path_of 0 place name) ≡ false
-no-fault name good short place =
-    λ i. good i || by (is_message_name name) refl i
-  where
-    kept : (a b : Bool) → b ≡ false → (a && b) ≡ false
-    kept true b is = is
-    kept false b is = refl
-
-    both : (a b c : Bool) → (b && c) ≡ false → ((a && b) && c) ≡ false
-    both true b c is = is
-    both false b c is = refl
-
-    by : (m : Bool) → is_message_name name ≡ m → is_long_unique (path_of 0 place name) ≡ false
-    by m is = both (not (is_tmp place)) (is_message_name name) (nat_lt 200 (length (unique_of name))) (at m is)
-      where
-        at : (m : Bool) → is_message_name name ≡ m → (is_message_name name && nat_lt 200 (length (unique_of name))) ≡ false
-        at true is = let less = short is in kept (is_message_name name) _ (grind (arith, nat_tests))
-        at false is = ap (λ b. b && nat_lt 200 (length (unique_of name))) is
-
--- what a split gives
-pub split-some : (name u : List ℕ) → Some u ≡ option_map (λ (parts : List ℕ × Info). parts.0) (split_of name) → (is_message_name name ≡ true) × (u ≡ unique_of name)
-split-some name u = by (is_message_name name)
-  where
-    by : (b : Bool) → Some u ≡ option_map (λ (parts : List ℕ × Info). parts.0) (cond b (Some (unique_of name, info_of name)) None) → (b ≡ true) × (u ≡ unique_of name)
-    by true is = let same : u ≡ unique_of name = cc in (refl, same)
-    by false is = cc
-
-pub split-none : (name : List ℕ) → None ≡ option_map (λ (parts : List ℕ × Info). parts.0) (split_of name) → is_message_name name ≡ false
-split-none name = by (is_message_name name)
-  where
-    by : (b : Bool) → None ≡ option_map (λ (parts : List ℕ × Info). parts.0) (cond b (Some (unique_of name, info_of name)) None) → b ≡ false
-    by true is = cc
-    by false is = refl
 
 -- ---- the folder of all messages
 
@@ -126,26 +80,25 @@ none-more : {X : Type 0} (q : X → Bool) (xs : List X) (x : X) → list_any q x
 none-more q xs x none one = any-push q xs x ∙ (λ i. none i || one i)
 
 module _ (s : State) (folder : ℕ) (place other : Place) where
-  -- no name of those before a position is taken
-  abbrev pub AreFreeUntil : ℕ → Type 0
-  AreFreeUntil at = list_any (λ e. is_taken s folder other e.0) (take at (entries_in s folder place)) ≡ false
+  -- no entry's name is taken
+  abbrev pub AreUntaken : List (Path × ℕ) → Type 0
+  AreUntaken es = list_any (λ e. is_taken s folder other e.0) es ≡ false
 
-  pub free-more : (at : ℕ) (r : Row) → IsRowAt s folder place at r →
-      (is_message_name r.name ≡ true → row_named (unique_of r.name) (rows_of s folder other) ≡ None) → AreFreeUntil at → AreFreeUntil (at + 1)
-  free-more at r row free until =
-      let e = row.entry in
-      ap (list_any (λ x. is_taken s folder other x.0)) (take-one_more (entries_in s folder place) at e row.there)
-      ∙ none-more (λ x. is_taken s folder other x.0) (take at (entries_in s folder place)) e until
-      (ap (is_taken s folder other) row.path ∙ not-taken (is_message_name r.name) (row_named (unique_of r.name) (rows_of s folder other)) free)
+  pub free-more : (r : Row) → (is_message_name r.name ≡ true → row_named (unique_of r.name) (rows_of s folder other) ≡ None) →
+      Follows s folder place r AreUntaken AreUntaken
+  free-more r free es e path stamp none =
+      none-more (λ x. is_taken s folder other x.0) es e none
+      (ap (is_taken s folder other) path ∙ not-taken (is_message_name r.name) (row_named (unique_of r.name) (rows_of s folder other)) free)
 
-  pub free-all : (at : ℕ) → length (rows_of s folder place) ≤ at → AreFreeUntil at → AreFree s folder place other
-  free-all at past until name n there message =
-      let long = length-map (entries_in s folder place) (row_of s.files) in
-      let all : take at (entries_in s folder place) ≡ entries_in s folder place = take_all at (entries_in s folder place) (omega (arith, past, long)) in
+  pub free-moved : IsUnordered AreUntaken
+  free-moved es fs moved none = list_any-IsPermutation (λ e. is_taken s folder other e.0) es fs moved ∙ none
+
+  pub free-all : AreUntaken (entries_in s folder place) → AreFree s folder place other
+  free-all untaken name n there message =
       let has = get-has path_total path_exact s.names (path_of folder place name) n there in
       let free : is_taken s folder other (path_of folder place name) ≡ false =
       filtered-any (λ e. is_in folder place e.0) (λ e. is_taken s folder other e.0) (entries s.names) (path_of folder place name, n)
-      (ap (list_any (λ e. is_taken s folder other e.0)) (sym all) ∙ until) has (in-path folder place name) in
+      untaken has (in-path folder place name) in
       none (row_named (unique_of name) (rows_of s folder other))
       (ap (λ b. b && is_some (row_named (unique_of name) (rows_of s folder other))) (sym message) ∙ free)
     where
@@ -239,18 +192,18 @@ module _ (s : State) (only : ℕ) (bare : AreBare s s.folders only) (single : Ar
 
 -- ---- one directory
 
-module _ (s : State) (folder : ℕ) (place : Place) where
-  pub quick-more : (at : ℕ) (r : Row) (found : ℕ) → IsRowAt s folder place at r → IsQuickLook s (entries_until s folder place at) found →
-      ((other : Place) → has_fault (path_of 0 other r.name) ≡ false) → IsQuickLook s (entries_until s folder place (at + 1)) (max found r.stamp)
-  quick-more at r found row look good =
-      let e = row.entry in
-      let es = entries_until s folder place at in
-      subst (λ xs. IsQuickLook s xs (max found r.stamp)) (sym (until-more s folder place at e row.there))
-      (record {
-        clock = (λ i. max (look.clock i) (sym row.stamp i)) ∙
-            sym (fold-append (λ c (x : Path × ℕ). max c (stamp_of (file_by s.files x.1))) 0 es (e ∷ []));
-        good = none-more (λ x. has_fault x.0) es e look.good (ap has_fault row.path ∙ good place);
-      })
+pub quick-more : (s : State) (folder : ℕ) (place : Place) (r : Row) (found : ℕ) → ((other : Place) → has_fault (path_of 0 other r.name) ≡ false) →
+    Follows s folder place r (λ es. IsQuickLook s es found) (λ es. IsQuickLook s es (max found r.stamp))
+quick-more s folder place r found good es e path stamp look = record {
+  clock = (λ i. max (look.clock i) (sym stamp i)) ∙ sym (fold-append (λ c (x : Path × ℕ). max c (stamp_of (file_by s.files x.1))) 0 es (e ∷ []));
+  good = none-more (λ x. has_fault x.0) es e look.good (ap has_fault path ∙ good place);
+}
+
+pub quick-moved : (s : State) (found : ℕ) → IsUnordered (λ es. IsQuickLook s es found)
+quick-moved s found es fs moved look = record {
+  clock = look.clock ∙ greatest-moved (λ (e : Path × ℕ). stamp_of (file_by s.files e.1)) 0 es fs moved;
+  good = list_any-IsPermutation (λ e. has_fault e.0) es fs moved ∙ look.good;
+}
 
 pub quick-none : (s : State) → IsQuickLook s (entries_before s 0 0) 0
 quick-none s = subst (λ es. IsQuickLook s es 0) (sym (before-none s)) (record { clock = refl; good = refl })

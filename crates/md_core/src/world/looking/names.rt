@@ -2,39 +2,43 @@
 ghost use Rattle.std.specs.Prelude.{◌≡◌, ◌+◌, ◌||◌, false, IfOk, OnOk, MatchOption};
 ghost use Rattle.std.specs.FinMap as finmap;
 ghost use Rattle.std.specs.Str.{bytes_eq};
-ghost use Rattle.md_dirs.specs.Path.{path_of, place_index};
+ghost use Rattle.md_dirs.specs.Path.{place_index};
 ghost use Rattle.md_core.specs.Gathering.{AreOf};
-ghost use Rattle.md_core.specs.Looking.{entries_before};
+ghost use Rattle.md_core.specs.Looking.{entries_before, somewhere};
 ghost use Rattle.md_core.specs.Submitting.{uses};
 ghost use Rattle.md_core.specs.Used.{is_among};
 
 use crate::used::UsedNames;
-use md_dirs::{Dirs, Place};
-use md_name::message_unique;
+use md_dirs::{Dirs, Place, RowRef};
+use md_name::is_message;
 use std::alloc::{AllocError, Global};
 
 // The name that a file uses up: all of it in tmp, and the unique part of a message.
-fn used_part(place: Place, name: &[u8]) -> Option<&[u8]>
-    ensures { MatchOption result ((u : _) → uses u (path_of 0 place name.now) ≡ false)
-        (λ part. (u : _) → uses u (path_of 0 place name.now) ≡ bytes_eq part.now u) }
+fn used_part<'a>(place: Place, row: &RowRef<'a>) -> Option<&'a [u8]>
+    ensures { MatchOption result ((u : _) → uses u (somewhere place row.now) ≡ false)
+        (λ part. (u : _) → uses u (somewhere place row.now) ≡ bytes_eq part.now u) }
 {
-    match place {
-        Place::Tmp => Some(name),
-        Place::New | Place::Cur => message_unique(name),
+    if matches!(place, Place::Tmp) {
+        return Some(row.name());
     }
+    let unique = row.unique();
+    if !is_message(row.name(), unique) {
+        return None;
+    }
+    Some(unique)
 }
 
 // Uses the name of one more file.
-fn use_part(used: &mut UsedNames, place: Place, name: &[u8]) -> Result<(), AllocError>
-    ensures { OnOk result ((u : _) → is_among u used.new ≡ (uses u (path_of 0 place name.now) || is_among u used.old)) }
+fn use_part(used: &mut UsedNames, place: Place, row: &RowRef<'_>) -> Result<(), AllocError>
+    ensures { OnOk result ((u : _) → is_among u used.new ≡ (uses u (somewhere place row.now) || is_among u used.old)) }
 {
-    match used_part(place, name) {
+    match used_part(place, row) {
         Some(part) => used.insert(part),
         None => Ok(()),
     }
 }
 
-// Uses the names of a directory, some at a time, as it lends them.
+// Uses the names of a directory, as they lie.
 fn use_directory<D: Dirs>(
     alloc: Global,
     dirs: &D,
@@ -45,18 +49,11 @@ fn use_directory<D: Dirs>(
     requires { AreOf (entries_before (D.device dirs.now).state folder (place_index place)) used.old }
     ensures { OnOk result (AreOf (entries_before (D.device dirs.now).state folder (place_index place + 1)) used.new) }
 {
-    let mut at = 0usize;
-    loop {
-        let rows = dirs.rows_from(alloc, folder, place, at)?;
-        if rows.is_empty() {
-            return Ok(());
-        }
-        for row in 0..rows.len() {
-            use_part(used, place, rows[row].name)?;
-        }
-        // No memory holds more names than can be counted.
-        at = at.checked_add(rows.len()).ok_or(AllocError)?;
+    let rows = dirs.rows_unordered(alloc, folder, place)?;
+    for row in 0..rows.len() {
+        use_part(used, place, &rows[row])?;
     }
+    Ok(())
 }
 
 // How many names directories have, or as many as can be counted.

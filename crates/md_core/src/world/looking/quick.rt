@@ -1,17 +1,17 @@
 // A quick look at all names of directories, which keeps none of them.
 ghost use Rattle.std.specs.Prelude.{◌≡◌, ◌+◌, true, false, IfSome, IsTrue, None};
-ghost use Rattle.md_dirs.specs.Path.{path_of, place_index};
+ghost use Rattle.md_dirs.specs.Path.{place_index};
 ghost use Rattle.md_dirs.specs.Rows.{rows_of, row_named};
 ghost use Rattle.md_dirs.specs.declared.paths.Place.{Place};
 ghost use Rattle.md_name.specs.Names.{unique_of, is_message_name};
 ghost use Rattle.md_core.specs.Loading.{load_refusal};
-ghost use Rattle.md_core.specs.Looking.{entries_before};
+ghost use Rattle.md_core.specs.Looking.{entries_before, somewhere};
 ghost use Rattle.md_core.specs.Quick.{IsQuickLook, AreBare, AreFree, AreSingle, has_fault};
 ghost use Rattle.md_core.specs.Runs.{first_clock};
 
 use crate::world::looking::{MOST_UNIQUE_BYTES, is_bad};
-use md_dirs::{Dirs, Place};
-use md_name::message_unique;
+use md_dirs::{Dirs, Place, RowRef};
+use md_name::is_message;
 use std::alloc::Global;
 
 // The only folder that has a name in new or in cur, or the first where none has. None where two have.
@@ -32,39 +32,28 @@ fn only_folder<D: Dirs>(dirs: &D) -> Option<u32>
     Some(only)
 }
 
-// Whether no name of a directory has the unique part of a message's name.
-fn is_free<D: Dirs>(dirs: &D, folder: u32, place: Place, name: &[u8]) -> bool
-    ensures { IsTrue result → is_message_name name.now ≡ true → row_named (unique_of name.now) (rows_of (D.device dirs.now).state folder place) ≡ None }
+// Whether no name of a directory has the unique part of a message of another.
+fn is_free<D: Dirs>(dirs: &D, folder: u32, place: Place, row: &RowRef<'_>) -> bool
+    ensures { IsTrue result → is_message_name row.now.name ≡ true →
+        row_named (unique_of row.now.name) (rows_of (D.device dirs.now).state folder place) ≡ None }
 {
-    match message_unique(name) {
-        Some(unique) => dirs.look(folder, place, unique).is_none(),
-        None => true,
-    }
+    let unique = row.unique();
+    !is_message(row.name(), unique) || dirs.look(folder, place, unique).is_none()
 }
 
 // Whether no name of one directory of a folder has the unique part of a message of another.
 fn are_free<D: Dirs>(alloc: Global, dirs: &D, folder: u32, place: Place, other: Place) -> bool
     ensures { IsTrue result → AreFree (D.device dirs.now).state folder place other }
 {
-    let mut at = 0usize;
-    loop {
-        let Ok(rows) = dirs.rows_from(alloc, folder, place, at) else {
+    let Ok(rows) = dirs.rows_unordered(alloc, folder, place) else {
+        return false;
+    };
+    for row in 0..rows.len() {
+        if !is_free(dirs, folder, other, &rows[row]) {
             return false;
-        };
-        if rows.is_empty() {
-            return true;
         }
-        for row in 0..rows.len() {
-            if !is_free(dirs, folder, other, rows[row].name) {
-                return false;
-            }
-        }
-        // No memory holds more names than can be counted.
-        let Some(next) = at.checked_add(rows.len()) else {
-            return false;
-        };
-        at = next;
     }
+    true
 }
 
 // Whether no two messages of a folder have one unique part. The names of the smaller directory are looked up in the other.
@@ -82,19 +71,14 @@ fn are_single<D: Dirs>(alloc: Global, dirs: &D, folder: u32) -> bool
 }
 
 // Whether a name has no fault by itself.
-fn is_good(name: &[u8]) -> bool
-    ensures { IsTrue result → ((place : Place) → has_fault (path_of 0 place name.now) ≡ false) }
+fn is_good(row: &RowRef<'_>) -> bool
+    ensures { IsTrue result → ((place : Place) → has_fault (somewhere place row.now) ≡ false) }
 {
-    if is_bad(name) {
+    if is_bad(row.name()) {
         return false;
     }
-    if name.len() <= MOST_UNIQUE_BYTES {
-        return true;
-    }
-    match message_unique(name) {
-        Some(unique) => unique.len() <= MOST_UNIQUE_BYTES,
-        None => true,
-    }
+    let unique = row.unique();
+    unique.len() <= MOST_UNIQUE_BYTES || !is_message(row.name(), unique)
 }
 
 // The greatest stamp of a directory and one before, where no name has a fault by itself.
@@ -103,25 +87,18 @@ fn clock_in<D: Dirs>(alloc: Global, dirs: &D, folder: u32, place: Place, before:
     ensures { IfSome result (λ clock.
         IsQuickLook (D.device dirs.now).state (entries_before (D.device dirs.now).state folder (place_index place + 1)) clock) }
 {
+    let Ok(rows) = dirs.rows_unordered(alloc, folder, place) else {
+        return None;
+    };
     let mut clock = before;
-    let mut at = 0usize;
-    loop {
-        let Ok(rows) = dirs.rows_from(alloc, folder, place, at) else {
+    for at in 0..rows.len() {
+        let row = &rows[at];
+        if !is_good(row) {
             return None;
-        };
-        if rows.is_empty() {
-            return Some(clock);
         }
-        for row in 0..rows.len() {
-            let shown = &rows[row];
-            if !is_good(shown.name) {
-                return None;
-            }
-            clock = clock.max(shown.stamp);
-        }
-        // No memory holds more names than can be counted.
-        at = at.checked_add(rows.len())?;
+        clock = clock.max(row.stamp());
     }
+    Some(clock)
 }
 
 /// The greatest stamp of all files that have a name, in seconds, where no name has a fault. It keeps no name, and makes no directory call.

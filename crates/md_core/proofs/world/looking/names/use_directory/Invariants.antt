@@ -1,14 +1,8 @@
-use Rattle.std.proofs.Common.{◌+◌, ◌-◌, length}
-use Rattle.md_dirs.specs.Rows.{rows_of}
 use Rattle.md_core.specs.Gathering.{AreOf}
-use Rattle.md_core.proofs.Worlds.Loading.Rows.{entries_until}
+use Rattle.md_core.proofs.Worlds.Loading.Lying.{IsThrough, Behind}
 use Rattle.md_core.proofs.world.looking.names.use_directory.Given as goal
 
 abbrev pub invariant-loop-row : goal.invariant-loop-row
-invariant-loop-row g l = AreOf (entries_until (g.D.Dirs.device l.dirs).state l.folder l.place (l.at + l.row)) l.used
-
-abbrev pub invariant-loop-rows : goal.invariant-loop-rows
-invariant-loop-rows g l = AreOf (entries_until (g.D.Dirs.device l.dirs).state l.folder l.place l.at) l.used
-
-abbrev pub decreases-loop-rows : goal.decreases-loop-rows
-decreases-loop-rows g l = length (rows_of (g.D.Dirs.device l.dirs).state l.folder l.place) - l.at
+invariant-loop-row g l =
+    let s = (g.D.Dirs.device l.dirs).state in
+    IsThrough s l.folder l.place (Behind s l.folder l.place (λ es. AreOf es l.used)) l.rows.items l.row

@@ -1,13 +1,8 @@
-use Rattle.std.proofs.Common.{◌+◌, ◌-◌, length}
-use Rattle.md_dirs.specs.Rows.{rows_of}
-use Rattle.md_core.proofs.Worlds.Quick.{AreFreeUntil}
+use Rattle.md_core.proofs.Worlds.Loading.Lying.{IsThrough}
+use Rattle.md_core.proofs.Worlds.Quick.{AreUntaken}
 use Rattle.md_core.proofs.world.looking.quick.are_free.Given as goal
 
 abbrev pub invariant-loop-row : goal.invariant-loop-row
-invariant-loop-row g l = AreFreeUntil (g.D.Dirs.device l.dirs).state l.folder l.place l.other (l.at + l.row)
-
-abbrev pub invariant-loop-rows : goal.invariant-loop-rows
-invariant-loop-rows g l = AreFreeUntil (g.D.Dirs.device l.dirs).state l.folder l.place l.other l.at
-
-abbrev pub decreases-loop-rows : goal.decreases-loop-rows
-decreases-loop-rows g l = length (rows_of (g.D.Dirs.device l.dirs).state l.folder l.place) - l.at
+invariant-loop-row g l =
+    let s = (g.D.Dirs.device l.dirs).state in
+    IsThrough s l.folder l.fn.place (AreUntaken s l.folder l.fn.place l.other) l.rows.items l.row

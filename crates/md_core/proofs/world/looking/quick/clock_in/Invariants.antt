@@ -1,18 +1,8 @@
-use Rattle.std.proofs.Common.{◌+◌, ◌-◌, length}
-use Rattle.md_dirs.specs.Rows.{rows_of}
 use Rattle.md_core.specs.Quick.{IsQuickLook}
-use Rattle.md_core.proofs.Worlds.Loading.Rows.{entries_until}
+use Rattle.md_core.proofs.Worlds.Loading.Lying.{IsThrough, Behind}
 use Rattle.md_core.proofs.world.looking.quick.clock_in.Given as goal
 
-abbrev pub invariant-loop-row : goal.invariant-loop-row
-invariant-loop-row g l =
+abbrev pub invariant-loop-at : goal.invariant-loop-at
+invariant-loop-at g l =
     let s = (g.D.Dirs.device l.dirs).state in
-    IsQuickLook s (entries_until s l.folder l.place (l.at + l.row)) l.clock
-
-abbrev pub invariant-loop-rows : goal.invariant-loop-rows
-invariant-loop-rows g l =
-    let s = (g.D.Dirs.device l.dirs).state in
-    IsQuickLook s (entries_until s l.folder l.place l.at) l.clock
-
-abbrev pub decreases-loop-rows : goal.decreases-loop-rows
-decreases-loop-rows g l = length (rows_of (g.D.Dirs.device l.dirs).state l.folder l.place) - l.at
+    IsThrough s l.folder l.fn.place (Behind s l.folder l.fn.place (λ es. IsQuickLook s es l.clock)) l.rows.items l.at
