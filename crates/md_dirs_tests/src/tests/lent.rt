@@ -71,8 +71,8 @@ fn lists_old<D: Dirs>(
         let Some(row) = model.plain.row_at(0, Place::Cur, at) else {
             continue;
         };
-        if now.saturating_sub(row.stamp) >= seconds {
-            assert!(rt; !old.is_empty() && old.first_name() == row.name, "row {at}");
+        if now.saturating_sub(row.stamp()) >= seconds {
+            assert!(rt; !old.is_empty() && old.first_name() == row.name(), "row {at}");
             old.drop_first();
         }
     }
