@@ -21,8 +21,17 @@ const ORDERS: [[usize; 3]; 6] = [
     [2, 1, 0],
 ];
 
-/// A file by its folder, place and name.
-pub(super) type Named = (u32, Place, &'static str);
+// A file by its folder, place and name.
+type Named = (u32, Place, &'static str);
+
+/// Three files of two folders, and the fault that is the first in order.
+#[derive(Clone, Copy)]
+pub(super) struct Faulty {
+    first: Named,
+    second: Named,
+    third: Named,
+    fault: CoreError,
+}
 
 // Adds a file, stamped at 0.
 fn add(alloc: Global, dirs: &mut PlainDirs, place: Place, name: &str) -> Result<(), DirError> {
@@ -88,32 +97,31 @@ fn name_of(alloc: Global, name: &str) -> Result<Bytes, CoreError> {
 }
 
 // Hashed directories of two folders, whose files came in an order.
-fn arrived(alloc: Global, files: &[Named; 3], order: [usize; 3]) -> Result<IndexDirs, CoreError> {
+fn arrived(alloc: Global, faulty: Faulty, order: [usize; 3]) -> Result<IndexDirs, CoreError> {
     let mut dirs = IndexDirs::new(alloc, 2);
     for at in order {
-        if let Some((folder, place, name)) = files.get(at) {
-            let path = Path {
-                folder: *folder,
-                place: *place,
-                name: name_of(alloc, name)?,
-            };
-            if dirs.create(&path, 0).is_err() {
-                return Err(CoreError::NoMemory);
-            }
+        let (folder, place, name) = match at {
+            0 => faulty.first,
+            1 => faulty.second,
+            _ => faulty.third,
+        };
+        let path = Path {
+            folder,
+            place,
+            name: name_of(alloc, name)?,
+        };
+        if dirs.create(&path, 0).is_err() {
+            return Err(CoreError::NoMemory);
         }
     }
     Ok(dirs)
 }
 
-/// Whether files are refused by one fault, in whatever order they came.
-pub(super) fn is_first(
-    alloc: Global,
-    files: &[Named; 3],
-    fault: CoreError,
-) -> Result<bool, CoreError> {
+/// Whether files are refused by their first fault, in whatever order they came.
+pub(super) fn is_first(alloc: Global, faulty: Faulty) -> Result<bool, CoreError> {
     for order in ORDERS {
-        match World::load(alloc, arrived(alloc, files, order)?).err() {
-            Some(refused) if refused.error == fault => {}
+        match World::load(alloc, arrived(alloc, faulty, order)?).err() {
+            Some(refused) if refused.error == faulty.fault => {}
             Some(refused) if refused.error == CoreError::NoMemory => {
                 return Err(CoreError::NoMemory);
             }
@@ -123,64 +131,61 @@ pub(super) fn is_first(
     Ok(true)
 }
 
+// Three files that are refused by a fault.
+fn refused_by(fault: CoreError, first: Named, second: Named, third: Named) -> Scene {
+    Scene::Fault(Faulty {
+        first,
+        second,
+        third,
+        fault,
+    })
+}
+
 // The refusal is the first fault by folder, then tmp, new and cur, then name: so `World::load` says.
 #[test]
 fn the_first_of_several_faults_is_the_refusal(rt: HostRuntime) {
-    for (files, fault) in [
-        // tmp comes before new,
-        (
-            [
-                (0, Place::Tmp, "z\n"),
-                (0, Place::New, LONG),
-                (1, Place::Tmp, "u"),
-            ],
+    let long = (0, Place::New, LONG);
+    let far = (1, Place::New, LONG);
+    let met = (0, Place::New, "u");
+    let cur_long = (0, Place::Cur, LONG);
+    let cur_plain = (0, Place::Cur, "u");
+    for scene in [
+        // tmp comes before new, new before cur, and folder 0 before folder 1.
+        refused_by(
             CoreError::BadName,
+            (0, Place::Tmp, "z\n"),
+            long,
+            (1, Place::Tmp, "u"),
         ),
-        // new before cur, and folder 0 before folder 1.
-        (
-            [
-                (0, Place::New, LONG),
-                (0, Place::Cur, "a\n"),
-                (1, Place::Tmp, "a\n"),
-            ],
+        refused_by(
             CoreError::LongUnique,
-        ),
-        (
-            [
-                (0, Place::New, "u"),
-                (0, Place::Cur, "u:2,S"),
-                (1, Place::New, LONG),
-            ],
-            CoreError::DuplicateUnique,
+            long,
+            (0, Place::Cur, "a\n"),
+            (1, Place::Tmp, "a\n"),
         ),
         // A unique name that is met twice is a fault of the later name.
-        (
-            [
-                (0, Place::New, "u"),
-                (1, Place::New, LONG),
-                (1, Place::Cur, "u:2,S"),
-            ],
-            CoreError::LongUnique,
+        refused_by(
+            CoreError::DuplicateUnique,
+            met,
+            (0, Place::Cur, "u:2,S"),
+            far,
         ),
+        refused_by(CoreError::LongUnique, met, far, (1, Place::Cur, "u:2,S")),
         // In one place names go by their bytes: m comes behind c and before z.
-        (
-            [
-                (0, Place::Cur, LONG),
-                (0, Place::Cur, "c\n"),
-                (0, Place::Cur, "u"),
-            ],
+        refused_by(
             CoreError::BadName,
+            cur_long,
+            (0, Place::Cur, "c\n"),
+            cur_plain,
         ),
-        (
-            [
-                (0, Place::Cur, LONG),
-                (0, Place::Cur, "z\n"),
-                (0, Place::Cur, "u"),
-            ],
+        refused_by(
             CoreError::LongUnique,
+            cur_long,
+            (0, Place::Cur, "z\n"),
+            cur_plain,
         ),
     ] {
-        plays(&rt, rt.alloc(), Scene::Fault(files, fault));
+        plays(&rt, rt.alloc(), scene);
     }
 }
 

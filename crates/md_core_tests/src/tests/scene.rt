@@ -1,7 +1,7 @@
 // Makes a world for a scene, and lends it. So it is let go in one place alone.
 use super::ends::{Next, begins_again};
 use super::faults::{Act, acts};
-use super::loads::{Named, directories, is_first, is_refused};
+use super::loads::{Faulty, directories, is_first, is_refused};
 use super::runs::{gives_back, stops};
 use super::texts::{are_told, refusals_are_told};
 use super::used::stay_used;
@@ -30,7 +30,7 @@ pub(super) enum Scene {
     /// A name that is refused, in a place.
     BadName(Place),
     /// Files that are refused by a fault, before which none comes in order.
-    Fault([Named; 3], CoreError),
+    Fault(Faulty),
     /// Deliveries under names that are used.
     Used,
     /// The texts of errors.
@@ -71,7 +71,7 @@ fn is_played(alloc: Global, scene: Scene) -> Result<bool, CoreError> {
         Scene::Run(_) | Scene::Refused => is_played_over(alloc, scene, Act::Deliver, 0),
         Scene::End(next, clock) => begins_again(alloc, next, clock),
         Scene::BadName(place) => is_refused(alloc, place),
-        Scene::Fault(files, fault) => is_first(alloc, &files, fault),
+        Scene::Fault(faulty) => is_first(alloc, faulty),
         Scene::Used => stay_used(alloc),
         Scene::Texts => are_told(alloc),
         Scene::Refusals => refusals_are_told(alloc),
