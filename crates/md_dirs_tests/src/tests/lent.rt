@@ -72,7 +72,10 @@ fn lists_old<D: Dirs>(
             continue;
         };
         if now.saturating_sub(row.stamp()) >= seconds {
-            assert!(rt; !old.is_empty() && old.first_name() == row.name(), "row {at}");
+            assert!(rt;
+                !old.is_empty() && old.first_name() == row.name(),
+                "row {at}"
+            );
             old.drop_first();
         }
     }
