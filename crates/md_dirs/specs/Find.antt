@@ -40,4 +40,5 @@ before_colon (b ∷ bs) = nat_lt b 58
 
 -- the row at a position is the first that has the unique name, if it has it, and else none has
 abbrev pub IsFirstPlace : List (List ℕ × ℕ) → List ℕ → ℕ → Type 0
-IsFirstPlace rows unique i = first_with (λ e. is_named unique e.0) rows ≡ option_and_then (λ e. if is_named unique e.0 then Some e else None) (slice_get rows i)
+IsFirstPlace rows unique i = first_with (λ e. is_named unique e.0) rows
+    ≡ option_and_then (λ e. if is_named unique e.0 then Some e else None) (slice_get rows i)

@@ -36,7 +36,8 @@ abbrev pub outcome_by : {S : Type 0} → (S → List ℕ → Result (S × List �
 outcome_by step (Some e) text line s lines = record { text = text; refusal = Some e; session = None }
 outcome_by step None text line s lines = with_text_before text (usable (line + length lines) (run_from step line s lines))
 
-abbrev pub outcome : {S : Type 0} → (S → List ℕ → Result (S × List ℕ) PlayKind) → Progress → S → List (List ℕ) → Transcript (Option (Ready S))
+abbrev pub outcome : {S : Type 0} → (S → List ℕ → Result (S × List ℕ) PlayKind)
+    → Progress → S → List (List ℕ) → Transcript (Option (Ready S))
 outcome step p s lines = outcome_by step p.printed.refusal p.printed.text.items (p.passed + 1) s lines
 
 -- Lines were run: whatever lines follow, the whole comes to the same.
