@@ -1,5 +1,5 @@
 //! Worlds that begin again with their directories.
-ghost use Rattle.std.specs.Prelude.{◌≡◌, ◌<◌, None, IfOk, IfErr, IfSome, OnOk, length, option_map, position};
+ghost use Rattle.std.specs.Prelude.{◌≡◌, ◌<◌, None, IfOk, IfErr, IfSome, IsSome, OnOk, OnErr, length, option_map, position};
 ghost use Rattle.md_core.specs.Interleaving.{Interleaves};
 ghost use Rattle.md_core.specs.Machine.{is_working};
 ghost use Rattle.md_core.specs.Settling.{first_unanswered, settle_error, settled};
@@ -49,6 +49,7 @@ impl<D: Dirs> World<D> {
         ensures answered { OnOk result (first_unanswered self ≡ None) }
         ensures theorem { IfOk result (λ w. Interleaves (trace_of w)) }
         ensures refused { IfErr result (λ r. r.error ≡ settle_error (first_unanswered self)) }
+        ensures unanswered { OnErr result (IsSome (first_unanswered self)) }
         ensures world { IfErr result (λ r. r.world ≡ self) }
     {
         if let Some(job) = self.first_unanswered() {
