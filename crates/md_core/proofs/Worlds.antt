@@ -3,6 +3,7 @@ pub mod UniqueNames
 pub mod Quick
 pub mod Held
 pub mod Gathered
+pub mod Holding
 pub mod Loading
 pub mod Checking
 pub mod Before

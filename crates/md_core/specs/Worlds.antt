@@ -1,5 +1,6 @@
 -- What a world keeps beside its run, and how that is told from the run.
-use Rattle.std.specs.Prelude.{ℕ, ◌≡◌, ◌<◌, List, [], ◌∷◌, Option, Some, None, Bool, length, map, take, slice_get, vec_len, vec_capacity}
+use Rattle.std.specs.Prelude.{ℕ, ◌≡◌, ◌<◌, List, [], ◌∷◌, Option, Some, None, Bool, true, length, map, take, slice_get, vec_len, vec_capacity}
+use Rattle.md_jobs.specs.declared.call.Call.{Call}
 use Rattle.md_jobs.specs.declared.error.CoreError.{CoreError}
 use Rattle.md_jobs.specs.declared.step.Event.{Event}
 use Rattle.md_jobs.specs.declared.effect.Effect.{Effect}
@@ -7,8 +8,9 @@ use Rattle.md_core.specs.declared.world.log.Log.{Log}
 use Rattle.md_dirs.specs.Calls.{Device}
 use Rattle.md_core.specs.Machine.{Machine, Occurrence, job_at}
 use Rattle.md_core.specs.Standing.{JobView, standings}
-use Rattle.md_core.specs.Runs.{Run, machine_of, jobs_of, failures_of, calls_made_of, and_events, step_refusal, IsRefusal}
+use Rattle.md_core.specs.Runs.{Run, machine_of, dirs_of, jobs_of, failures_of, calls_made_of, and_events, step_refusal, IsRefusal}
 use Rattle.md_core.specs.Submitting.{is_used}
+use Rattle.md_core.specs.Gathering.{holds, gathers_none}
 use Rattle.md_core.specs.Used.{is_among}
 use Rattle.md_core.specs.Stepping.{IsRun}
 
@@ -39,9 +41,12 @@ run_of first began jobs events marks = record {
 abbrev pub machine_by : Device → ℕ → List JobView → List Effect → Machine
 machine_by now clock jobs effects = record { dirs = now.state; clock = clock; jobs = standings jobs; effects = effects }
 
--- the names that a world keeps are those that are used up. Before the first call it may keep none, and has taken no step
+-- the names that a world keeps are those that are used up. While no call was one for which they are gathered it may keep none: its
+-- directories use them up
 abbrev pub AreUsed : Run → Option (List (List ℕ)) → Type 0
-AreUsed r None = (r.calls ≡ []) × (r.events ≡ [])
+AreUsed r None =
+    ((i : ℕ) (call : Call) → slice_get r.calls i ≡ Some call → gathers_none call ≡ true)
+    × ((u : List ℕ) → holds (dirs_of r) u ≡ is_used r u)
 AreUsed r (Some names) = (u : List ℕ) → is_among u names ≡ is_used r u
 
 -- The directories, clock, jobs and effects that a world keeps are those of its run. Its directories failed as often since the

@@ -37,7 +37,7 @@ pub struct World<D: Dirs> {
     // The clock now, in seconds.
     clock: u64,
     jobs: Vec<Job>,
-    // The names that are used up, once there is a call.
+    // The names that are used up, once a call needed them. Until then the directories hold them all.
     used: Option<UsedNames>,
     log: Log,
 }

@@ -20,7 +20,7 @@ use Rattle.md_core.proofs.Mailbox.Shown.{mailbox-shows, shows-mailbox}
 
 -- ---- some, and none, of a list
 
-has-any : {X : Type 0} (q : X → Bool) (xs : List X) (x : X) → Has xs x → q x ≡ true → list_any q xs ≡ true
+pub has-any : {X : Type 0} (q : X → Bool) (xs : List X) (x : X) → Has xs x → q x ≡ true → list_any q xs ≡ true
 has-any q [] x has is = absurd has
 has-any q (y ∷ xs) x has is = elim has [
   | inl same ↦ ap (λ b. b || list_any q xs) (ap q (sym same) ∙ is)
@@ -31,11 +31,11 @@ has-any q (y ∷ xs) x has is = elim has [
     or_true true = refl
     or_true false = refl
 
-any-none : {X : Type 0} (q : X → Bool) (xs : List X) → ((x : X) → Has xs x → q x ≡ false) → list_any q xs ≡ false
+pub any-none : {X : Type 0} (q : X → Bool) (xs : List X) → ((x : X) → Has xs x → q x ≡ false) → list_any q xs ≡ false
 any-none q [] none = refl
 any-none q (y ∷ xs) none = λ i. none y (inl refl) i || any-none q xs (λ x has. none x (inr has)) i
 
-never : (b : Bool) → (b ≡ true → ⊥) → b ≡ false
+pub never : (b : Bool) → (b ≡ true → ⊥) → b ≡ false
 never true h = absurd (h refl)
 never false h = refl
 

@@ -4,7 +4,7 @@ use Rattle.std.specs.Prelude.{count_by}
 use Rattle.std.specs.Option.{option_to_list, option_map}
 use Rattle.std.proofs.lemmas.List.Sums.{sum_by_push}
 use Rattle.md_jobs.specs.declared.error.CoreError.TheVariants.{Answered}
-use Rattle.md_core.proofs.Values.{Answer, DirReply, Event, Moment, StepOut, Task}
+use Rattle.md_core.proofs.Values.{State, Answer, DirReply, Event, Moment, StepOut, Task}
 use Rattle.md_jobs.specs.declared.effect.Effect.{Effect}
 use Rattle.md_dirs.specs.Calls.{Device}
 use Rattle.md_jobs.specs.Turn.{Turn, After, rows_for}
@@ -12,10 +12,14 @@ use Rattle.md_jobs.specs.Asked.{is_fault}
 use Rattle.md_core.specs.Machine.{Machine, Standing, working, answered, is_working, Occurrence, moment_of, standing_of, after_event, after_turn, turn_of, job_at, step_of, step_out}
 use Rattle.md_core.specs.Standing.{JobView, TakesTurn, standings}
 use Rattle.md_core.specs.Runs.{Run, machine_of, jobs_of, failures_of, and_event, step_refusal, answer_of}
+use Rattle.md_core.specs.Gathering.{holds}
 use Rattle.md_core.specs.Worlds.{IsWorld, AreUsed, run_of, machine_by, occurrences}
+use Rattle.md_core.proofs.Induction.Good.{IsGood}
 use Rattle.md_core.proofs.Runs.Events.{goes_on-exact, happens-turned, done-turned, job_at-place}
 use Rattle.md_core.proofs.Runs.ByEvent.{machine-and_event}
 use Rattle.md_core.proofs.Runs.Extended.{is_run-and_event}
+use Rattle.md_core.proofs.Worlds.Before.{good-kept}
+use Rattle.md_core.proofs.Worlds.Holding.{turn-holds}
 
 pub marked-push : (es : List Event) (bs : List Bool) (e : Event) (b : Bool) → length bs ≡ length es →
     occurrences (es ++ e ∷ []) (bs ++ b ∷ []) ≡ occurrences es bs ++ record { event = e; faulted = b } ∷ []
@@ -37,10 +41,12 @@ calls-set [] place old new at same = refl
 calls-set (x ∷ jobs) zero old new at same = let e : x ≡ old = cc in ap (λ c. c ∷ map (λ job. job.call) jobs) (same ∙ ap (λ (j : JobView). j.call) (sym e))
 calls-set (x ∷ jobs) (suc place) old new at same = ap (λ cs. x.call ∷ cs) (calls-set jobs place old new at same)
 
--- where a job is, a call is
-some-call : (jobs : List JobView) (place : ℕ) (job : JobView) → slice_get jobs place ≡ Some job → map (λ job. job.call) jobs ≡ [] → ⊥
-some-call [] place job at none = cc
-some-call (x ∷ jobs) place job at none = cc
+-- where a job is, its call is
+call-there : (jobs : List JobView) (place : ℕ) (job : JobView) → slice_get jobs place ≡ Some job →
+    slice_get (map (λ job. job.call) jobs) place ≡ Some job.call
+call-there [] place job at = cc
+call-there (x ∷ jobs) zero job at = let e : x ≡ job = cc in ap (λ (j : JobView). Some j.call) e
+call-there (x ∷ jobs) (suc place) job at = call-there jobs place job at
 
 -- how jobs stand, at a place and after a change of one
 standing-at : (jobs : List JobView) (place : ℕ) (job : JobView) → slice_get jobs place ≡ Some job → slice_get (standings jobs) place ≡ Some job.standing
@@ -131,15 +137,37 @@ module _ (first : Device) (began : ℕ) (jobs : List JobView) (events : List Eve
     failed true h w = omega arith
     failed false h w = omega arith
 
-    -- a job is there, so the names are kept already
+    moved : kept' ≡ machine_of (and_event run marked_event)
+    moved = sym goes-on ∙ ap (λ (m : Machine). after_event m marked_event) world.now ∙ sym (machine-and_event run marked_event)
+
+    -- while no name need be gathered, the turn leaves the same names used up
+    still-none : AreUsed run None → AreUsed (and_event run marked_event) None
+    still-none none = (
+      none.0,
+      λ u. ap (λ (m : Machine). holds m.dirs u) (sym moved)
+          ∙ ap (λ (s : State). holds s u) turned.takes.state
+          ∙ turn-holds held.state job.call (none.0 place job.call called) good.sound good.one_path at.clock (is_fault out.reply) event.job
+          turned.task at (good.fits place job.call turned.task called working-there) out.reply turned.takes.replied u
+          ∙ ap (λ (m : Machine). holds m.dirs u) world.now ∙ none.1 u,
+    )
+      where
+        good : IsGood run.calls kept
+        good = good-kept first began jobs events marks held clock effects used world
+
+        called : slice_get run.calls place ≡ Some job.call
+        called = call-there jobs place job there
+
+        working-there : slice_get kept.jobs place ≡ Some (working turned.task)
+        working-there = standing-at jobs place job there ∙ ap Some turned.was
+
     still-used : (names : Option (List (List ℕ))) → AreUsed run names → AreUsed (and_event run marked_event) names
-    still-used None none = absurd (some-call jobs place job there none.0)
+    still-used None none = still-none none
     still-used (Some names) used_up = used_up
 
     stepped : IsWorld (and_event run marked_event) kept' held' used (events ++ event ∷ []) (marks ++ is_fault out.reply ∷ [])
     stepped = record {
       run = is_run-and_event run marked_event world.run refusal;
-      now = sym goes-on ∙ ap (λ (m : Machine). after_event m marked_event) world.now ∙ sym (machine-and_event run marked_event);
+      now = moved;
       failed = failed (is_fault out.reply) turned.takes.failed world.failed ∙ ap (λ n. first.failures + n) (sym (count-push run.events marked_event));
       called = simp length-append (let one = turned.takes.called in let all = world.called in omega arith);
       names = still-used used world.names;

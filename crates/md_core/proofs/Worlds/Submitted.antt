@@ -1,19 +1,20 @@
 -- A world with one more job keeps what a world keeps, of the run with one more call. And a world at its beginning.
 use Rattle.std.proofs.Common.{ℕ, ◌≡◌, ◌≤◌, ◌++◌, ◌∙◌, List, [], ◌∷◌, Option, Some, None, Bool, true, false, ◌||◌, refl, sym, ap, subst, arith}
 use Rattle.std.specs.List.{list_any}
-use Rattle.std.specs.FinMap as finmap
 use Rattle.std.proofs.lemmas.List.{map-append}
 use Rattle.md_core.proofs.Values.{IsSound, Effect, Event}
 use Rattle.md_jobs.specs.declared.call.Call.{Call}
+use Rattle.md_jobs.specs.declared.call.Call.TheVariants.{Deliver, Copy}
 use Rattle.md_dirs.specs.Calls.{Device}
 use Rattle.md_core.specs.Machine.{Machine, new_job}
 use Rattle.md_core.specs.Standing.{JobView, job_of}
-use Rattle.md_core.specs.Runs.{Run, beginning, and_call, first_clock, effects_of}
+use Rattle.md_core.specs.Runs.{Run, beginning, machine_of, and_call, first_clock, effects_of}
 use Rattle.md_core.specs.Loading.{load_refusal}
-use Rattle.md_core.specs.Submitting.{submit_refusal, makes, uses}
+use Rattle.md_core.specs.Submitting.{submit_refusal, makes, is_used}
 use Rattle.md_core.specs.Used.{is_among}
 use Rattle.md_core.specs.Worlds.{IsWorld, AreUsed, run_of, machine_by}
-use Rattle.md_core.specs.Gathering.{is_used_before, KeepsMade}
+use Rattle.md_core.specs.Gathering.{holds, gathers_none, KeepsMade}
+use Rattle.md_core.proofs.Lists.Places.{at_end}
 use Rattle.md_core.proofs.Worlds.Before.{used-before}
 use Rattle.md_core.proofs.Runs.Events.{with_job}
 use Rattle.md_core.proofs.Runs.ByEvent.{machine-and_call, run_from-none}
@@ -31,6 +32,10 @@ any-push p (y ∷ xs) x = ap (λ b. p y || b) (any-push p xs x) ∙ by (p y) (li
     by true b c = refl
     by false b c = refl
 
+or_none : (b : Bool) → b ≡ (b || false)
+or_none true = refl
+or_none false = refl
+
 last_first : (a b c : Bool) → (c || (a || b)) ≡ (a || (b || c))
 last_first true true true = refl
 last_first true true false = refl
@@ -40,6 +45,12 @@ last_first false true true = refl
 last_first false true false = refl
 last_first false false true = refl
 last_first false false false = refl
+
+-- a call for which no name need be gathered makes none
+makes-none : (asked : Call) (u : List ℕ) → gathers_none asked ≡ true → makes u asked ≡ false
+makes-none (Deliver folder unique body chunk) u bare = cc
+makes-none (Copy folder unique to fresh tries) u bare = cc
+makes-none call u bare = refl
 
 module _ (first : Device) (began : ℕ) (jobs : List JobView) (events : List Event) (marks : List Bool) (held : Device) (clock : ℕ) (effects : List Effect)
     (used : Option (List (List ℕ))) (asked : Call) where
@@ -53,32 +64,44 @@ module _ (first : Device) (began : ℕ) (jobs : List JobView) (events : List Eve
   kept-submitted : machine_by held clock (jobs ++ job_of asked ∷ []) effects ≡ with_job (machine_by held clock jobs effects) (new_job asked)
   kept-submitted = λ i. record { dirs = held.state; clock = clock; jobs = map-append (λ job. job.standing) jobs (job_of asked ∷ []) i; effects = effects }
 
-  module _ (world : IsWorld run (machine_by held clock jobs effects) held used events marks) (goes : submit_refusal run asked ≡ None)
-      (used' : List (List ℕ)) (names : (u : List ℕ) → is_among u used' ≡ (makes u asked || is_used_before held.state used u)) where
-    submitted : IsWorld (and_call run asked) (machine_by held clock (jobs ++ job_of asked ∷ []) effects) held (Some used') events marks
-    submitted = record {
-      run = is_run-and_call run asked world.run goes;
-      now = kept-submitted ∙ ap (λ (m : Machine). with_job m (new_job asked)) world.now ∙ sym (machine-and_call run world.run asked);
-      failed = world.failed;
-      called = world.called;
-      names = λ u. names u ∙ ap (λ b. makes u asked || b) (used-before first began jobs events marks held clock effects used world u)
-          ∙ last_first (list_any (λ e. uses u e.0) (finmap.entries first.state.names)) (list_any (makes u) run.calls) (makes u asked)
-          ∙ ap (λ b. list_any (λ e. uses u e.0) (finmap.entries first.state.names) || b) (sym (any-push (makes u) run.calls asked));
-      as_many = world.as_many;
-    }
-
-    submit-world : IsWorld (run_of first began (jobs ++ job_of asked ∷ []) events marks)
-        (machine_by held clock (jobs ++ job_of asked ∷ []) effects) held (Some used') events marks
-    submit-world = subst (λ (r : Run). IsWorld r (machine_by held clock (jobs ++ job_of asked ∷ []) effects) held (Some used') events marks)
-        (sym run-submitted) submitted
+  -- the names that are used up then
+  used-submitted : (u : List ℕ) → (makes u asked || is_used run u) ≡ is_used (and_call run asked) u
+  used-submitted u =
+      last_first (holds first.state u) (list_any (makes u) run.calls) (makes u asked)
+      ∙ ap (λ b. holds first.state u || b) (sym (any-push (makes u) run.calls asked))
 
   module _ (world : IsWorld run (machine_by held clock jobs effects) held used events marks) where
+    moved : machine_by held clock (jobs ++ job_of asked ∷ []) effects ≡ machine_of (and_call run asked)
+    moved = kept-submitted ∙ ap (λ (m : Machine). with_job m (new_job asked)) world.now ∙ sym (machine-and_call run world.run asked)
+
+    still-none : AreUsed run None → gathers_none asked ≡ true → AreUsed (and_call run asked) None
+    still-none none bare = (
+      λ i call at. at_end run.calls asked i call at (none.0 i call) (λ last is. ap gathers_none is ∙ bare),
+      λ u. ap (λ (m : Machine). holds m.dirs u) (sym moved)
+          ∙ ap (λ (m : Machine). holds m.dirs u) world.now ∙ none.1 u
+          ∙ ap (λ b. b || is_used run u) (sym (makes-none asked u bare))
+          ∙ used-submitted u,
+    )
+
+    still-used : (kept : Option (List (List ℕ))) → KeepsMade held.state asked used kept → AreUsed (and_call run asked) kept
+    still-used None made = still-none (subst (AreUsed run) made.0 world.names) made.1
+    still-used (Some names) made = λ u.
+        made u ∙ ap (λ b. makes u asked || b) (used-before first began jobs events marks held clock effects used world u) ∙ used-submitted u
+
     -- the names that are kept from then on
     pub submit-kept : submit_refusal run asked ≡ None → (kept : Option (List (List ℕ))) → KeepsMade held.state asked used kept →
         IsWorld (run_of first began (jobs ++ job_of asked ∷ []) events marks)
         (machine_by held clock (jobs ++ job_of asked ∷ []) effects) held kept events marks
-    submit-kept goes None none = absurd none
-    submit-kept goes (Some names) made = submit-world world goes names made
+    submit-kept goes kept made = subst
+        (λ (r : Run). IsWorld r (machine_by held clock (jobs ++ job_of asked ∷ []) effects) held kept events marks)
+        (sym run-submitted) (record {
+          run = is_run-and_call run asked world.run goes;
+          now = moved;
+          failed = world.failed;
+          called = world.called;
+          names = still-used kept made;
+          as_many = world.as_many;
+        })
 
     -- a submit is no effect
     pub effects-submitted : effects_of (and_call run asked) ≡ effects_of run
@@ -100,13 +123,12 @@ module _ (first : Device) (sound : IsSound first.state) (loaded : load_refusal f
 
   -- with no names kept
   pub begun-bare : IsWorld (run_of first clock [] [] []) (machine_by first clock [] []) first None [] []
-  begun-bare = begun-by None (refl, refl)
+  begun-bare = begun-by None (
+    λ i call at. cc,
+    λ u. ap (λ (m : Machine). holds m.dirs u) (run_from-none (beginning first.state clock [])) ∙ or_none (holds first.state u),
+  )
 
   -- with the names of the directories
-  pub begun-world : (used : List (List ℕ)) → ((u : List ℕ) → is_among u used ≡ list_any (λ e. uses u e.0) (finmap.entries first.state.names)) →
+  pub begun-world : (used : List (List ℕ)) → ((u : List ℕ) → is_among u used ≡ holds first.state u) →
       IsWorld (run_of first clock [] [] []) (machine_by first clock [] []) first (Some used) [] []
-  begun-world used names = begun-by (Some used) (λ u. names u ∙ or_none (list_any (λ e. uses u e.0) (finmap.entries first.state.names)))
-    where
-      or_none : (b : Bool) → b ≡ (b || false)
-      or_none true = refl
-      or_none false = refl
+  begun-world used names = begun-by (Some used) (λ u. names u ∙ or_none (holds first.state u))

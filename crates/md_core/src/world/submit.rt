@@ -2,7 +2,7 @@
 ghost use Rattle.std.specs.Prelude.{◌≡◌, ◌+◌, ◌||◌, Some, None, length, vec_len, vec_capacity, MatchResult, IfOk, IfErr, OnOk, OnErr, ◌<◌};
 ghost use Rattle.md_core.specs.Runs.{and_call, effects_of, IsRefusal};
 ghost use Rattle.md_core.specs.Submitting.{submit_refusal, makes};
-ghost use Rattle.md_core.specs.Gathering.{KeepsMade};
+ghost use Rattle.md_core.specs.Gathering.{KeepsMade, gathers_none};
 ghost use Rattle.md_core.specs.Used.{is_among};
 ghost use Rattle.md_core.specs.Interleaving.{Interleaves};
 ghost use Rattle.md_core.specs.Tracing.{trace_of};
@@ -40,7 +40,18 @@ fn use_name(used: &mut UsedNames, call: &Call) -> Result<(), AllocError>
     Ok(())
 }
 
-// Makes room for the job, and uses the name that its call makes. Before the first job the names of the directories are used.
+// Whether no name need be gathered for a call: it makes none, and takes none away.
+fn needs_no_names(call: &Call) -> bool
+    ensures { result ≡ gathers_none call.now }
+{
+    matches!(
+        call,
+        Call::Seen { .. } | Call::Flag { .. } | Call::Move { .. }
+    )
+}
+
+// Makes room for the job, and uses the name that its call makes. The names of the directories are gathered at the first call that needs
+// them: until then the directories hold all that are used.
 fn prepare<D: Dirs>(
     alloc: Global,
     dirs: &D,
@@ -57,6 +68,9 @@ fn prepare<D: Dirs>(
     make_room(jobs)?;
     if let Some(names) = used {
         use_name(names, call)?;
+        return Ok(());
+    }
+    if needs_no_names(call) {
         return Ok(());
     }
     let mut names = names_in(alloc, dirs)?;

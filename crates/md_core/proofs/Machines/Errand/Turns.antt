@@ -119,7 +119,7 @@ module _ (s : State) (number : ℕ) (asked : Call) (sound : IsSound s) (one : Ha
 
 -- where a deed is done its path was there
 module _ (s : State) (clock : ℕ) (faulted : Bool) (p : Path) where
-  deed-there : (d : Deed) → FitsDeed s p d → reply.Ok ≡ reply_of (ask_of (asked_of d) clock) s faulted → (k : ℕ) × (file_at s p ≡ Some k)
+  pub deed-there : (d : Deed) → FitsDeed s p d → reply.Ok ≡ reply_of (ask_of (asked_of d) clock) s faulted → (k : ℕ) × (file_at s p ≡ Some k)
   deed-there (Rename old new) fits replied =
       let h = there (file_at s old) _ NotFound (accepted _ faulted (sym replied)) in
       (h.0, ap (file_at s) (sym fits.0) ∙ h.1)

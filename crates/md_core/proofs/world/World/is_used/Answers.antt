@@ -2,16 +2,14 @@ use Rattle.std.proofs.Common.{◌≡◌, ◌∙◌, None, ap, sym}
 use Rattle.md_core.specs.Gathering.{is_used_before}
 use Rattle.md_core.specs.Runs.{Run}
 use Rattle.md_core.specs.Submitting.{is_used}
-use Rattle.md_core.proofs.Worlds.Before.{one_path-unmoved, used-before}
+use Rattle.md_core.proofs.Worlds.Before.{good-kept, used-before}
 use Rattle.md_core.proofs.world.World.is_used.Goals as goal
 
 pub is_held-requires : goal.is_held-requires
 is_held-requires g c =
     let s = c.self.inside in
-    let is = c.in-None.is in
-    let none : s.used ≡ None = cc in
-    one_path-unmoved (g.D.Dirs.device s.image.value) s.began s.jobs.items s.log.events.items s.log.marks.items (g.D.Dirs.device s.dirs) s.clock
-    s.log.effects.items s.used c.self.invariant none
+    (good-kept (g.D.Dirs.device s.image.value) s.began s.jobs.items s.log.events.items s.log.marks.items (g.D.Dirs.device s.dirs) s.clock
+    s.log.effects.items s.used c.self.invariant).one_path
 
 pub returns-in-None : goal.returns-in-None
 returns-in-None g c =

@@ -1,0 +1,152 @@
+-- Which names directories use up, before a turn of a job and after it.
+use Rattle.std.proofs.Common.{ℕ, ◌≡◌, ◌≢◌, ◌<◌, ◌&&◌, List, Option, Some, None, Bool, true, false, cond, not, refl, sym, ap, subst, ◌∙◌}
+use Rattle.std.specs.FinMap.{entries}
+use Rattle.std.specs.Str.{bytes_eq}
+use Rattle.std.proofs.lemmas.Bool.{and_parts, and_from}
+use Rattle.std.proofs.lemmas.Slice.Eq.{bytes_eq-Decides}
+use Rattle.md_dirs.specs.Calls.{after_rename}
+use Rattle.md_dirs.proofs.PathOrder.{path_total, path_exact}
+use Rattle.lists.proofs.Members.{get-has, has-get}
+use Rattle.md_name.specs.Names.{unique_of, flagged, is_message_name}
+use Rattle.md_name.proofs.Flagged.{unique_of-flagged}
+use Rattle.md_jobs.specs.Asked.{Asked, ask_of, state_by}
+use Rattle.md_jobs.specs.Machines.Errand.{asked_of, errand_turn, stage_turn}
+use Rattle.md_jobs.specs.Machines.Purposes.{deed_by, info_in, shown, wanted}
+use Rattle.md_jobs.specs.Tasks.Errand.{Errand as ErrandOf, Stage, Look, Act}
+use Rattle.md_jobs.specs.Tasks.Purpose.{Purpose, Seen, Flag, Move, Copy, Expunge}
+use Rattle.md_jobs.specs.Turn.{reply_of}
+use Rattle.md_jobs.specs.declared.step.DirReply.TheVariants as reply
+use Rattle.md_core.proofs.Values.{State, IsSound, file_at, Path, path_of, Place, Cur, Row, Call, DirReply, Moment}
+use Rattle.md_core.specs.Tasks.Task.{Task, Deliver, Errand, Clean}
+use Rattle.md_core.specs.Accepting.{name_used}
+use Rattle.md_core.specs.Gathering.{holds, gathers_none}
+use Rattle.md_core.specs.Machine.{turn_of}
+use Rattle.md_core.specs.Mailbox.{is_tmp, is_message, HasOnePath}
+use Rattle.md_core.specs.Submitting.{uses}
+use Rattle.md_core.proofs.Directories.Frames.{Frame}
+use Rattle.md_core.proofs.Induction.Good.{ErrandFits, TaskFits}
+use Rattle.md_core.proofs.Looking.LookUps.{unique-part, message-name}
+use Rattle.md_core.proofs.Machines.Errand.Moves.{Moves, moves}
+use Rattle.md_core.proofs.Machines.Errand.Table.Calls.{on}
+use Rattle.md_core.proofs.Machines.Errand.Table.Deeds.{deed-fits}
+use Rattle.md_core.proofs.Machines.Errand.Table.Rows.{not-tmp}
+use Rattle.md_core.proofs.Machines.Errand.Turns.{deed-there}
+use Rattle.md_core.proofs.Mailbox.Changes.{by_name}
+use Rattle.md_core.proofs.Worlds.Held.{has-any, any-none, never}
+use Rattle.md_core.proofs.Worlds.Loading.Loaded.{none-has}
+
+same-none : (a b : Bool) → (a ≡ false → b ≡ false) → (b ≡ false → a ≡ false) → a ≡ b
+same-none true true h k = refl
+same-none true false h k = k refl
+same-none false b h k = sym (h refl)
+
+-- a path that uses a name up is by that name
+used-key : (u : List ℕ) (p : Path) → uses u p ≡ true → name_used p ≡ u
+used-key u p = by (is_tmp p.place)
+  where
+    by : (b : Bool) → cond b (bytes_eq p.name u) (is_message p && bytes_eq (unique_of p.name) u) ≡ true →
+        cond b p.name (unique_of p.name) ≡ u
+    by true is = (bytes_eq-Decides p.name u).0 is
+    by false is = (bytes_eq-Decides (unique_of p.name) u).0 (and_parts (is_message p) (bytes_eq (unique_of p.name) u) is).1
+
+-- a message uses its unique part up
+message-uses : (p : Path) (u : List ℕ) → is_message p ≡ true → unique_of p.name ≡ u → uses u p ≡ true
+message-uses p u m is = by (is_tmp p.place) refl
+  where
+    by : (b : Bool) → is_tmp p.place ≡ b → cond b (bytes_eq p.name u) (is_message p && bytes_eq (unique_of p.name) u) ≡ true
+    by true tmp = let no : is_message p ≡ false = ap (λ b. not b && is_message_name p.name) tmp in cc
+    by false tmp = and_from (is_message p) (bytes_eq (unique_of p.name) u) m ((bytes_eq-Decides (unique_of p.name) u).1 is)
+
+-- a message is there
+message-holds : (s : State) (p : Path) (n : ℕ) (u : List ℕ) → file_at s p ≡ Some n → is_message p ≡ true → unique_of p.name ≡ u →
+    holds s u ≡ true
+message-holds s p n u there m is =
+    has-any (λ e. uses u e.0) (entries s.names) (p, n) (get-has path_total path_exact s.names p n there) (message-uses p u m is)
+
+module _ (s s' : State) (v : List ℕ) (f : Frame s s' v) (u : List ℕ) (differ : u ≢ v) where
+  beside : (p : Path) → uses u p ≡ true → file_at s' p ≡ file_at s p
+  beside p is = f.names p (λ same. differ (sym (used-key u p is) ∙ same))
+
+  none-more : (a b : State) → ((p : Path) → uses u p ≡ true → file_at b p ≡ file_at a p) → holds a u ≡ false → holds b u ≡ false
+  none-more a b same none = any-none (λ e. uses u e.0) (entries b.names) (λ x has.
+      never (uses u x.0) (λ is.
+      let there : file_at a x.0 ≡ Some x.1 = sym (same x.0 is) ∙ has-get path_total path_exact b.names x has in
+      let no = none-has (λ e. uses u e.0) (entries a.names) (x.0, x.1) none (get-has path_total path_exact a.names x.0 x.1 there) in
+      cc))
+
+  -- a call that acts on the paths of one name leaves what is so of the others
+  pub holds-beside : holds s' u ≡ holds s u
+  holds-beside = sym (same-none (holds s u) (holds s' u) (none-more s s' beside) (none-more s' s (λ p is. sym (beside p is))))
+
+-- ---- a message that is renamed to a path of its unique part
+
+module _ (s : State) (o n : Path) (k : ℕ) (sound : IsSound s) (one : HasOnePath s) (mo : is_message o ≡ true) (mn : is_message n ≡ true)
+    (same : unique_of o.name ≡ unique_of n.name) (within : n.folder < s.folders) (at : file_at s o ≡ Some k) where
+  moved : Moves s (after_rename o n s) n k
+  moved = moves s o n k sound one mo mn same within at
+
+  pub holds-moved : (u : List ℕ) → holds (after_rename o n s) u ≡ holds s u
+  holds-moved u = by_name u (unique_of n.name)
+      (λ is. message-holds (after_rename o n s) n k u moved.puts.there mn (sym is) ∙ sym (message-holds s o k u at mo (same ∙ sym is)))
+      (λ differ. holds-beside s (after_rename o n s) (unique_of n.name) moved.frame u differ)
+
+-- ---- a turn of a job for whose call no name need be gathered
+
+module _ (s : State) (asked : Call) (none : gathers_none asked ≡ true) (sound : IsSound s) (one : HasOnePath s) (clock : ℕ) (faulted : Bool)
+  where
+    -- what it leaves uses up the same names
+    abbrev Holds : Asked → Type 0
+    Holds made = (r : DirReply) → r ≡ reply_of (ask_of made clock) s faulted → (u : List ℕ) →
+        holds (state_by (ask_of made clock) s r) u ≡ holds s u
+
+    module _ (folder : ℕ) (v : List ℕ) (place : Place) (row : Row) (tries : ℕ) where
+      abbrev acting : Purpose → ErrandOf
+      acting p = on folder v p (Act place row tries)
+
+      abbrev made : Purpose → Asked
+      made p = asked_of (deed_by p folder v place row.name (info_in row.name))
+
+      abbrev o : Path
+      o = path_of folder place row.name
+
+      module _ (p : Purpose) (fits : ErrandFits s asked (acting p)) where
+        message : is_message o ≡ true
+        message = and_from _ _ (ap not (not-tmp p place fits.stage.at)) fits.stage.named
+
+        there : reply.Ok ≡ reply_of (ask_of (made p) clock) s faulted → (k : ℕ) × (file_at s o ≡ Some k)
+        there = deed-there s clock faulted o (deed_by p folder v place row.name (info_in row.name))
+            (deed-fits s asked folder v place row tries p fits)
+
+      -- a mark gives its message another name of the unique part
+      marked : (p : Purpose) (fits : ErrandFits s asked (acting p)) (k : ℕ) → file_at s o ≡ Some k → (u : List ℕ) →
+          holds (after_rename o (path_of folder Cur (flagged v (wanted p (shown (info_in row.name))))) s) u ≡ holds s u
+      marked p fits k at u =
+          let name : List ℕ = flagged v (wanted p (shown (info_in row.name))) in
+          let part = unique-part v fits.valid in
+          let unique : unique_of name ≡ v = unique_of-flagged v (wanted p (shown (info_in row.name))) part.colonless in
+          holds-moved s o (path_of folder Cur name) k sound one (message p fits) (message-name v name part unique)
+          (fits.stage.unique ∙ sym unique) fits.in_folder at u
+
+      done : (p : Purpose) (fits : ErrandFits s asked (acting p)) (k : ℕ) → file_at s o ≡ Some k → (u : List ℕ) →
+          holds (state_by (ask_of (made p) clock) s reply.Ok) u ≡ holds s u
+      done (Seen given) fits k at u = marked (Seen given) fits k at u
+      done (Flag add remove) fits k at u = marked (Flag add remove) fits k at u
+      done (Move to) fits k at u =
+          holds-moved s o (path_of to place row.name) k sound one (message (Move to) fits) (message (Move to) fits) refl fits.to_folder at u
+      done (Copy to fresh) fits k at u = let no : gathers_none asked ≡ false = ap gathers_none fits.of in cc
+      done Expunge fits k at u = let no : gathers_none asked ≡ false = ap gathers_none fits.of in cc
+
+      act-holds : (p : Purpose) → ErrandFits s asked (acting p) → Holds (made p)
+      act-holds p fits reply.Ok replied u = let at = there p fits replied in done p fits at.0 at.1 u
+      act-holds p fits r replied u = refl
+
+    stage-holds : (number folder : ℕ) (v : List ℕ) (p : Purpose) (stage : Stage) → ErrandFits s asked (on folder v p stage) →
+        Holds (stage_turn number (on folder v p stage) stage).asked
+    stage-holds number folder v p (Look place tries) fits reply.Ok replied u = refl
+    stage-holds number folder v p (Look place tries) fits r replied u = refl
+    stage-holds number folder v p (Act place row tries) fits r replied u = act-holds folder v place row tries p fits r replied u
+
+    pub turn-holds : (number : ℕ) (task : Task) (at : Moment) → TaskFits s asked task → Holds (turn_of number task at).asked
+    turn-holds number (Deliver d) at fits = let no : gathers_none asked ≡ false = ap gathers_none fits.of in cc
+    turn-holds number (Errand e) at fits = stage-holds number e.folder e.unique e.purpose e.stage fits
+    turn-holds number (Clean c) at fits = let no : gathers_none asked ≡ false = ap gathers_none fits in cc
