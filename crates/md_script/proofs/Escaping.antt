@@ -2,7 +2,7 @@
 use Rattle.std.proofs.Common.{◌≡◌, ◌≢◌, ℕ, suc, ◌+◌, ◌-◌, ◌<◌, ◌≤◌, false, List, [], ◌∷◌, ◌++◌, length, get_or, take, drop, Result, Ok, Err, refl, sym, ap, subst, ◌∙◌, arith, add-one, append_assoc, append-nil, length-take-le}
 use Rattle.std.proofs.lemmas.Bool.Decides.{nat_tests}
 use Rattle.std.proofs.lemmas.Bool.{eq-eqb, eqb-true}
-use Rattle.std.proofs.lemmas.List.{take-append-drop, get_or-take, get_or-drop, length-drop, drop-drop}
+use Rattle.std.proofs.lemmas.List.{take-append-drop, get_or-take}
 use Rattle.std.proofs.lemmas.List.Elements.{All-from_get_or, All-head, All-tail}
 use Rattle.std.proofs.Math.Seq.{drop-cons}
 use Rattle.std.proofs.Math.ListN.{drop_of_length-le}
@@ -11,8 +11,8 @@ use Rattle.md_script.specs.declared.error.PlayKind.{PlayKind}
 use Rattle.md_script.specs.declared.error.PlayKind.TheVariants.{BadEscape}
 use Rattle.md_script.specs.Bind.{◌>>=◌}
 use Rattle.md_script.specs.Escapes.{escape, escape_all, meant_by, onto, byte_by_letter, unescaped}
-use Rattle.memchr.specs.Find.{Nowhere, NoneBefore, Passes, is_byte, places_from}
-use Rattle.md_script.proofs.Marks.{Next, next_mark, found_in, none_in, split}
+use Rattle.memchr.specs.Find.{Nowhere, NoneBefore, Passes, is_byte}
+use Rattle.md_script.proofs.Marks.{split}
 use Rattle.md_script.proofs.Firsts.{refuted, absent, rest_whole}
 
 pub front_none : (read : Result (List ℕ) PlayKind) → byte_by_letter [] read ≡ read
@@ -101,93 +101,32 @@ module _ (text : List ℕ) (at : ℕ) (found : NoneBefore (Passes (is_byte 92) t
     unfolding meaning rest
     read_meant b is = read_escape ∙ ap meaning is
 
--- What was read up to a place of a text, and the marks that are left: from there on, or from the last byte before, which may be a mark too.
-pub record ReadSoFar (text bytes : List ℕ) (done : ℕ) (marks : List ℕ) : Type 0 where
-  pub seen : ℕ
-  pub low : seen ≤ done
-  pub near : done ≤ seen + 1
-  pub within : done ≤ length text
-  pub left : marks ≡ places_from (is_byte 92) text seen (length text - seen)
-  pub read : byte_by_letter bytes (unescaped (drop done text)) ≡ unescaped text
+-- What was read of a text, before what is left of it.
+module _ (text bytes left : List ℕ) (so_far : byte_by_letter bytes (unescaped left) ≡ unescaped text) where
+  -- no backslash is left
+  pub reads_on : Nowhere (Passes (is_byte 92) left) 0 (length left) → unescaped text ≡ Ok (bytes ++ left)
+  reads_on none = sym so_far ∙ ap (byte_by_letter bytes) (all_plain left none)
 
-module _ (text bytes : List ℕ) (done : ℕ) (marks : List ℕ) (so_far : ReadSoFar text bytes done marks) where
-  -- the next mark
-  pub mark_after : (at : ℕ) (rest : List ℕ) → marks ≡ at ∷ rest → Next (is_byte 92) text so_far.seen at rest
-  mark_after at rest is =
-      next_mark (is_byte 92) text so_far.seen (length text - so_far.seen) at rest (omega (arith, so_far.low, so_far.within)) (sym so_far.left ∙ is)
+  module _ (at : ℕ) (found : NoneBefore (Passes (is_byte 92) left) 0 (length left) at × Passes (is_byte 92) left at) where
+    -- a backslash at the end of the text
+    pub ends_early : length left ≤ at + 1 → unescaped text ≡ Err BadEscape
+    ends_early end = sym so_far ∙ ap (byte_by_letter bytes) (read_last left at found end)
 
-  -- one that was the letter of the escape before
-  pub passed_over : (at : ℕ) (rest : List ℕ) → marks ≡ at ∷ rest → at < done → ReadSoFar text bytes done rest
-  passed_over at rest is below =
-      let next = mark_after at rest is in record {
-        seen = at + 1;
-        low = omega (arith, below);
-        near = omega (arith, next.low, so_far.near, below);
-        within = so_far.within;
-        left = next.marks;
-        read = so_far.read;
-      }
+    -- an escape, by its letter
+    module _ (more : at + 1 < length left) where
+      pub refused_at : (kind : PlayKind) → meant_by (get_or left (at + 1) 0) ≡ Err kind → unescaped text ≡ Err kind
+      refused_at kind refuses = sym so_far ∙ ap (byte_by_letter bytes) (read_refused left at found (at + 1) refl more kind refuses)
 
-  found : (at : ℕ) (rest : List ℕ) → marks ≡ at ∷ rest → done ≤ at
-      → NoneBefore (Passes (is_byte 92) (drop done text)) 0 (length (drop done text)) (at - done) × Passes (is_byte 92) (drop done text) (at - done)
-  found at rest is from = found_in (is_byte 92) text so_far.seen done at rest (mark_after at rest is) so_far.low from
-
-  -- no mark is left
-  pub reads_on : marks ≡ [] → unescaped (drop done text) ≡ Ok (drop done text)
-  reads_on is =
-      all_plain (drop done text)
-      (none_in (is_byte 92) text so_far.seen (length text - so_far.seen) done (omega (arith, so_far.low, so_far.within)) (sym so_far.left ∙ is)
-      so_far.low so_far.within)
-
-  -- a backslash at the end of the text
-  pub ends_early : (at : ℕ) (rest : List ℕ) → marks ≡ at ∷ rest → done ≤ at → length text ≤ at + 1 → unescaped text ≡ Err BadEscape
-  ends_early at rest is from end =
-      let long = length-drop done text in
-      sym so_far.read ∙ ap (byte_by_letter bytes) (read_last (drop done text) (at - done) (found at rest is from) (omega (arith, long, from, end)))
-
-  -- an escape, by its letter
-  module _ (at : ℕ) (rest : List ℕ) (is : marks ≡ at ∷ rest) (from : done ≤ at) (more : at + 1 < length text) where
-    letter : ℕ
-    letter = at - done + 1
-
-    letter_within : letter < length (drop done text)
-    unfolding letter
-    letter_within = let long = length-drop done text in omega (arith, long, from, more)
-
-    letter_there : get_or (drop done text) letter 0 ≡ get_or text (at + 1) 0
-    unfolding letter
-    letter_there = let place : done + (at - done + 1) ≡ at + 1 = omega (arith, from) in get_or-drop done text (at - done + 1) 0 ∙ ap (λ k. get_or text k 0) place
-
-    pub refused_at : (kind : PlayKind) → meant_by (get_or text (at + 1) 0) ≡ Err kind → unescaped text ≡ Err kind
-    unfolding letter
-    refused_at kind refuses =
-        sym so_far.read
-        ∙ ap (byte_by_letter bytes)
-        (read_refused (drop done text) (at - done) (found at rest is from) letter refl letter_within kind (ap meant_by letter_there ∙ refuses))
-
-    pub taken : (b : ℕ) → meant_by (get_or text (at + 1) 0) ≡ Ok b
-        → ReadSoFar text ((bytes ++ take (at - done) (drop done text)) ++ b ∷ []) (at + 2) rest
-    unfolding letter
-    taken b means =
-        let next = mark_after at rest is in
-        let front = take (at - done) (drop done text) in
-        let others = drop (at + 2) text in
-        let place : done + (letter + 1) ≡ at + 2 = omega (arith, from) in
-        let left : take (length (drop done text) - (letter + 1)) (drop (letter + 1) (drop done text)) ≡ others =
-        rest_whole (drop done text) (letter + 1) ∙ drop-drop (letter + 1) done text ∙ ap (λ k. drop k text) place in
-        let meant = read_meant (drop done text) (at - done) (found at rest is from) letter refl letter_within b (ap meant_by letter_there ∙ means) in
-        record {
-          seen = at + 1;
-          low = omega arith;
-          near = omega arith;
-          within = omega (arith, more);
-          left = next.marks;
-          read =
-              front_front (bytes ++ front) (b ∷ []) (unescaped others) ∙ front_front bytes front (byte_by_letter (b ∷ []) (unescaped others))
-              ∙ ap (λ r. byte_by_letter bytes (byte_by_letter front r)) (sym (front_onto b [] (unescaped others)) ∙ ap (onto b) (front_none (unescaped others)))
-              ∙ ap (λ xs. byte_by_letter bytes (byte_by_letter front (onto b (unescaped xs)))) (sym left)
-              ∙ ap (byte_by_letter bytes) (sym meant) ∙ so_far.read;
-        }
+      pub taken : (b : ℕ) → meant_by (get_or left (at + 1) 0) ≡ Ok b
+          → byte_by_letter ((bytes ++ take at left) ++ b ∷ []) (unescaped (take (length left - (at + 2)) (drop (at + 2) left))) ≡ unescaped text
+      taken b means =
+          let front = take at left in
+          let others = unescaped (take (length left - (at + 2)) (drop (at + 2) left)) in
+          let place : at + 2 ≡ (at + 1) + 1 = omega arith in
+          front_front (bytes ++ front) (b ∷ []) others ∙ front_front bytes front (byte_by_letter (b ∷ []) others)
+          ∙ ap (λ r. byte_by_letter bytes (byte_by_letter front r)) (sym (front_onto b [] others) ∙ ap (onto b) (front_none others))
+          ∙ ap (λ k. byte_by_letter bytes (byte_by_letter front (onto b (unescaped (take (length left - k) (drop k left)))))) place
+          ∙ ap (byte_by_letter bytes) (sym (read_meant left at found (at + 1) refl more b means)) ∙ so_far
 
 ReadsBack : ℕ → List ℕ → Type 0
 ReadsBack b rest = unescaped (escape b ++ rest) ≡ onto b (unescaped rest)

@@ -1,10 +1,11 @@
 -- Bytes written with escapes, from one byte that is escaped to the next.
-use Rattle.std.proofs.Common.{◌≡◌, ℕ, ◌+◌, ◌-◌, ◌<◌, ◌≤◌, false, List, [], ◌∷◌, ◌++◌, length, get_or, take, drop, refl, sym, ap, ◌∙◌, arith, add-one, length-take-le, append_assoc, cond, is_ok, OnOk, Result, Ok, Err}
+use Rattle.std.proofs.Common.{◌≡◌, ℕ, ◌+◌, ◌-◌, ◌<◌, ◌≤◌, Bool, true, false, ◌||◌, nat_eq, List, [], ◌∷◌, ◌++◌, length, get_or, take, drop, refl, sym, ap, ◌∙◌, arith, add-one, length-take-le, append_assoc, cond, is_ok, OnOk, Result, Ok, Err}
 use Rattle.std.proofs.lemmas.Bool.Decides.{nat_tests}
 use Rattle.std.proofs.lemmas.List.{take-append-drop, get_or-take, get_or-drop, drop-drop}
 use Rattle.std.proofs.lemmas.List.Elements.{All-from_get_or, All-head, All-tail}
 use Rattle.std.proofs.Math.Seq.{drop-cons}
-use Rattle.std.specs.List.{All}
+use Rattle.std.specs.List.{All, list_any}
+use Rattle.md_name.proofs.Either.{any-either}
 use Rattle.memchr.specs.Find.{Nowhere, NoneBefore, Passes, is_byte3, places_from}
 use Rattle.md_script.proofs.Marks.{Next, next_mark, found_in, none_in}
 use Rattle.md_script.specs.Escapes.{escape, escape_all}
@@ -27,6 +28,42 @@ plain_all : (text : List ℕ) → All Plain text → escape_all text ≡ text
 plain_all [] all = refl
 plain_all (c ∷ text) all = ap (λ p. p ++ escape_all text) (escape_plain c (All-head Plain c text all)) ∙
     ap (λ xs. c ∷ xs) (plain_all text (All-tail Plain c text all))
+
+-- ---- whether one of the marks is among bytes
+
+either_mark : (bytes : List ℕ)
+    → ((list_any (λ b. nat_eq b 92) bytes || list_any (λ b. nat_eq b 10) bytes) || list_any (λ b. nat_eq b 13) bytes) ≡ list_any (is_byte3 92 10 13) bytes
+either_mark bytes =
+    ap (λ some. some || list_any (λ b. nat_eq b 13) bytes) (any-either (λ b. nat_eq b 92) (λ b. nat_eq b 10) bytes)
+    ∙ any-either (λ b. nat_eq b 92 || nat_eq b 10) (λ b. nat_eq b 13) bytes
+
+with_second : (first second third : Bool) → second ≡ true → ((first || second) || third) ≡ true
+with_second true second third is = refl
+with_second false true third is = refl
+with_second false false third is = cc
+
+without_second : (first second third : Bool) → second ≡ false → ((first || second) || third) ≡ (first || third)
+without_second true second third is = refl
+without_second false true third is = cc
+without_second false false third is = refl
+
+pub marked_by_feed : (bytes : List ℕ) → list_any (λ b. nat_eq b 10) bytes ≡ true → list_any (is_byte3 92 10 13) bytes ≡ true
+marked_by_feed bytes feed = sym (either_mark bytes) ∙ with_second _ _ _ feed
+
+pub marked_else : (bytes : List ℕ) → list_any (λ b. nat_eq b 10) bytes ≡ false
+    → (list_any (λ b. nat_eq b 92) bytes || list_any (λ b. nat_eq b 13) bytes) ≡ list_any (is_byte3 92 10 13) bytes
+marked_else bytes none = sym (without_second (list_any (λ b. nat_eq b 92) bytes) _ (list_any (λ b. nat_eq b 13) bytes) none) ∙ either_mark bytes
+
+neither : (a b : Bool) → (a || b) ≡ false → (a ≡ false) × (b ≡ false)
+neither true b none = cc
+neither false b none = (refl, none)
+
+-- bytes without a mark are written as they are
+pub unmarked : (text : List ℕ) → list_any (is_byte3 92 10 13) text ≡ false → escape_all text ≡ text
+unmarked [] none = refl
+unmarked (c ∷ text) none =
+    let both = neither (is_byte3 92 10 13 c) (list_any (is_byte3 92 10 13) text) none in
+    ap (λ p. p ++ escape_all text) (escape_plain c both.0) ∙ ap (λ xs. c ∷ xs) (unmarked text both.1)
 
 pub escaped_none : (text : List ℕ) → Nowhere (Passes (is_byte3 92 10 13) text) 0 (length text) → escape_all text ≡ text
 escaped_none text none = plain_all text (All-from_get_or Plain text 0 (λ i h. refuted _ (none i (omega arith) h)))

@@ -2,15 +2,37 @@
 ghost use Rattle.std.specs.Prelude.{◌≡◌, ◌<◌, ◌++◌, true, length, Ok, Err, OnOk, IfOk, IfSome, MatchResult, MatchOption};
 ghost use Rattle.md_script.specs.Words.{Gives};
 ghost use Rattle.md_script.specs.Escapes.{escape, escape_all, meant_by, onto, byte_by_letter, unescaped};
+ghost use Rattle.std.specs.List.{list_any};
 ghost use Rattle.memchr.specs.Find.{is_byte3};
 
 use crate::error::PlayKind;
-use memchr::{memchr_iter, memchr3_iter};
+use memchr::{memchr, memchr3_iter};
 use std::alloc::{AllocError, Global};
 
 /// Appends bytes in one line: a backslash, a line feed and a carriage return as `\\`, `\n` and `\r`, and any other
 /// byte as it is. Where memory runs out, some of it may have been appended.
 pub(crate) fn push_escaped(out: &mut Vec<u8>, bytes: &[u8]) -> Result<(), AllocError>
+    ensures { OnOk result (out.new.items ≡ out.old.items ++ escape_all bytes.now) }
+{
+    if has_mark(bytes) {
+        return push_marked(out, bytes);
+    }
+    out.extend_from_slice(bytes)
+}
+
+/// Whether a backslash, a line feed or a carriage return is among the bytes.
+fn has_mark(bytes: &[u8]) -> bool
+    ensures { result ≡ list_any (is_byte3 92 10 13) bytes.now }
+{
+    // A text of more lines than one has a line feed near, and is then not looked through.
+    if bytes.contains(&b'\n') {
+        return true;
+    }
+    bytes.contains(&b'\\') | bytes.contains(&b'\r')
+}
+
+/// The same of any bytes, from one mark to the next. Apart, since most bytes have none.
+fn push_marked(out: &mut Vec<u8>, bytes: &[u8]) -> Result<(), AllocError>
     ensures { OnOk result (out.new.items ≡ out.old.items ++ escape_all bytes.now) }
 {
     let mut marks = memchr3_iter(b'\\', b'\n', b'\r', bytes);
@@ -40,20 +62,16 @@ pub(crate) fn unescape(alloc: Global, text: &[u8]) -> Result<Vec<u8>, PlayKind>
     ensures { Gives (λ bytes. bytes.items) result (unescaped text.now) }
 {
     let mut bytes = Vec::with_capacity(alloc, text.len())?;
-    let mut marks = memchr_iter(b'\\', text);
-    let mut done = 0;
-    while let Some(at) = marks.next() {
-        // A backslash may be the letter of the escape before.
-        if at >= done {
-            if text.len() - at < 2 {
-                return Err(PlayKind::BadEscape);
-            }
-            bytes.extend_from_slice(&text[done..at])?;
-            bytes.push(meant_by(text[at + 1])?)?;
-            done = at + 2;
+    let mut left = text;
+    while let Some(at) = memchr(b'\\', left) {
+        if left.len() - at < 2 {
+            return Err(PlayKind::BadEscape);
         }
+        bytes.extend_from_slice(&left[..at])?;
+        bytes.push_reserved(meant_by(left[at + 1])?);
+        left = &left[at + 2..];
     }
-    bytes.extend_from_slice(&text[done..])?;
+    bytes.extend_from_slice(left)?;
     Ok(bytes)
 }
 

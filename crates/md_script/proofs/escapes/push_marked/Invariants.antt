@@ -1,6 +1,6 @@
 use Rattle.md_script.proofs.Printing.{SoFar}
 use Rattle.std.proofs.Common.{length}
-use Rattle.md_script.proofs.escapes.push_escaped.Given as goal
+use Rattle.md_script.proofs.escapes.push_marked.Given as goal
 
 abbrev pub invariant-loop-at : goal.invariant-loop-at
 invariant-loop-at l = SoFar l.fn.out.items l.fn.bytes l.out.items l.done l.marks
