@@ -1,19 +1,15 @@
 -- The first colon of a name, and the parts on both sides of it.
-use Rattle.std.proofs.Common.{◌≡◌, ℕ, ◌+◌, Option, Bool, true, false, cond, List, length, take, drop, None, Some, refl, sym, ap, ◌∙◌, ◌<◌, arith, length-take-le}
+use Rattle.std.proofs.Common.{◌≡◌, ℕ, ◌+◌, Option, cond, List, length, take, drop, None, Some, sym, ap, ◌∙◌, ◌<◌, arith, length-take-le}
 use Rattle.std.specs.Prelude.{position}
 use Rattle.std.proofs.lemmas.List.Sums.{position_or_len_is}
 use Rattle.std.specs.List.{after_first, position_or_len}
-use Rattle.md_name.proofs.Firsts.{placed, unplaced, place_within, found, not_found}
-use Rattle.memchr.specs.Find.{IsFirstByte, is_byte}
+use Rattle.md_name.proofs.Firsts.{refuted, placed, unplaced, place_within, found, not_found}
+use Rattle.memchr.specs.Find.{IsFirstByte}
 use Rattle.md_name.specs.declared.info.Info.TheVariants.{Bare}
 use Rattle.md_name.specs.Names.{is_colon, unique_of, info_text, info_of, info_by}
 
-refuted : (b : Bool) → ¬ (b ≡ true) → b ≡ false
-refuted true h = absurd (h refl)
-refuted false h = refl
-
 -- the place that a search gives
-pub colon_place : (name : List ℕ) (r : Option ℕ) → IsFirstByte (is_byte 58) name r → r ≡ position is_colon name
+pub colon_place : (name : List ℕ) (r : Option ℕ) → IsFirstByte is_colon name r → r ≡ position is_colon name
 colon_place name None none = sym (unplaced is_colon name
     (position_or_len_is is_colon name (length name) 0 (omega arith) (λ k h. refuted _ (none k (omega arith) h)) (λ h. absurd (omega arith))))
 colon_place name (Some at) found = sym (placed is_colon name at found.0.high

@@ -5,6 +5,10 @@ use Rattle.std.proofs.lemmas.Bool.Decides.{nat_tests}
 use Rattle.std.proofs.lemmas.List.{take_all}
 use Rattle.std.specs.List.{list_any, before_first, position_or_len}
 
+pub refuted : (b : Bool) → ¬ (b ≡ true) → b ≡ false
+refuted true h = absurd (h refl)
+refuted false h = refl
+
 -- some byte passes just where the first that does stands within the list
 pub any_by_place : (p : ℕ → Bool) (xs : List ℕ) → list_any p xs ≡ nat_lt (position_or_len p xs) (length xs)
 any_by_place p [] = refl

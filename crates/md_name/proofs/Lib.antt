@@ -6,4 +6,5 @@ pub mod Firsts
 pub mod Flagged
 pub mod Hosts
 pub mod Made
+pub mod Marks
 pub mod Sets

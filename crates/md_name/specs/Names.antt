@@ -19,6 +19,10 @@ is_slash b = b == 47
 abbrev pub is_terminator : ℕ → Bool
 is_terminator b = b == 0 || b == 10 || b == 13
 
+-- what no unique name holds
+abbrev pub is_barred : ℕ → Bool
+is_barred b = is_terminator b || is_slash b || is_colon b
+
 -- whether a name begins with a dot
 abbrev pub begins_with_dot : List ℕ → Bool
 begins_with_dot name = starts_with nat_eq name (codes ".")

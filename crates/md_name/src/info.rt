@@ -3,9 +3,9 @@ ghost use Rattle.std.specs.Prelude.{◌≡◌, ◌<◌, length, position, option
 ghost use Rattle.md_name.specs.declared.error.NameError.TheVariants.{NoMemory};
 ghost use Rattle.md_name.specs.Names.{is_colon, unique_of, info_of, info_by, flags_of, is_message_name, split_of, flagged};
 
+use crate::blocks::{Colon, first};
 use crate::error::NameError;
 use crate::flags::Flags;
-use memchr::memchr;
 use std::alloc::Global;
 
 /// The byte that ends the unique part of a name.
@@ -88,7 +88,7 @@ pub fn first_colon(name: &[u8]) -> Option<usize>
     ensures found { result ≡ position is_colon name.now }
     ensures within { IfSome result (λ at. at < length name.now) }
 {
-    memchr(COLON, name)
+    first::<Colon>(name)
 }
 
 /// The same from the unique part of the name: no byte is looked at.

@@ -4,12 +4,13 @@ ghost use Rattle.std.specs.List.{list_any};
 ghost use Rattle.md_name.specs.Names.{is_terminator, is_maildir_unique, is_unique_name};
 ghost use Rattle.md_name.specs.Made.{escaped, is_host, name_of, refusal_of, IsRefusal};
 
+use crate::blocks::{Barred, Terminator, holds};
 use crate::error::NameError;
 use crate::info::COLON;
 use std::alloc::{AllocError, Global};
 
 /// The byte that parts a path.
-const SLASH: u8 = b'/';
+pub(crate) const SLASH: u8 = b'/';
 
 /// A slash as an escaped host has it.
 const ESCAPED_SLASH: &[u8; 4] = b"\\057";
@@ -64,28 +65,21 @@ pub fn make_unique(alloc: Global, parts: UniqueParts<'_>) -> Result<Vec<u8>, Nam
 
 /// Whether a message may be delivered under the name: one to 200 bytes, none of them a colon, a slash,
 /// NUL, LF or CR, and the first of them no dot.
-#[tactic(auto, unfolding(crate::specs::Names::is_unique_name))]
+#[tactic(auto, using(crate::proofs::Either::unique_by_barred))]
 pub fn is_unique_name(name: &[u8]) -> bool
     ensures { result ≡ is_unique_name name.now }
 {
-    is_maildir_unique(name) && name.len() <= MAX_UNIQUE && !holds_terminator(name)
-}
-
-/// Whether the name keeps the rule of maildir(5): it isn't empty, doesn't begin with a dot, and holds
-/// no colon and no slash.
-#[tactic(auto, unfolding(crate::specs::Names::is_maildir_unique))]
-fn is_maildir_unique(name: &[u8]) -> bool
-    ensures { result ≡ is_maildir_unique name.now }
-{
-    !name.is_empty() && !name.starts_with(b".") && !name.contains(&COLON) && !name.contains(&SLASH)
+    !name.is_empty()
+        && !name.starts_with(b".")
+        && name.len() <= MAX_UNIQUE
+        && !holds::<Barred>(name)
 }
 
 /// Whether NUL, LF or CR is among the bytes, of which none may stand in a name or a host.
 pub fn holds_terminator(bytes: &[u8]) -> bool
     ensures { result ≡ list_any is_terminator bytes.now }
 {
-    // One byte is looked for after the other, since each look goes by many bytes at once.
-    bytes.contains(&b'\0') | bytes.contains(&b'\n') | bytes.contains(&b'\r')
+    holds::<Terminator>(bytes)
 }
 
 /// Whether a made name may have the host. Once escaped it's no shorter, so a longer one is out at once.
