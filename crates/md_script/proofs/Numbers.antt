@@ -1,11 +1,16 @@
 -- A number, read digit by digit.
-use Rattle.std.proofs.Common.{◌≡◌, ◌∙◌, sym, ap, subst, ℕ, zero, suc, ◌+◌, ◌-◌, ◌*◌, ◌^◌, ◌<◌, ◌≤◌, ◌==◌, true, false, List, [], ◌∷◌, length, get_or, take, drop, refl, None, Some, Result, Ok, Err, arith, length-take-le}
-use Rattle.std.proofs.lemmas.Bool.{eqb-true}
+use Rattle.std.proofs.Common.{◌≡◌, ◌∙◌, sym, ap, subst, ℕ, zero, suc, ◌+◌, ◌-◌, ◌*◌, ◌^◌, ◌%◌, ◌<◌, ◌≤◌, ◌==◌, Option, true, false, List, [], ◌∷◌, length, get_or, take, drop, refl, None, Some, Result, Ok, Err, inl, inr, arith, length-take-le}
+use Rattle.std.proofs.lemmas.Bool.{cases_lt, eqb-true}
 use Rattle.std.proofs.lemmas.Bool.Decides.{nat_tests}
-use Rattle.std.proofs.lemmas.List.{take_all, get_or-take}
+use Rattle.std.proofs.lemmas.List.{take_all, get_or-take, length-take}
+use Rattle.std.proofs.lemmas.Option.{slice_get-get_or, slice_get_past, slice_get_read}
 use Rattle.std.proofs.lemmas.Int.Digits.{digits_value_more}
 use Rattle.std.proofs.lemmas.Str.{digit_value_digit}
 use Rattle.std.proofs.lemmas.Str.Parse.{numerals_by_value, tells_all_ascii_digits, tells_by_index, IsNumeralModel, digit_at, digits_value-take-le, digits_value_short}
+use Rattle.std.specs.List.{slice_get}
+use Rattle.std.specs.Option.{option_copied}
+use Rattle.std.specs.Slice.{IsItemAt}
+use denote.Bor.{Bor}
 use Rattle.std.specs.Int.{IsInRange}
 use Rattle.std.specs.Str.{all_ascii_digits}
 use Rattle.std.specs.Str.Parse.{digits_value}
@@ -54,6 +59,27 @@ pub ends_with_text : (text : List ℕ) (at : ℕ) → at ≡ length text → ((i
 ends_with_text text at all digits =
     let alone : List ℕ → List ℕ × Rest = λ word. (word, None) in
     last_word text (subst (Nowhere (Passes (is_byte 32) text) 0) all (no_space text at digits)) ∙ ap alone (sym (take_all at text (omega (arith, all))))
+
+pub front_within : (front text : List ℕ) → front ≡ take (length front) text → length front ≤ length text
+front_within front text is = omega (arith, ap length is, length-take (length front) text)
+
+-- a byte less the first digit, where that is small
+pub read_digit : (byte from least : ℕ) → byte < 256 → from ≡ byte → least ≡ 48 → (from + (2 ^ 64 - least)) % 2 ^ 64 ≤ 9
+    → IsInRange 48 57 byte × ((from + (2 ^ 64 - least)) % 2 ^ 64 ≡ byte - 48)
+read_digit byte from least small is first few = ((omega arith, omega arith), omega arith)
+
+-- the byte at a place, as it is lent
+pub item : (text : List ℕ) (at : ℕ) (byte : Option (Bor ℕ)) → IsItemAt text at byte → option_copied byte ≡ slice_get text at
+item text at None is = sym (slice_get_past text at is.3)
+item text at (Some b) is = sym (slice_get_read text (length text) at b.now refl is.3.0 is.1)
+
+-- where a text has no byte, it ends
+pub whole : (text : List ℕ) (at : ℕ) → at ≤ length text → slice_get text at ≡ None → at ≡ length text
+whole text at within none =
+    elim (cases_lt at (length text)) [
+      | inl inside ↦ let some = slice_get-get_or text at 0 inside in cc
+      | inr past ↦ omega (arith, within, past)
+    ]
 
 -- a word that is not empty is one
 nonempty : (word : List ℕ) (rest : Rest) → 0 < length word → nonempty_word (word, rest) ≡ Ok (word, rest)

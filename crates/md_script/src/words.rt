@@ -1,6 +1,8 @@
 //! The words of a line, read from left to right.
-ghost use Rattle.std.specs.Prelude.{◌≡◌, ◌<◌, length, IfOk, IfSome, Ok, Some};
+ghost use Rattle.std.specs.Prelude.{◌≡◌, ◌<◌, ◌≤◌, ℕ, length, slice_get, slice_index, take, IfOk, IfSome, Ok, Some};
+ghost use Rattle.std.specs.Int.{IsInRange};
 ghost use Rattle.std.specs.Option.{option_copied};
+ghost use Rattle.std.specs.Str.Parse.{digits_value};
 ghost use Rattle.md_script.specs.Words.{Gives, Reads, cut_at_space, word_at, end_at, number_at, body_at};
 ghost use Rattle.memchr.specs.Find.{IsFirstByte, is_byte};
 
@@ -13,8 +15,8 @@ use std::alloc::Global;
 /// How many bytes of a word are looked at before a search for its end pays.
 const MOST_NEAR: usize = 12;
 
-/// How many digits make a number that fits in any case.
-const MOST_SHORT: usize = 19;
+/// How many digits a time has. Most numbers have no more.
+const MOST_SHORT: usize = 10;
 
 /// What is left of a line: `None` at its end, and else what follows a space.
 pub(crate) type Rest<'a> = Option<&'a [u8]>;
@@ -105,25 +107,49 @@ pub(crate) fn number_word(rest: Rest<'_>) -> Result<(u64, Rest<'_>), PlayKind>
     any_number(rest)
 }
 
-/// The same of few digits, which are read as their word is cut: they make no number that is too large. Other words are left to `any_number`.
+/// The same of few digits, which make no number that is too large. Other words are left to `any_number`.
 #[inline(always)]
 fn short_number(text: &[u8]) -> Option<(u64, Rest<'_>)>
     ensures { IfSome result (λ read. number_at (Some text.now) ≡ Ok (read.0, option_copied read.1)) }
 {
+    match text.first_chunk::<MOST_SHORT>() {
+        Some(near) => near_number(near, text),
+        None => near_number(text, text),
+    }
+}
+
+/// The same of a number whose digits the front of the text holds. Where that is an array, its loop becomes straight code.
+#[inline(always)]
+fn near_number<'a>(near: &[u8], text: &'a [u8]) -> Option<(u64, Rest<'a>)>
+    requires front { near.now ≡ take (length near.now) text.now }
+    requires few { length near.now ≤ MOST_SHORT }
+    ensures { IfSome result (λ read. number_at (Some text.now) ≡ Ok (read.0, option_copied read.1)) }
+{
     let mut value = 0;
-    for at in 0..text.len().min(MOST_SHORT) {
-        if text[at].is_ascii_digit() {
-            value = value * 10 + u64::from(text[at] - b'0');
-        } else if text[at] == b' ' && at > 0 {
-            return Some((value, Some(&text[at + 1..])));
-        } else {
-            return None;
+    for at in 0..near.len() {
+        let digit = u64::from(near[at]).wrapping_sub(u64::from(b'0'));
+        if digit > 9 {
+            return ended_number(text, value, at, Some(near[at]));
         }
+        value = value * 10 + digit;
     }
-    if text.is_empty() || text.len() > MOST_SHORT {
-        return None;
+    ended_number(text, value, near.len(), text.get(near.len()).copied())
+}
+
+/// The number of the digits in front of a place, where their word ends there: at a space, or with the text.
+#[inline(always)]
+fn ended_number(text: &[u8], value: u64, end: usize, next: Option<u8>) -> Option<(u64, Rest<'_>)>
+    requires digits { (k : ℕ) → k < end → IsInRange 48 57 (slice_index text.now k) }
+    requires value { value ≡ digits_value 10 (take end text.now) }
+    requires within { (end ≤ length text.now) × (end ≤ MOST_SHORT) }
+    requires next { next ≡ slice_get text.now end }
+    ensures { IfSome result (λ read. number_at (Some text.now) ≡ Ok (read.0, option_copied read.1)) }
+{
+    match next {
+        None if end > 0 => Some((value, None)),
+        Some(b' ') if end > 0 => Some((value, Some(&text[end + 1..]))),
+        _ => None,
     }
-    Some((value, None))
 }
 
 /// The same of any word. Apart, since few numbers are long.
