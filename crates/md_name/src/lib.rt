@@ -6,7 +6,7 @@
 //! The rules are those of maildir(5) of qmail and of "Using maildir format".
 #![tactic(auto)]
 
-mod blocks;
+pub mod blocks;
 mod bytes;
 mod error;
 mod flags;

@@ -9,8 +9,10 @@ ghost use Rattle.memchr.specs.Find.{IsFirstByte, is_byte};
 use crate::error::PlayKind;
 use crate::escapes::unescape;
 use crate::number::number;
+use md_name::blocks::{Wanted, first};
 use memchr::memchr;
 use std::alloc::Global;
+use std::simd::prelude::*;
 
 /// How many bytes of a word are looked at before a search for its end pays.
 const MOST_NEAR: usize = 12;
@@ -20,6 +22,23 @@ const MOST_SHORT: usize = 10;
 
 /// What is left of a line: `None` at its end, and else what follows a space.
 pub(crate) type Rest<'a> = Option<&'a [u8]>;
+
+/// What parts two words.
+struct Space;
+
+impl Wanted for Space {
+    ghost wanted = { is_byte 32 };
+
+    #[inline(always)]
+    fn is_wanted(byte: u8) -> bool {
+        byte == b' '
+    }
+
+    #[inline(always)]
+    fn marks(block: u8x16) -> u64 {
+        block.simd_eq(u8x16::splat(b' ')).to_bitmask()
+    }
+}
 
 /// The next word, which isn't empty. Exactly one space parts two words.
 #[tactic(auto, unfolding(crate::specs::Words::word_at))]
@@ -33,14 +52,14 @@ pub(crate) fn word(rest: Rest<'_>) -> Result<(&[u8], Rest<'_>), PlayKind>
     }
 }
 
-/// The same of a word that is mostly long, so that the search for its end begins at once.
+/// The same of a word that is mostly as long as a name, so that the search for its end goes by many bytes at once.
 #[tactic(auto, unfolding(crate::specs::Words::word_at))]
 pub(crate) fn long_word(rest: Rest<'_>) -> Result<(&[u8], Rest<'_>), PlayKind>
     ensures value { Reads (λ word. word.now) result (word_at (option_copied rest.entry)) }
 {
     match rest {
         None => Err(PlayKind::BadCommand),
-        Some(text) => first_word(text, memchr(b' ', text)),
+        Some(text) => first_word(text, first::<Space>(text)),
     }
 }
 
