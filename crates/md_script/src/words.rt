@@ -10,12 +10,8 @@ use crate::error::PlayKind;
 use crate::escapes::unescape;
 use crate::number::number;
 use md_name::blocks::{Wanted, first};
-use memchr::memchr;
 use std::alloc::Global;
 use std::simd::prelude::*;
-
-/// How many bytes of a word are looked at before a search for its end pays.
-const MOST_NEAR: usize = 12;
 
 /// How many digits a time has. Most numbers have no more.
 const MOST_SHORT: usize = 10;
@@ -48,29 +44,17 @@ pub(crate) fn word(rest: Rest<'_>) -> Result<(&[u8], Rest<'_>), PlayKind>
 {
     match rest {
         None => Err(PlayKind::BadCommand),
-        Some(text) => first_word(text, first_space(text)),
-    }
-}
-
-/// The same of a word that is mostly as long as a name, so that the search for its end goes by many bytes at once.
-#[tactic(auto, unfolding(crate::specs::Words::word_at))]
-pub(crate) fn long_word(rest: Rest<'_>) -> Result<(&[u8], Rest<'_>), PlayKind>
-    ensures value { Reads (λ word. word.now) result (word_at (option_copied rest.entry)) }
-{
-    match rest {
-        None => Err(PlayKind::BadCommand),
-        Some(text) => first_word(text, first::<Space>(text)),
+        Some(text) => first_word(text),
     }
 }
 
 /// The word in front of the first space.
 #[tactic(auto, unfolding(crate::specs::Words::word_at))]
-fn first_word(text: &[u8], space: Option<usize>) -> Result<(&[u8], Rest<'_>), PlayKind>
-    requires { IsFirstByte (is_byte 32) text.now space }
+fn first_word(text: &[u8]) -> Result<(&[u8], Rest<'_>), PlayKind>
     ensures value { Reads (λ word. word.now) result (word_at (Some text.now)) }
     ensures nonempty { IfOk result (λ read. 0 < length read.0.now) }
 {
-    let (word, rest) = cut_at(text, space);
+    let (word, rest) = cut_at(text, first::<Space>(text));
     if word.is_empty() {
         return Err(PlayKind::BadCommand);
     }
@@ -85,21 +69,6 @@ fn cut_at(text: &[u8], space: Option<usize>) -> (&[u8], Rest<'_>)
         None => (text, None),
         Some(at) => (&text[..at], Some(&text[at + 1..])),
     }
-}
-
-/// Where the first space is. Most words are short, so that the first bytes are looked at one by one.
-fn first_space(text: &[u8]) -> Option<usize>
-    ensures { IsFirstByte (is_byte 32) text.now result }
-{
-    for at in 0..text.len().min(MOST_NEAR) {
-        if text[at] == b' ' {
-            return Some(at);
-        }
-    }
-    if text.len() <= MOST_NEAR {
-        return None;
-    }
-    memchr(b' ', text)
 }
 
 /// Refuses a word too many.

@@ -9,7 +9,7 @@ ghost use Rattle.md_script.specs.Jobs.{folder_at};
 use crate::command::Command;
 use crate::error::PlayKind;
 use crate::folders::Folders;
-use crate::words::{Rest, body, end, long_word, number_word, word};
+use crate::words::{Rest, body, end, number_word, word};
 use md_dirs::{Bytes, ImageFile, Path, Place};
 use std::alloc::Global;
 
@@ -46,7 +46,7 @@ fn file_of(alloc: Global, folders: &Folders, rest: Rest<'_>) -> Result<ImageFile
 {
     let (folder, rest) = folder(folders, rest)?;
     let (place, rest) = place(rest)?;
-    let (name, rest) = long_word(rest)?;
+    let (name, rest) = word(rest)?;
     let (stamp, rest) = number_word(rest)?;
     let bytes = Bytes::of(body(alloc, rest)?);
     let name = Bytes::copied(alloc, name)?;

@@ -11,7 +11,7 @@ use crate::command::image::folder;
 use crate::error::PlayKind;
 use crate::folders::Folders;
 use crate::verb::{JobVerb, job_verb_from};
-use crate::words::{Rest, body, end, long_word, number_word, word};
+use crate::words::{Rest, body, end, number_word, word};
 use md_core::Call;
 use md_dirs::Bytes;
 use md_name::Flags;
@@ -57,7 +57,7 @@ fn deliver_line(alloc: Global, folders: &Folders, rest: Rest<'_>) -> Result<Call
     ensures { Gives (λ call. call) result (deliver_line folders.now (option_copied rest.entry)) }
 {
     let (folder, rest) = folder(folders, rest)?;
-    let (unique, rest) = long_word(rest)?;
+    let (unique, rest) = word(rest)?;
     let (chunk, rest) = number_word(rest)?;
     let body = Bytes::of(body(alloc, rest)?);
     let unique = Bytes::copied(alloc, unique)?;
@@ -74,7 +74,7 @@ fn seen_line(alloc: Global, folders: &Folders, rest: Rest<'_>) -> Result<Call, P
     ensures { Gives (λ call. call) result (seen_line folders.now (option_copied rest.entry)) }
 {
     let (folder, rest) = folder(folders, rest)?;
-    let (unique, rest) = long_word(rest)?;
+    let (unique, rest) = word(rest)?;
     let (flags, rest) = word(rest)?;
     let flags = flags_from(flags)?;
     let tries = tries(rest)?;
@@ -92,7 +92,7 @@ fn flag_line(alloc: Global, folders: &Folders, rest: Rest<'_>) -> Result<Call, P
     ensures { Gives (λ call. call) result (flag_line folders.now (option_copied rest.entry)) }
 {
     let (folder, rest) = folder(folders, rest)?;
-    let (unique, rest) = long_word(rest)?;
+    let (unique, rest) = word(rest)?;
     let (add, rest) = word(rest)?;
     let add = flags_from(add)?;
     let (remove, rest) = word(rest)?;
@@ -113,7 +113,7 @@ fn move_line(alloc: Global, folders: &Folders, rest: Rest<'_>) -> Result<Call, P
     ensures { Gives (λ call. call) result (move_line folders.now (option_copied rest.entry)) }
 {
     let (from, rest) = folder(folders, rest)?;
-    let (unique, rest) = long_word(rest)?;
+    let (unique, rest) = word(rest)?;
     let (to, rest) = folder(folders, rest)?;
     let tries = tries(rest)?;
     let unique = Bytes::copied(alloc, unique)?;
@@ -130,7 +130,7 @@ fn expunge_line(alloc: Global, folders: &Folders, rest: Rest<'_>) -> Result<Call
     ensures { Gives (λ call. call) result (expunge_line folders.now (option_copied rest.entry)) }
 {
     let (folder, rest) = folder(folders, rest)?;
-    let (unique, rest) = long_word(rest)?;
+    let (unique, rest) = word(rest)?;
     let tries = tries(rest)?;
     let unique = Bytes::copied(alloc, unique)?;
     Ok(Call::Expunge {
@@ -145,9 +145,9 @@ fn copy_line(alloc: Global, folders: &Folders, rest: Rest<'_>) -> Result<Call, P
     ensures { Gives (λ call. call) result (copy_line folders.now (option_copied rest.entry)) }
 {
     let (from, rest) = folder(folders, rest)?;
-    let (unique, rest) = long_word(rest)?;
+    let (unique, rest) = word(rest)?;
     let (target, rest) = folder(folders, rest)?;
-    let (fresh, rest) = long_word(rest)?;
+    let (fresh, rest) = word(rest)?;
     let tries = tries(rest)?;
     let unique = Bytes::copied(alloc, unique)?;
     let fresh = Bytes::copied(alloc, fresh)?;

@@ -9,7 +9,7 @@ use crate::command::Command;
 use crate::command::image::folder;
 use crate::error::PlayKind;
 use crate::folders::Folders;
-use crate::words::{Rest, body, end, long_word, number_word, word};
+use crate::words::{Rest, body, end, number_word, word};
 use md_core::Event;
 use md_name::UniqueParts;
 use std::alloc::Global;
@@ -99,7 +99,7 @@ pub(super) fn read_line(rest: Rest<'_>) -> Result<Command<'_>, PlayKind>
     ensures command { Spells result (read_line (option_copied rest.entry)) }
     ensures fit { (folders mode : _) → IfOk result (IsFit folders mode) }
 {
-    let (unique, rest) = long_word(rest)?;
+    let (unique, rest) = word(rest)?;
     end(rest)?;
     Ok(Command::Read { unique })
 }
