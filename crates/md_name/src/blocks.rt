@@ -1,10 +1,10 @@
-//! Searches of names and other short texts that look at 16 bytes at once. They begin at once too, where those of `memchr`, which go
-//! faster by a long text, take as long to begin as to go by a name.
-ghost use Rattle.std.specs.Prelude.{◌≡◌, ◌+◌, ◌≤◌, ℕ, Bool, length, map};
+//! Searches of names and other short texts that look at 16 bytes at once. One of `memchr` goes faster by a long text, but takes longer to
+//! begin than these take for a whole name.
+ghost use Rattle.std.specs.Prelude.{◌≡◌, ◌||◌, ◌+◌, ◌≤◌, ℕ, Bool, length, map};
 ghost use Rattle.std.specs.List.{list_any};
 ghost use Rattle.std.specs.Simd.Lanes.{chunk, mask_l};
 ghost use Rattle.memchr.specs.Find.{IsFirst, IsFirstByte, Passes};
-ghost use Rattle.md_name.specs.Names.{is_barred, is_colon, is_terminator};
+ghost use Rattle.md_name.specs.Names.{is_barred, is_colon, is_slash, is_terminator};
 
 use crate::info::COLON;
 use crate::unique::SLASH;
@@ -57,6 +57,26 @@ impl Wanted for Terminator {
     #[inline(always)]
     fn marks(block: u8x16) -> u64 {
         (block.simd_eq(u8x16::splat(b'\0'))
+            | block.simd_eq(u8x16::splat(b'\n'))
+            | block.simd_eq(u8x16::splat(b'\r'))).to_bitmask()
+    }
+}
+
+/// A slash, NUL, LF or CR.
+pub(crate) struct Separator;
+
+impl Wanted for Separator {
+    ghost wanted = { λ b. is_slash b || is_terminator b };
+
+    #[inline(always)]
+    fn is_wanted(byte: u8) -> bool {
+        byte == SLASH || Terminator::is_wanted(byte)
+    }
+
+    #[inline(always)]
+    fn marks(block: u8x16) -> u64 {
+        (block.simd_eq(u8x16::splat(SLASH))
+            | block.simd_eq(u8x16::splat(b'\0'))
             | block.simd_eq(u8x16::splat(b'\n'))
             | block.simd_eq(u8x16::splat(b'\r'))).to_bitmask()
     }

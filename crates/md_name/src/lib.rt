@@ -18,4 +18,4 @@ pub use bytes::Bytes;
 pub use error::NameError;
 pub use flags::Flags;
 pub use info::{Info, colon_after, first_colon, is_message, split, unique_part, with_flags};
-pub use unique::{UniqueParts, holds_terminator, is_unique_name, make_unique};
+pub use unique::{UniqueParts, holds_separator, holds_terminator, is_unique_name, make_unique};

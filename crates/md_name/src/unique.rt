@@ -1,10 +1,10 @@
 //! Unique names: which may be delivered under, and how one is made.
-ghost use Rattle.std.specs.Prelude.{◌≡◌, ◌++◌, ◌<◌, ◌≤◌, length, None, IfOk, OnOk, MatchResult, true};
+ghost use Rattle.std.specs.Prelude.{◌≡◌, ◌||◌, ◌++◌, ◌<◌, ◌≤◌, length, None, IfOk, OnOk, MatchResult, true};
 ghost use Rattle.std.specs.List.{list_any};
-ghost use Rattle.md_name.specs.Names.{is_terminator, is_maildir_unique, is_unique_name};
+ghost use Rattle.md_name.specs.Names.{is_slash, is_terminator, is_unique_name};
 ghost use Rattle.md_name.specs.Made.{escaped, is_host, name_of, refusal_of, IsRefusal};
 
-use crate::blocks::{Barred, Terminator, holds};
+use crate::blocks::{Barred, Separator, Terminator, holds};
 use crate::error::NameError;
 use crate::info::COLON;
 use std::alloc::{AllocError, Global};
@@ -80,6 +80,13 @@ pub fn holds_terminator(bytes: &[u8]) -> bool
     ensures { result ≡ list_any is_terminator bytes.now }
 {
     holds::<Terminator>(bytes)
+}
+
+/// Whether a slash, NUL, LF or CR is among the bytes, of which none may stand in the name of a file.
+pub fn holds_separator(bytes: &[u8]) -> bool
+    ensures { result ≡ list_any (λ b. is_slash b || is_terminator b) bytes.now }
+{
+    holds::<Separator>(bytes)
 }
 
 /// Whether a made name may have the host. Once escaped it's no shorter, so a longer one is out at once.
