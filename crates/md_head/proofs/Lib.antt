@@ -19,5 +19,6 @@ pub mod Steps
 pub mod Appended
 pub mod Earlier
 pub mod Places
+pub mod Initials
 pub mod Endings
 pub mod Renamed

@@ -206,22 +206,28 @@ knows_field message left rest name here n found body not_over ends is field k = 
         still_none message left name n k.lines not_over ends none
         (sym (ap (value_in name) field) ∙ ap (λ t. cond t (Some (body_value body)) None) same)
 
--- a group more that is no field
-pub knows_other : (message left rest name : List ℕ) (n : ℕ) (found : Option FieldBody) → (header_section left ≡ [] → ⊥) → EndsGroup left n → rest ≡ drop n left
-    → None ≡ field_of (take n left) → Knows message left name found → Knows message rest name found
+-- a group more that is no field of the name
+pub knows_passed : (message left rest name : List ℕ) (n : ℕ) (found : Option FieldBody) → (header_section left ≡ [] → ⊥) → EndsGroup left n → rest ≡ drop n left
+    → value_in name (field_of (take n left)) ≡ None → Knows message left name found → Knows message rest name found
 unfolding read_more
-knows_other message left rest name n found not_over ends is field k = record {
+knows_passed message left rest name n found not_over ends is other k = record {
   lines = read_more message left rest n not_over ends is k.lines;
   stands = go found k.stands;
   value = ap (λ t. or_later (option_map body_value found) (field_value name t)) is
-      ∙ ap (λ f. or_later (option_map body_value found) (or_later (value_in name f) (field_value name (drop n left)))) field
+      ∙ ap (λ v. or_later (option_map body_value found) (or_later v (field_value name (drop n left)))) (sym other)
       ∙ sym (ap (or_later (option_map body_value found)) (step name left n not_over ends))
       ∙ k.value;
 }
   where
     go : (found : Option FieldBody) → Stands message name k.lines.before found → Stands message name (k.lines.before ++ take n left) found
     go (Some first) stands = stands
-    go None none = still_none message left name n k.lines not_over ends none (sym (ap (value_in name) field))
+    go None none = still_none message left name n k.lines not_over ends none other
+
+-- and so one that is no field
+pub knows_other : (message left rest name : List ℕ) (n : ℕ) (found : Option FieldBody) → (header_section left ≡ [] → ⊥) → EndsGroup left n → rest ≡ drop n left
+    → None ≡ field_of (take n left) → Knows message left name found → Knows message rest name found
+knows_other message left rest name n found not_over ends is field k =
+    knows_passed message left rest name n found not_over ends is (sym (ap (value_in name) field)) k
 
 -- the end of the section
 pub knows_all : (message left name : List ℕ) (found : Option FieldBody) → header_section left ≡ [] → Knows message left name found

@@ -1,5 +1,5 @@
 -- What the search from line end to line end says of the bytes that it passes.
-use Rattle.std.specs.Prelude.{◌≡◌, ℕ, ◌<◌, ◌≤◌, false, List, ◌∷◌, ◌++◌, take, drop, length, slice_index}
+use Rattle.std.specs.Prelude.{◌≡◌, ℕ, ◌<◌, ◌≤◌, Bool, false, ◌||◌, ◌==◌, List, ◌∷◌, ◌++◌, take, drop, length, slice_index}
 use Rattle.std.specs.List.{AllPass}
 use Rattle.md_head.specs.Header.{is_blank, is_continuation, lines_of, IsWholeLines}
 
@@ -18,3 +18,7 @@ pub record EndsGroup (text : List ℕ) (n : ℕ) : Type 0 where
   pub cut : lines_of text ≡ lines_of (take n text) ++ lines_of (drop n text)
   pub line_ends : 0 < length (drop n text) → IsWholeLines (take n text)
   pub over : is_blank (slice_index (drop n text) 0) ≡ false
+
+-- A letter that one of the names subject, from, message-id and date begins with, in either case.
+abbrev pub is_initial : ℕ → Bool
+is_initial b = b == 83 || b == 115 || b == 70 || b == 102 || b == 77 || b == 109 || b == 68 || b == 100

@@ -1,7 +1,8 @@
 //! The fields of a message's header that a summary shows.
-ghost use Rattle.std.specs.Prelude.{◌≡◌, codes};
+ghost use Rattle.std.specs.Prelude.{◌≡◌, codes, not, slice_index};
 ghost use Rattle.std.specs.Str.{str_eq_ignore_ascii_case};
 ghost use Rattle.md_head.specs.Bodies.{or_this, IsFirstField};
+ghost use Rattle.md_head.specs.Scan.{is_initial};
 
 use crate::body::FieldBody;
 use crate::field::field;
@@ -40,13 +41,34 @@ pub fn header_fields(message: &[u8]) -> HeaderFields<'_>
     };
     let mut left = message;
     while !ends_section(left) {
-        let (group, rest) = left.split_at(group_end(left));
-        if let Some((name, folded)) = field(group) {
-            fields.keep_first(name, FieldBody { folded });
+        if begins_other(left) {
+            left = &left[group_end(left)..];
+        } else {
+            let (group, rest) = left.split_at(group_end(left));
+            if let Some((name, folded)) = field(group) {
+                fields.keep_first(name, FieldBody { folded });
+            }
+            left = rest;
         }
-        left = rest;
     }
     fields
+}
+
+/// Whether a text begins as none of the four names does. Most fields are passed over by this one byte.
+fn begins_other(text: &[u8]) -> bool
+    ensures { result ≡ not (is_initial (slice_index text.now 0)) }
+{
+    match text {
+        [first, ..] => !is_initial(*first),
+        [] => true,
+    }
+}
+
+/// Whether a byte is the first letter of one of the four names.
+fn is_initial(byte: u8) -> bool
+    ensures { result ≡ is_initial byte }
+{
+    matches!(byte, b'S' | b's' | b'F' | b'f' | b'M' | b'm' | b'D' | b'd')
 }
 
 impl<'a> HeaderFields<'a> {

@@ -1,12 +1,17 @@
-use Rattle.std.proofs.Common.{◌≡◌, ℕ, List, Option, ap, ◌∙◌, refl}
+use Rattle.std.proofs.Common.{◌≡◌, ℕ, false, List, [], get_or, take, Option, None, ap, sym, ◌∙◌, refl}
 use Rattle.std.proofs.lemmas.Bool.{false≢true}
 use Rattle.std.specs.Prelude.{codes}
 use Rattle.std.specs.Str.{str_eq_ignore_ascii_case}
+use Rattle.md_head.specs.Header.{header_section}
+use Rattle.md_head.specs.Scan.{is_initial}
 use Rattle.md_head.specs.Bodies.{or_this}
 use Rattle.md_head.specs.Computed.{field_of}
 use Rattle.md_head.specs.declared.body.FieldBody.{FieldBody}
+use Rattle.md_head.proofs.Cuts.{rest_whole}
+use Rattle.md_head.proofs.GroupValues.{value_in}
+use Rattle.md_head.proofs.Initials.{not_true, no_subject, no_from, no_message_id, no_date}
 use Rattle.md_head.proofs.Sections.{some_section}
-use Rattle.md_head.proofs.Places.{Knows, knows_nothing, knows_field, knows_other, knows_all}
+use Rattle.md_head.proofs.Places.{Knows, knows_nothing, knows_field, knows_passed, knows_other, knows_all}
 use Rattle.md_head.proofs.header.header_fields.Goals as goal
 
 pub loop-left-init : goal.loop-left-init
@@ -26,9 +31,9 @@ after_field : (c : goal.After-keep_first) (name : List ℕ) (found kept : Option
     → Knows c.args.message.now c.loop-left.left.now name found → Knows c.args.message.now c.split_at.result.1.now name kept
 after_field c name found kept is k =
     rw is
-    (knows_field c.args.message.now c.loop-left.left.now c.split_at.result.1.now name c.in-Some.name.now c.group_end.result found
+    (knows_field c.args.message.now c.loop-left.left.now c.split_at.result.1.now name c.in-Some.name.now c.group_end-else-begins_other.result found
     (record { folded = c.in-Some.folded })
-    (λ over. false≢true (c.loop-left-test.ensures.1 over)) c.group_end.ensures c.split_at.ensures.back (c.in-Some.ensures ∙
+    (λ over. false≢true (c.loop-left-test.ensures.1 over)) c.group_end-else-begins_other.ensures c.split_at.ensures.back (c.in-Some.ensures ∙
     ap field_of c.split_at.ensures.front) k)
 
 pub loop-left-preserved-in-Some : goal.loop-left-preserved-in-Some
@@ -40,12 +45,28 @@ loop-left-preserved-in-Some c = record {
   date = after_field c (codes "date") c.loop-left.fields.date c.keep_first.new.self.date c.keep_first.ensures.date c.loop-left.invariant.date;
 }
 
+-- and after a group that is none, by its first letter
+pub loop-left-preserved-then-begins_other : goal.loop-left-preserved-then-begins_other
+loop-left-preserved-then-begins_other c =
+    let message = c.args.message.now in
+    let left = c.loop-left.left.now in
+    let not_over = λ (over : header_section left ≡ []). false≢true (c.loop-left-test.ensures.1 over) in
+    let plain : is_initial (get_or left 0 0) ≡ false = not_true _ (sym c.begins_other.ensures ∙ c.if-begins_other.true) in
+    let ends = c.group_end.ensures in
+    let past = λ (name : List ℕ) (found : Option FieldBody) (none : value_in name (field_of (take c.group_end.result left)) ≡ None).
+    knows_passed message left _ name c.group_end.result found not_over ends (rest_whole left c.group_end.result) none in record {
+      subject = past (codes "subject") _ (no_subject left _ ends.some plain) c.loop-left.invariant.subject;
+      from = past (codes "from") _ (no_from left _ ends.some plain) c.loop-left.invariant.from;
+      message_id = past (codes "message-id") _ (no_message_id left _ ends.some plain) c.loop-left.invariant.message_id;
+      date = past (codes "date") _ (no_date left _ ends.some plain) c.loop-left.invariant.date;
+    }
+
 -- and after lines that are none
 after_other : (c : goal.In_default) (name : List ℕ) (found : Option FieldBody) → Knows c.args.message.now c.loop-left.left.now name found
     → Knows c.args.message.now c.split_at.result.1.now name found
 after_other c name found k =
-    knows_other c.args.message.now c.loop-left.left.now c.split_at.result.1.now name c.group_end.result found
-    (λ over. false≢true (c.loop-left-test.ensures.1 over)) c.group_end.ensures c.split_at.ensures.back (c.in_default.ensures ∙
+    knows_other c.args.message.now c.loop-left.left.now c.split_at.result.1.now name c.group_end-else-begins_other.result found
+    (λ over. false≢true (c.loop-left-test.ensures.1 over)) c.group_end-else-begins_other.ensures c.split_at.ensures.back (c.in_default.ensures ∙
     ap field_of c.split_at.ensures.front) k
 
 pub loop-left-preserved : goal.loop-left-preserved
