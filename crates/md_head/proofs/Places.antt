@@ -3,7 +3,7 @@ use Rattle.std.proofs.Common.{◌≡◌, ℕ, ◌<◌, Bool, true, false, List, 
 use Rattle.std.proofs.lemmas.Bool.Decides.{nat_tests}
 use Rattle.std.proofs.lemmas.Bool.{false≢true}
 use Rattle.std.proofs.lemmas.List.Sums.{take_while-cons}
-use Rattle.std.specs.Prelude.{option_map, IfSome}
+use Rattle.std.specs.Prelude.{◌&&◌, option_map, is_some, IfSome}
 use Rattle.std.specs.Str.{str_eq_ignore_ascii_case}
 use Rattle.std.specs.List.{AllPass, take_while}
 use Rattle.md_head.specs.Header.{is_blank, is_some_line, is_continuation, lines_of, header_section, IsWholeLines}
@@ -206,6 +206,13 @@ knows_field message left rest name here n found body not_over ends is field k = 
         still_none message left name n k.lines not_over ends none
         (sym (ap (value_in name) field) ∙ ap (λ t. cond t (Some (body_value body)) None) same)
 
+-- and what is kept of it
+pub knows_kept : (message left rest name here : List ℕ) (n : ℕ) (found kept : Option FieldBody) (body : FieldBody) → (header_section left ≡ [] → ⊥)
+    → EndsGroup left n → rest ≡ drop n left → Some (here, body.folded.now) ≡ field_of (take n left)
+    → kept ≡ or_this found (str_eq_ignore_ascii_case here name) body → Knows message left name found → Knows message rest name kept
+knows_kept message left rest name here n found kept body not_over ends is field kept_is k =
+    rw kept_is (knows_field message left rest name here n found body not_over ends is field k)
+
 -- a group more that is no field of the name
 pub knows_passed : (message left rest name : List ℕ) (n : ℕ) (found : Option FieldBody) → (header_section left ≡ [] → ⊥) → EndsGroup left n → rest ≡ drop n left
     → value_in name (field_of (take n left)) ≡ None → Knows message left name found → Knows message rest name found
@@ -240,3 +247,16 @@ knows_all message left name found over k = record {
     go : (found : Option FieldBody) → Stands message name k.lines.before found → IfSome found (λ body. IsFirstBody message name body.folded.now)
     go None stands = tt
     go (Some body) stands = stands
+
+pub all_four : (a b c d : Bool) → (a && b && c && d) ≡ true → (a ≡ true) × (b ≡ true) × (c ≡ true) × (d ≡ true)
+all_four true true true true e = (refl, refl, refl, refl)
+all_four true true true false e = absurd (false≢true e)
+all_four true true false d e = absurd (false≢true e)
+all_four true false c d e = absurd (false≢true e)
+all_four false b c d e = absurd (false≢true e)
+
+-- the name was found
+pub knows_found : (message left name : List ℕ) (found : Option FieldBody) → is_some found ≡ true → Knows message left name found
+    → IsFirstField message name found
+knows_found message left name None some k = absurd (false≢true some)
+knows_found message left name (Some body) some k = record { value = k.value; place = k.stands }

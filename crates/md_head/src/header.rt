@@ -1,5 +1,5 @@
 //! The fields of a message's header that a summary shows.
-ghost use Rattle.std.specs.Prelude.{◌≡◌, codes, not, slice_index};
+ghost use Rattle.std.specs.Prelude.{◌≡◌, ◌&&◌, codes, not, is_some, slice_index};
 ghost use Rattle.std.specs.Str.{str_eq_ignore_ascii_case};
 ghost use Rattle.md_head.specs.Bodies.{or_this, IsFirstField};
 ghost use Rattle.md_head.specs.Scan.{is_initial};
@@ -26,7 +26,7 @@ pub struct HeaderFields<'a> {
     pub date: Option<FieldBody<'a>>,
 }
 
-/// Reads the header section of a message, in one pass that ends at the first empty line.
+/// Reads the header section of a message, in one pass that ends at the first empty line, or where each of the four was found.
 pub fn header_fields(message: &[u8]) -> HeaderFields<'_>
     ensures subject { IsFirstField message.now (codes "subject") result.subject }
     ensures from { IsFirstField message.now (codes "from") result.from }
@@ -47,6 +47,9 @@ pub fn header_fields(message: &[u8]) -> HeaderFields<'_>
             let (group, rest) = left.split_at(group_end(left));
             if let Some((name, folded)) = field(group) {
                 fields.keep_first(name, FieldBody { folded });
+                if fields.is_complete() {
+                    return fields;
+                }
             }
             left = rest;
         }
@@ -72,6 +75,16 @@ fn is_initial(byte: u8) -> bool
 }
 
 impl<'a> HeaderFields<'a> {
+    /// Whether each of the four was found.
+    fn is_complete(&self) -> bool
+        ensures { result ≡ (is_some self.now.subject && is_some self.now.from && is_some self.now.message_id && is_some self.now.date) }
+    {
+        self.subject.is_some()
+            && self.from.is_some()
+            && self.message_id.is_some()
+            && self.date.is_some()
+    }
+
     /// Keeps the body of a field under its name, where that is one of the four and has no body yet.
     fn keep_first(&mut self, name: &[u8], body: FieldBody<'a>)
         ensures subject { self.new.subject ≡ or_this self.old.subject (str_eq_ignore_ascii_case name.now (codes "subject")) body.entry }

@@ -1,6 +1,6 @@
-use Rattle.std.proofs.Common.{◌≡◌, ℕ, false, List, [], get_or, take, Option, None, ap, sym, ◌∙◌, refl}
+use Rattle.std.proofs.Common.{◌≡◌, ℕ, true, false, List, [], get_or, take, Option, None, ap, sym, ◌∙◌, refl}
 use Rattle.std.proofs.lemmas.Bool.{false≢true}
-use Rattle.std.specs.Prelude.{codes}
+use Rattle.std.specs.Prelude.{codes, is_some}
 use Rattle.std.specs.Str.{str_eq_ignore_ascii_case}
 use Rattle.md_head.specs.Header.{header_section}
 use Rattle.md_head.specs.Scan.{is_initial}
@@ -11,7 +11,7 @@ use Rattle.md_head.proofs.Cuts.{rest_whole}
 use Rattle.md_head.proofs.GroupValues.{value_in}
 use Rattle.md_head.proofs.Initials.{not_true, no_subject, no_from, no_message_id, no_date}
 use Rattle.md_head.proofs.Sections.{some_section}
-use Rattle.md_head.proofs.Places.{Knows, knows_nothing, knows_field, knows_passed, knows_other, knows_all}
+use Rattle.md_head.proofs.Places.{Knows, all_four, knows_nothing, knows_kept, knows_passed, knows_other, knows_found, knows_all}
 use Rattle.md_head.proofs.header.header_fields.Goals as goal
 
 pub loop-left-init : goal.loop-left-init
@@ -25,25 +25,57 @@ loop-left-init c = record {
 pub group_end-requires : goal.group_end-requires
 group_end-requires c = some_section c.loop-left.left.now (λ over. false≢true (c.loop-left-test.ensures.1 over))
 
--- one name, after a field more
-after_field : (c : goal.After-keep_first) (name : List ℕ) (found kept : Option FieldBody)
+-- after a field more
+pub loop-left-preserved-else-is_complete : goal.loop-left-preserved-else-is_complete
+loop-left-preserved-else-is_complete c =
+    let left = c.loop-left.left.now in
+    let ends = c.group_end-else-begins_other.ensures in
+    let here = c.in-Some.name.now in
+    let body : FieldBody = record { folded = c.in-Some.folded } in
+    let field = c.in-Some.ensures ∙ ap field_of c.split_at.ensures.front in
+    let after = λ (name : List ℕ) (found kept : Option FieldBody).
+    knows_kept c.args.message.now left _ name here _ found kept body (λ over. false≢true (c.loop-left-test.ensures.1 over)) ends c.split_at.ensures.back field in record {
+      subject = after (codes "subject") _ _ c.keep_first.ensures.subject c.loop-left.invariant.subject;
+      from = after (codes "from") _ _ c.keep_first.ensures.from c.loop-left.invariant.from;
+      message_id = after (codes "message-id") _ _ c.keep_first.ensures.message_id c.loop-left.invariant.message_id;
+      date = after (codes "date") _ _ c.keep_first.ensures.date c.loop-left.invariant.date;
+    }
+
+-- and after the last of the four
+kept_last : (c : goal.Then-is_complete) (name : List ℕ) (found kept : Option FieldBody)
     → kept ≡ or_this found (str_eq_ignore_ascii_case c.in-Some.name.now name) (record { folded = c.in-Some.folded })
     → Knows c.args.message.now c.loop-left.left.now name found → Knows c.args.message.now c.split_at.result.1.now name kept
-after_field c name found kept is k =
-    rw is
-    (knows_field c.args.message.now c.loop-left.left.now c.split_at.result.1.now name c.in-Some.name.now c.group_end-else-begins_other.result found
+kept_last c name found kept is k =
+    knows_kept c.args.message.now c.loop-left.left.now c.split_at.result.1.now name c.in-Some.name.now c.group_end-else-begins_other.result found kept
     (record { folded = c.in-Some.folded })
-    (λ over. false≢true (c.loop-left-test.ensures.1 over)) c.group_end-else-begins_other.ensures c.split_at.ensures.back (c.in-Some.ensures ∙
-    ap field_of c.split_at.ensures.front) k)
+    (λ over. false≢true (c.loop-left-test.ensures.1 over)) c.group_end-else-begins_other.ensures c.split_at.ensures.back
+    (c.in-Some.ensures ∙ ap field_of c.split_at.ensures.front) is k
 
-pub loop-left-preserved-in-Some : goal.loop-left-preserved-in-Some
-loop-left-preserved-in-Some c = record {
-  subject = after_field c (codes "subject") c.loop-left.fields.subject c.keep_first.new.self.subject c.keep_first.ensures.subject c.loop-left.invariant.subject;
-  from = after_field c (codes "from") c.loop-left.fields.from c.keep_first.new.self.from c.keep_first.ensures.from c.loop-left.invariant.from;
-  message_id = after_field c (codes "message-id") c.loop-left.fields.message_id c.keep_first.new.self.message_id c.keep_first.ensures.message_id
-      c.loop-left.invariant.message_id;
-  date = after_field c (codes "date") c.loop-left.fields.date c.keep_first.new.self.date c.keep_first.ensures.date c.loop-left.invariant.date;
-}
+all_kept : (c : goal.Then-is_complete) → (is_some c.keep_first.new.self.subject ≡ true) × (is_some c.keep_first.new.self.from ≡ true)
+    × (is_some c.keep_first.new.self.message_id ≡ true) × (is_some c.keep_first.new.self.date ≡ true)
+all_kept c =
+    let kept = c.keep_first.new.self in
+    all_four (is_some kept.subject) (is_some kept.from) (is_some kept.message_id) (is_some kept.date) (sym c.is_complete.ensures ∙ c.if-is_complete.true)
+
+pub returns-then-is_complete-clause-subject : goal.returns-then-is_complete-clause-subject
+returns-then-is_complete-clause-subject c =
+    knows_found _ _ (codes "subject") _ (all_kept c).0
+    (kept_last c (codes "subject") _ _ c.keep_first.ensures.subject c.loop-left.invariant.subject)
+
+pub returns-then-is_complete-clause-from : goal.returns-then-is_complete-clause-from
+returns-then-is_complete-clause-from c =
+    knows_found _ _ (codes "from") _ (all_kept c).1
+    (kept_last c (codes "from") _ _ c.keep_first.ensures.from c.loop-left.invariant.from)
+
+pub returns-then-is_complete-clause-message_id : goal.returns-then-is_complete-clause-message_id
+returns-then-is_complete-clause-message_id c =
+    knows_found _ _ (codes "message-id") _ (all_kept c).2
+    (kept_last c (codes "message-id") _ _ c.keep_first.ensures.message_id c.loop-left.invariant.message_id)
+
+pub returns-then-is_complete-clause-date : goal.returns-then-is_complete-clause-date
+returns-then-is_complete-clause-date c =
+    knows_found _ _ (codes "date") _ (all_kept c).3
+    (kept_last c (codes "date") _ _ c.keep_first.ensures.date c.loop-left.invariant.date)
 
 -- and after a group that is none, by its first letter
 pub loop-left-preserved-then-begins_other : goal.loop-left-preserved-then-begins_other
