@@ -38,7 +38,8 @@ module _ (text : List ℕ) (n : ℕ) (some : 0 < n) (other : is_initial (get_or 
   abbrev Unnamed : List ℕ → Type 0
   Unnamed name = value_in name (field_of (take n text)) ≡ None
 
-  unnamed : (first : ℕ) (others : List ℕ) → ((b : ℕ) → is_initial b ≡ false → to_ascii_lowercase b ≢ to_ascii_lowercase first) → Unnamed (first ∷ others)
+  unnamed : (first : ℕ) (others : List ℕ)
+      → ((b : ℕ) → is_initial b ≡ false → to_ascii_lowercase b ≢ to_ascii_lowercase first) → Unnamed (first ∷ others)
   unnamed first others differs =
       differs_named (take n text) first others
       (λ e. differs (get_or text 0 0) other (ap to_ascii_lowercase (sym (get_or-take n text 0 0 some)) ∙ e))

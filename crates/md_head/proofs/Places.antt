@@ -207,15 +207,15 @@ knows_field message left rest name here n found body not_over ends is field k = 
         (sym (ap (value_in name) field) ∙ ap (λ t. cond t (Some (body_value body)) None) same)
 
 -- and what is kept of it
-pub knows_kept : (message left rest name here : List ℕ) (n : ℕ) (found kept : Option FieldBody) (body : FieldBody) → (header_section left ≡ [] → ⊥)
-    → EndsGroup left n → rest ≡ drop n left → Some (here, body.folded.now) ≡ field_of (take n left)
+pub knows_kept : (message left rest name here : List ℕ) (n : ℕ) (found kept : Option FieldBody) (body : FieldBody)
+    → (header_section left ≡ [] → ⊥) → EndsGroup left n → rest ≡ drop n left → Some (here, body.folded.now) ≡ field_of (take n left)
     → kept ≡ or_this found (str_eq_ignore_ascii_case here name) body → Knows message left name found → Knows message rest name kept
 knows_kept message left rest name here n found kept body not_over ends is field kept_is k =
     rw kept_is (knows_field message left rest name here n found body not_over ends is field k)
 
 -- a group more that is no field of the name
-pub knows_passed : (message left rest name : List ℕ) (n : ℕ) (found : Option FieldBody) → (header_section left ≡ [] → ⊥) → EndsGroup left n → rest ≡ drop n left
-    → value_in name (field_of (take n left)) ≡ None → Knows message left name found → Knows message rest name found
+pub knows_passed : (message left rest name : List ℕ) (n : ℕ) (found : Option FieldBody) → (header_section left ≡ [] → ⊥) → EndsGroup left n
+    → rest ≡ drop n left → value_in name (field_of (take n left)) ≡ None → Knows message left name found → Knows message rest name found
 unfolding read_more
 knows_passed message left rest name n found not_over ends is other k = record {
   lines = read_more message left rest n not_over ends is k.lines;

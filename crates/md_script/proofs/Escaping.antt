@@ -118,7 +118,8 @@ module _ (text bytes left : List ℕ) (so_far : byte_by_letter bytes (unescaped 
       refused_at kind refuses = sym so_far ∙ ap (byte_by_letter bytes) (read_refused left at found (at + 1) refl more kind refuses)
 
       pub taken : (b : ℕ) → meant_by (get_or left (at + 1) 0) ≡ Ok b
-          → byte_by_letter ((bytes ++ take at left) ++ b ∷ []) (unescaped (take (length left - (at + 2)) (drop (at + 2) left))) ≡ unescaped text
+          → byte_by_letter ((bytes ++ take at left) ++ b ∷ []) (unescaped (take (length left - (at + 2)) (drop (at + 2) left)))
+          ≡ unescaped text
       taken b means =
           let front = take at left in
           let others = unescaped (take (length left - (at + 2)) (drop (at + 2) left)) in

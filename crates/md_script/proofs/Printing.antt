@@ -32,7 +32,8 @@ plain_all (c ∷ text) all = ap (λ p. p ++ escape_all text) (escape_plain c (Al
 -- ---- whether one of the marks is among bytes
 
 either_mark : (bytes : List ℕ)
-    → ((list_any (λ b. nat_eq b 92) bytes || list_any (λ b. nat_eq b 10) bytes) || list_any (λ b. nat_eq b 13) bytes) ≡ list_any (is_byte3 92 10 13) bytes
+    → ((list_any (λ b. nat_eq b 92) bytes || list_any (λ b. nat_eq b 10) bytes) || list_any (λ b. nat_eq b 13) bytes)
+    ≡ list_any (is_byte3 92 10 13) bytes
 either_mark bytes =
     ap (λ some. some || list_any (λ b. nat_eq b 13) bytes) (any-either (λ b. nat_eq b 92) (λ b. nat_eq b 10) bytes)
     ∙ any-either (λ b. nat_eq b 92 || nat_eq b 10) (λ b. nat_eq b 13) bytes
@@ -52,7 +53,8 @@ marked_by_feed bytes feed = sym (either_mark bytes) ∙ with_second _ _ _ feed
 
 pub marked_else : (bytes : List ℕ) → list_any (λ b. nat_eq b 10) bytes ≡ false
     → (list_any (λ b. nat_eq b 92) bytes || list_any (λ b. nat_eq b 13) bytes) ≡ list_any (is_byte3 92 10 13) bytes
-marked_else bytes none = sym (without_second (list_any (λ b. nat_eq b 92) bytes) _ (list_any (λ b. nat_eq b 13) bytes) none) ∙ either_mark bytes
+marked_else bytes none =
+    sym (without_second (list_any (λ b. nat_eq b 92) bytes) _ (list_any (λ b. nat_eq b 13) bytes) none) ∙ either_mark bytes
 
 neither : (a b : Bool) → (a || b) ≡ false → (a ≡ false) × (b ≡ false)
 neither true b none = cc

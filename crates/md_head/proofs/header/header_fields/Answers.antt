@@ -34,7 +34,8 @@ loop-left-preserved-else-is_complete c =
     let body : FieldBody = record { folded = c.in-Some.folded } in
     let field = c.in-Some.ensures ∙ ap field_of c.split_at.ensures.front in
     let after = λ (name : List ℕ) (found kept : Option FieldBody).
-    knows_kept c.args.message.now left _ name here _ found kept body (λ over. false≢true (c.loop-left-test.ensures.1 over)) ends c.split_at.ensures.back field in record {
+    knows_kept c.args.message.now left _ name here _ found kept body
+    (λ over. false≢true (c.loop-left-test.ensures.1 over)) ends c.split_at.ensures.back field in record {
       subject = after (codes "subject") _ _ c.keep_first.ensures.subject c.loop-left.invariant.subject;
       from = after (codes "from") _ _ c.keep_first.ensures.from c.loop-left.invariant.from;
       message_id = after (codes "message-id") _ _ c.keep_first.ensures.message_id c.loop-left.invariant.message_id;
@@ -46,8 +47,8 @@ kept_last : (c : goal.Then-is_complete) (name : List ℕ) (found kept : Option F
     → kept ≡ or_this found (str_eq_ignore_ascii_case c.in-Some.name.now name) (record { folded = c.in-Some.folded })
     → Knows c.args.message.now c.loop-left.left.now name found → Knows c.args.message.now c.split_at.result.1.now name kept
 kept_last c name found kept is k =
-    knows_kept c.args.message.now c.loop-left.left.now c.split_at.result.1.now name c.in-Some.name.now c.group_end-else-begins_other.result found kept
-    (record { folded = c.in-Some.folded })
+    knows_kept c.args.message.now c.loop-left.left.now c.split_at.result.1.now name c.in-Some.name.now
+    c.group_end-else-begins_other.result found kept (record { folded = c.in-Some.folded })
     (λ over. false≢true (c.loop-left-test.ensures.1 over)) c.group_end-else-begins_other.ensures c.split_at.ensures.back
     (c.in-Some.ensures ∙ ap field_of c.split_at.ensures.front) is k
 
@@ -55,7 +56,8 @@ all_kept : (c : goal.Then-is_complete) → (is_some c.keep_first.new.self.subjec
     × (is_some c.keep_first.new.self.message_id ≡ true) × (is_some c.keep_first.new.self.date ≡ true)
 all_kept c =
     let kept = c.keep_first.new.self in
-    all_four (is_some kept.subject) (is_some kept.from) (is_some kept.message_id) (is_some kept.date) (sym c.is_complete.ensures ∙ c.if-is_complete.true)
+    all_four (is_some kept.subject) (is_some kept.from) (is_some kept.message_id) (is_some kept.date)
+    (sym c.is_complete.ensures ∙ c.if-is_complete.true)
 
 pub returns-then-is_complete-clause-subject : goal.returns-then-is_complete-clause-subject
 returns-then-is_complete-clause-subject c =
@@ -98,8 +100,8 @@ after_other : (c : goal.In_default) (name : List ℕ) (found : Option FieldBody)
     → Knows c.args.message.now c.split_at.result.1.now name found
 after_other c name found k =
     knows_other c.args.message.now c.loop-left.left.now c.split_at.result.1.now name c.group_end-else-begins_other.result found
-    (λ over. false≢true (c.loop-left-test.ensures.1 over)) c.group_end-else-begins_other.ensures c.split_at.ensures.back (c.in_default.ensures ∙
-    ap field_of c.split_at.ensures.front) k
+    (λ over. false≢true (c.loop-left-test.ensures.1 over)) c.group_end-else-begins_other.ensures c.split_at.ensures.back
+    (c.in_default.ensures ∙ ap field_of c.split_at.ensures.front) k
 
 pub loop-left-preserved : goal.loop-left-preserved
 loop-left-preserved c = record {

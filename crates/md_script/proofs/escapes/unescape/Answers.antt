@@ -6,7 +6,8 @@ use Rattle.md_script.proofs.Escaping.{reads_on, ends_early, refused_at, taken}
 use Rattle.md_script.proofs.escapes.unescape.Goals as goal
 
 pub returns-then-left-at-lt2 : goal.returns-then-left-at-lt2
-returns-then-left-at-lt2 c = λ memory. ends_early _ _ _ c.loop-at.invariant.0 _ c.in-Some.ensures (omega (arith, c.if-left-at-lt2.true, c.in-Some.ensures.0.high))
+returns-then-left-at-lt2 c = λ memory.
+    ends_early _ _ _ c.loop-at.invariant.0 _ c.in-Some.ensures (omega (arith, c.if-left-at-lt2.true, c.in-Some.ensures.0.high))
 
 pub returns-in_err-meant_by : goal.returns-in_err-meant_by
 returns-in_err-meant_by c =
