@@ -1,5 +1,5 @@
 -- What a world keeps beside its run, and how that is told from the run.
-use Rattle.std.specs.Prelude.{ℕ, ◌≡◌, ◌<◌, List, [], ◌∷◌, Option, Some, None, Bool, true, length, map, take, slice_get, vec_len, vec_capacity}
+use Rattle.std.specs.Prelude.{ℕ, ◌≡◌, ◌<◌, List, [], ◌∷◌, Some, Bool, true, ◌||◌, length, map, take, slice_get, vec_len, vec_capacity}
 use Rattle.md_jobs.specs.declared.call.Call.{Call}
 use Rattle.md_jobs.specs.declared.error.CoreError.{CoreError}
 use Rattle.md_jobs.specs.declared.step.Event.{Event}
@@ -10,8 +10,10 @@ use Rattle.md_core.specs.Machine.{Machine, Occurrence, job_at}
 use Rattle.md_core.specs.Standing.{JobView, standings}
 use Rattle.md_core.specs.Runs.{Run, machine_of, dirs_of, jobs_of, failures_of, calls_made_of, and_events, step_refusal, IsRefusal}
 use Rattle.md_core.specs.Submitting.{is_used}
-use Rattle.md_core.specs.Gathering.{holds, gathers_none}
+use Rattle.md_core.specs.Gathering.{holds, gathers_none, may_take}
 use Rattle.md_core.specs.Used.{is_among}
+use Rattle.md_core.specs.declared.used.Used.{Used}
+use Rattle.md_core.specs.declared.used.Used.TheVariants.{Leaving, All}
 use Rattle.md_core.specs.Stepping.{IsRun}
 
 -- events and their marks
@@ -41,17 +43,22 @@ run_of first began jobs events marks = record {
 abbrev pub machine_by : Device → ℕ → List JobView → List Effect → Machine
 machine_by now clock jobs effects = record { dirs = now.state; clock = clock; jobs = standings jobs; effects = effects }
 
--- the names that a world keeps are those that are used up. While no call was one for which they are gathered it may keep none: its
--- directories use them up
-abbrev pub AreUsed : Run → Option (List (List ℕ)) → Type 0
-AreUsed r None =
-    ((i : ℕ) (call : Call) → slice_get r.calls i ≡ Some call → gathers_none call ≡ true)
-    × ((u : List ℕ) → holds (dirs_of r) u ≡ is_used r u)
-AreUsed r (Some names) = (u : List ℕ) → is_among u names ≡ is_used r u
+-- While no call was one for which all names are gathered, those are kept that a call may take away or may have taken away. The directories
+-- use up the others.
+pub record AreLeaving (r : Run) (names : List (List ℕ)) : Type 0 where
+  pub calls : (i : ℕ) (call : Call) → slice_get r.calls i ≡ Some call → gathers_none call ≡ true
+  pub taken : (i : ℕ) (call : Call) → slice_get r.calls i ≡ Some call → (u : List ℕ) → may_take (dirs_of r) call u ≡ true →
+      is_among u names ≡ true
+  pub used : (u : List ℕ) → (is_among u names || holds (dirs_of r) u) ≡ is_used r u
+
+-- the names that a world keeps are those that are used up, or those that may leave its directories
+abbrev pub AreUsed : Run → Used → Type 0
+AreUsed r (Leaving names) = AreLeaving r names.items
+AreUsed r (All names) = (u : List ℕ) → is_among u names ≡ is_used r u
 
 -- The directories, clock, jobs and effects that a world keeps are those of its run. Its directories failed as often since the
 -- beginning as the run has marks, as many calls of them were made as the run has events, and its used names are those of the run.
-pub record IsWorld (r : Run) (kept : Machine) (held : Device) (used : Option (List (List ℕ)))
+pub record IsWorld (r : Run) (kept : Machine) (held : Device) (used : Used)
     (events : List Event) (marks : List Bool) : Type 0 where
   pub run : IsRun r
   pub now : kept ≡ machine_of r

@@ -57,6 +57,22 @@ impl NameSet {
     }
 }
 
+/// What a world keeps of the names that are used up.
+#[derive(Drop)]
+pub(crate) enum Used {
+    /// Names that may leave the directories, or have left them. These hold all others that are used.
+    Leaving(Vec<NameKey<'static>>),
+    /// All of them.
+    All(UsedNames),
+}
+
+/// Whether a name is among those.
+pub(crate) fn is_among_keys(keys: &[NameKey<'static>], name: &[u8]) -> bool
+    ensures { result ≡ is_among name.now keys.now }
+{
+    keys.iter().any(|key| key.as_slice() == name)
+}
+
 /// The names that are used up: those of messages and of deliveries, and beside them those of files in tmp, as a file in tmp may
 /// have the name of a message.
 #[derive(Drop)]

@@ -1,6 +1,6 @@
 //! The world: directories, the jobs on them, and the log of their steps.
 use crate::jobs::job::Job;
-use crate::used::UsedNames;
+use crate::used::Used;
 use log::Log;
 use md_dirs::Dirs;
 use md_jobs::Image;
@@ -37,8 +37,8 @@ pub struct World<D: Dirs> {
     // The clock now, in seconds.
     clock: u64,
     jobs: Vec<Job>,
-    // The names that are used up, once a call needed them. Until then the directories hold them all.
-    used: Option<UsedNames>,
+    // The names that are used up, once a call needed them. Until then those alone that may leave the directories.
+    used: Used,
     log: Log,
 }
 

@@ -9,8 +9,9 @@ use Rattle.md_core.specs.Runs.{Run}
 use Rattle.md_core.specs.Settling.{first_unanswered, settled}
 use Rattle.md_core.specs.Standing.{JobView, standings}
 use Rattle.md_core.specs.Stepping.{IsRun}
+use Rattle.md_core.specs.declared.used.Used.{Used}
 use Rattle.md_core.specs.Worlds.{IsWorld, run_of, machine_by}
-use Rattle.md_core.proofs.Worlds.Submitted.{begun-bare}
+use Rattle.md_core.proofs.Worlds.Submitted.{IsBare, begun-bare}
 use Rattle.md_core.proofs.Settling.EachRun.{is_run-settled}
 
 place-standings : (jobs : List JobView) → position_or_len is_working (standings jobs) ≡ position_or_len (λ job. is_working job.standing) jobs
@@ -22,7 +23,7 @@ position-standings jobs =
     λ i. cond (nat_lt (place-standings jobs i) (length-map jobs (λ (job : JobView). job.standing) i)) (Some (place-standings jobs i)) None
 
 module _ (first : Device) (began : ℕ) (jobs : List JobView) (events : List Event) (marks : List Bool) (held : Device) (clock : ℕ) (effects : List Effect)
-    (used : Option (List (List ℕ))) (world : IsWorld (run_of first began jobs events marks) (machine_by held clock jobs effects) held used events marks) where
+    (used : Used) (world : IsWorld (run_of first began jobs events marks) (machine_by held clock jobs effects) held used events marks) where
   abbrev run : Run
   run = run_of first began jobs events marks
 
@@ -39,7 +40,7 @@ module _ (first : Device) (began : ℕ) (jobs : List JobView) (events : List Eve
   begins : IsRun (run_of held clock [] [] [])
   begins = subst (λ (r : Run). IsRun r) (sym settled-is) (is_run-settled run world.run)
 
-  pub settled-world : IsWorld (run_of held clock [] [] []) (machine_by held clock [] []) held None [] []
+  pub settled-world : (kept : Used) → IsBare kept → IsWorld (run_of held clock [] [] []) (machine_by held clock [] []) held kept [] []
   settled-world = begun-bare held begins.sound begins.loaded clock begins.stamped
 
   -- the first job without an answer, by the jobs that are held

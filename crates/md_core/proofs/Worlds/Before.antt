@@ -1,5 +1,5 @@
 -- The names that are used up before a call, whether a world keeps them or not.
-use Rattle.std.proofs.Common.{ℕ, ◌≡◌, ◌∙◌, List, Option, Some, None, Bool, sym, ap, subst}
+use Rattle.std.proofs.Common.{ℕ, ◌≡◌, ◌∙◌, ◌||◌, List, Bool, sym, ap, subst}
 use Rattle.md_core.proofs.Values.{Effect, Event}
 use Rattle.md_dirs.specs.Calls.{Device}
 use Rattle.md_core.specs.Gathering.{holds, is_used_before}
@@ -7,13 +7,16 @@ use Rattle.md_core.specs.Machine.{Machine}
 use Rattle.md_core.specs.Standing.{JobView}
 use Rattle.md_core.specs.Runs.{Run}
 use Rattle.md_core.specs.Submitting.{is_used}
+use Rattle.md_core.specs.Used.{is_among}
+use Rattle.md_core.specs.declared.used.Used.{Used}
+use Rattle.md_core.specs.declared.used.Used.TheVariants.{Leaving, All}
 use Rattle.md_core.specs.Worlds.{IsWorld, AreUsed, run_of, machine_by}
 use Rattle.md_core.proofs.Induction.Good.{IsGood}
 use Rattle.md_core.proofs.Induction.GoodRuns.{good-machine}
 use Rattle.md_core.proofs.Machines.EachTurn.{each-turn}
 
 module _ (first : Device) (began : ℕ) (jobs : List JobView) (events : List Event) (marks : List Bool) (held : Device) (clock : ℕ) (effects : List Effect)
-    (used : Option (List (List ℕ))) (world : IsWorld (run_of first began jobs events marks) (machine_by held clock jobs effects) held used events marks) where
+    (used : Used) (world : IsWorld (run_of first began jobs events marks) (machine_by held clock jobs effects) held used events marks) where
   abbrev run : Run
   run = run_of first began jobs events marks
 
@@ -24,6 +27,6 @@ module _ (first : Device) (began : ℕ) (jobs : List JobView) (events : List Eve
   pub used-before : (u : List ℕ) → is_used_before held.state used u ≡ is_used run u
   used-before u = by used world.names
     where
-      by : (names : Option (List (List ℕ))) → AreUsed run names → is_used_before held.state names u ≡ is_used run u
-      by None none = ap (λ (m : Machine). holds m.dirs u) world.now ∙ none.1 u
-      by (Some names) kept = kept u
+      by : (names : Used) → AreUsed run names → is_used_before held.state names u ≡ is_used run u
+      by (Leaving names) kept = ap (λ (m : Machine). is_among u names.items || holds m.dirs u) world.now ∙ kept.used u
+      by (All names) kept = kept u

@@ -1,17 +1,18 @@
 -- What a world's fields say of the checks of its run.
-use Rattle.std.proofs.Common.{ℕ, ◌≡◌, ◌∙◌, List, Option, Bool, ap}
+use Rattle.std.proofs.Common.{ℕ, ◌≡◌, ◌∙◌, List, Bool, ap}
 use Rattle.md_jobs.specs.declared.effect.Effect.{Effect}
 use Rattle.md_jobs.specs.declared.step.Event.{Event}
 use Rattle.md_dirs.specs.Calls.{Device}
 use Rattle.md_core.specs.Machine.{Machine}
 use Rattle.md_core.specs.Standing.{JobView}
 use Rattle.md_core.specs.Runs.{Run}
+use Rattle.md_core.specs.declared.used.Used.{Used}
 use Rattle.md_core.specs.Worlds.{IsWorld, run_of, machine_by}
 use Rattle.md_core.proofs.Machines.EachTurn.{each-turn}
 use Rattle.md_core.proofs.Theorem.LawHolds.{folders-stay}
 
 module _ (first : Device) (began : ℕ) (jobs : List JobView) (events : List Event) (marks : List Bool) (held : Device) (clock : ℕ) (effects : List Effect)
-    (used : Option (List (List ℕ))) (r : Run)
+    (used : Used) (r : Run)
     (view : run_of first began jobs events marks ≡ r)
     (world : IsWorld (run_of first began jobs events marks) (machine_by held clock jobs effects) held used events marks) where
   pub folders-are : held.state.folders ≡ r.image.folders

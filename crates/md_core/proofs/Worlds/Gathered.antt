@@ -1,6 +1,7 @@
 -- The names that entries use up, one after another.
-use Rattle.std.proofs.Common.{ℕ, ◌≡◌, ◌∙◌, List, [], Bool, true, false, ◌||◌, refl, sym, ap}
+use Rattle.std.proofs.Common.{ℕ, ◌≡◌, ◌+◌, ◌∙◌, List, [], Some, Bool, true, false, ◌||◌, take, slice_get, refl, sym, ap}
 use Rattle.std.specs.List.{list_any}
+use Rattle.std.specs.Str.{bytes_eq}
 use Rattle.std.proofs.lemmas.List.Sorted.{list_any-IsPermutation}
 use Rattle.md_dirs.specs.Path.{path_of}
 use Rattle.md_core.proofs.Values.{State, Place, Row}
@@ -8,6 +9,7 @@ use Rattle.md_core.specs.Gathering.{AreOf}
 use Rattle.md_core.specs.Looking.{entries_before}
 use Rattle.md_core.specs.Submitting.{uses}
 use Rattle.md_core.specs.Used.{is_among}
+use Rattle.md_core.proofs.Lists.Places.{take-one_more}
 use Rattle.md_core.proofs.Worlds.Loading.Lying.{Follows, IsUnordered}
 use Rattle.md_core.proofs.Worlds.Loading.Order.{before-none}
 use Rattle.md_core.proofs.Worlds.Submitted.{any-push}
@@ -17,6 +19,19 @@ turned true true = refl
 turned true false = refl
 turned false true = refl
 turned false false = refl
+
+-- one more name of a list
+pub among-more : (names : List (List ℕ)) (at : ℕ) (name : List ℕ) → slice_get names at ≡ Some name → (u : List ℕ) (held : Bool) →
+    (bytes_eq name u || (is_among u (take at names) || held)) ≡ (is_among u (take (at + 1) names) || held)
+among-more names at name is u held =
+    first (bytes_eq name u) (is_among u (take at names)) held
+    ∙ ap (λ b. b || held) (sym (any-push (λ n. bytes_eq n u) (take at names) name) ∙ ap (is_among u) (sym (take-one_more names at name is)))
+  where
+    first : (a b c : Bool) → (a || (b || c)) ≡ ((b || a) || c)
+    first true true c = refl
+    first true false c = refl
+    first false true c = refl
+    first false false c = refl
 
 pub gathered-none : (s : State) (names : List (List ℕ)) → names ≡ [] → AreOf (entries_before s 0 0) names
 gathered-none s names none u = ap (is_among u) none ∙ ap (list_any (λ e. uses u e.0)) (sym (before-none s))

@@ -1,31 +1,45 @@
 -- Which names directories use up, before a turn of a job and after it.
-use Rattle.std.proofs.Common.{ℕ, ◌≡◌, ◌≢◌, ◌<◌, ◌&&◌, List, Option, Some, None, Bool, true, false, cond, not, refl, sym, ap, subst, ◌∙◌}
+use Rattle.std.proofs.Common.{ℕ, ◌≡◌, ◌≢◌, ◌<◌, ◌&&◌, ◌||◌, inl, inr, List, [], ◌∷◌, Option, Some, None, Bool, true, false, cond, not}
+use Rattle.std.proofs.Common.{is_some, map, filter, refl, sym, ap, ◌∙◌}
 use Rattle.std.specs.FinMap.{entries}
 use Rattle.std.specs.Str.{bytes_eq}
 use Rattle.std.proofs.lemmas.Bool.{and_parts, and_from}
 use Rattle.std.proofs.lemmas.Slice.Eq.{bytes_eq-Decides}
-use Rattle.md_dirs.specs.Calls.{after_rename}
+use Rattle.std.specs.List.{list_any}
+use Rattle.std.specs.List.Sorted.{IsPermutation}
+use Rattle.std.proofs.lemmas.List.Sorted.{list_any-IsPermutation}
+use Rattle.md_dirs.specs.Calls.{after_rename, after_unlink}
+use Rattle.md_dirs.specs.Rows.{is_in, row_of, rows_of}
 use Rattle.md_dirs.proofs.PathOrder.{path_total, path_exact}
 use Rattle.lists.proofs.Members.{get-has, has-get}
 use Rattle.md_name.specs.Names.{unique_of, flagged, is_message_name}
 use Rattle.md_name.proofs.Flagged.{unique_of-flagged}
-use Rattle.md_jobs.specs.Asked.{Asked, ask_of, state_by}
+use Rattle.md_jobs.specs.Asked.{Asked, unlink, ask_of, state_by}
 use Rattle.md_jobs.specs.Machines.Errand.{asked_of, errand_turn, stage_turn}
 use Rattle.md_jobs.specs.Machines.Purposes.{deed_by, info_in, shown, wanted}
+use Rattle.md_jobs.specs.Machines.Clean as cleaned_by
+use Rattle.md_jobs.specs.Tasks.Cleaning.{Cleaning}
+use Rattle.md_jobs.specs.Tasks.Cleaning as cleaning
+use Rattle.md_jobs.specs.Tasks.Deed as deed
 use Rattle.md_jobs.specs.Tasks.Errand.{Errand as ErrandOf, Stage, Look, Act}
+use Rattle.md_jobs.specs.declared.call.Call.TheVariants as call
 use Rattle.md_jobs.specs.Tasks.Purpose.{Purpose, Seen, Flag, Move, Copy, Expunge}
 use Rattle.md_jobs.specs.Turn.{reply_of}
 use Rattle.md_jobs.specs.declared.step.DirReply.TheVariants as reply
-use Rattle.md_core.proofs.Values.{State, IsSound, file_at, Path, path_of, Place, Cur, Row, Call, DirReply, Moment}
+use Rattle.md_core.proofs.Values.{State, IsSound, file_at, file_by, Path, path_of, Place, Tmp, Cur, Row, Call, DirReply, Moment}
 use Rattle.md_core.specs.Tasks.Task.{Task, Deliver, Errand, Clean}
-use Rattle.md_core.specs.Accepting.{name_used}
-use Rattle.md_core.specs.Gathering.{holds, gathers_none}
+use Rattle.md_core.specs.Accepting.{name_used, MakesMessage}
+use Rattle.md_core.specs.Gathering.{holds, gathers_none, may_take}
 use Rattle.md_core.specs.Machine.{turn_of}
 use Rattle.md_core.specs.Mailbox.{is_tmp, is_message, HasOnePath}
 use Rattle.md_core.specs.Submitting.{uses}
+use Rattle.md_core.specs.Used.{is_among}
+use Rattle.md_core.proofs.Answers.Files.Asking.{asks-fair, creates}
+use Rattle.md_core.proofs.Answers.Files.Tmp.{touches}
+use Rattle.md_core.proofs.Directories.Calls.Unlink.{unlink-frame}
 use Rattle.md_core.proofs.Directories.Frames.{Frame}
 use Rattle.md_core.proofs.Induction.Good.{ErrandFits, TaskFits}
-use Rattle.md_core.proofs.Looking.LookUps.{unique-part, message-name}
+use Rattle.md_core.proofs.Looking.LookUps.{unique-part, message-name, in-path}
 use Rattle.md_core.proofs.Machines.Errand.Moves.{Moves, moves}
 use Rattle.md_core.proofs.Machines.Errand.Table.Calls.{on}
 use Rattle.md_core.proofs.Machines.Errand.Table.Deeds.{deed-fits}
@@ -34,6 +48,7 @@ use Rattle.md_core.proofs.Machines.Errand.Turns.{deed-there}
 use Rattle.md_core.proofs.Mailbox.Changes.{by_name}
 use Rattle.md_core.proofs.Worlds.Held.{has-any, any-none, never}
 use Rattle.md_core.proofs.Worlds.Loading.Loaded.{none-has}
+use Rattle.md_core.proofs.Worlds.Loading.Rows.{row_name, in-is}
 
 same-none : (a b : Bool) → (a ≡ false → b ≡ false) → (b ≡ false → a ≡ false) → a ≡ b
 same-none true true h k = refl
@@ -90,7 +105,7 @@ module _ (s : State) (o n : Path) (k : ℕ) (sound : IsSound s) (one : HasOnePat
       (λ is. message-holds (after_rename o n s) n k u moved.puts.there mn (sym is) ∙ sym (message-holds s o k u at mo (same ∙ sym is)))
       (λ differ. holds-beside s (after_rename o n s) (unique_of n.name) moved.frame u differ)
 
--- ---- a turn of a job for whose call no name need be gathered
+-- ---- a turn of an errand that makes no name and takes none away
 
 module _ (s : State) (asked : Call) (none : gathers_none asked ≡ true) (sound : IsSound s) (one : HasOnePath s) (clock : ℕ) (faulted : Bool)
   where
@@ -145,8 +160,122 @@ module _ (s : State) (asked : Call) (none : gathers_none asked ≡ true) (sound 
     stage-holds number folder v p (Look place tries) fits reply.Ok replied u = refl
     stage-holds number folder v p (Look place tries) fits r replied u = refl
     stage-holds number folder v p (Act place row tries) fits r replied u = act-holds folder v place row tries p fits r replied u
+    -- ---- names in tmp
 
-    pub turn-holds : (number : ℕ) (task : Task) (at : Moment) → TaskFits s asked task → Holds (turn_of number task at).asked
-    turn-holds number (Deliver d) at fits = let no : gathers_none asked ≡ false = ap gathers_none fits.of in cc
-    turn-holds number (Errand e) at fits = stage-holds number e.folder e.unique e.purpose e.stage fits
-    turn-holds number (Clean c) at fits = let no : gathers_none asked ≡ false = ap gathers_none fits in cc
+-- a file in tmp uses its name up
+tmp-holds : (s : State) (folder : ℕ) (u : List ℕ) → is_some (file_at s (path_of folder Tmp u)) ≡ true → holds s u ≡ true
+tmp-holds s folder u = by (file_at s (path_of folder Tmp u)) refl
+  where
+    by : (o : Option ℕ) → file_at s (path_of folder Tmp u) ≡ o → is_some o ≡ true → holds s u ≡ true
+    by None there is = cc
+    by (Some n) there is =
+        has-any (λ e. uses u e.0) (entries s.names) (path_of folder Tmp u, n)
+        (get-has path_total path_exact s.names (path_of folder Tmp u) n there) ((bytes_eq-Decides u u).1 refl)
+
+pub may-holds : (s : State) (asked : Call) (u : List ℕ) → may_take s asked u ≡ true → holds s u ≡ true
+may-holds s (call.Clean folder) u may = tmp-holds s folder u may
+may-holds s other u may = cc
+
+bare-makes : (asked : Call) (u : List ℕ) → gathers_none asked ≡ true → MakesMessage asked u → ⊥
+bare-makes (call.Deliver folder v body chunk) u none makes = cc
+bare-makes (call.Copy folder v to fresh tries) u none makes = cc
+bare-makes other u none makes = makes
+
+-- a turn of a job for whose call not all names need be gathered makes no name in tmp
+module _ (s : State) (asked : Call) (none : gathers_none asked ≡ true) (sound : IsSound s) (number : ℕ) (task : Task) (at : Moment)
+    (fits : TaskFits s asked task) (r : DirReply) where
+  abbrev asks : Asked
+  asks = (turn_of number task at).asked
+
+  abbrev later : State
+  later = state_by (ask_of asks at.clock) s r
+
+  pub may-still : (c : Call) (u : List ℕ) → may_take later c u ≡ true → may_take s c u ≡ true
+  may-still (call.Clean folder) u may = elim
+      (touches s (path_of folder Tmp u) refl sound at.clock asks r (asks-fair s asked number task at fits)) [
+        | inl keeps ↦ ap is_some (sym keeps.names) ∙ may
+        | inr changes ↦ elim changes [
+          | inl makes ↦ absurd (bare-makes asked u none (creates s asked number at (path_of folder Tmp u) refl task fits makes.call).0)
+          | inr takes ↦ let gone : is_some (file_at later (path_of folder Tmp u)) ≡ false = ap is_some takes.gone in cc
+        ]
+      ]
+  may-still other u may = cc
+
+-- ---- any turn of a job for whose call not all names need be gathered
+
+module _ (s : State) (asked : Call) (none : gathers_none asked ≡ true) (sound : IsSound s) (one : HasOnePath s) (clock : ℕ) (faulted : Bool)
+    (names : List (List ℕ)) (taken : (u : List ℕ) → may_take s asked u ≡ true → is_among u names ≡ true) where
+  -- what it leaves uses up the same names, but for those that it may take away
+  abbrev HoldsWith : Asked → Type 0
+  HoldsWith made = (r : DirReply) → r ≡ reply_of (ask_of made clock) s faulted → (u : List ℕ) →
+      (is_among u names || holds (state_by (ask_of made clock) s r) u) ≡ (is_among u names || holds s u)
+
+  -- a name of tmp that is taken away
+  module _ (folder : ℕ) (name : List ℕ) (of : asked ≡ call.Clean folder) where
+    abbrev p : Path
+    p = path_of folder Tmp name
+
+    unlink-holds : HoldsWith (unlink p)
+    unlink-holds reply.Ok replied u = by_name u name
+        (λ same.
+        let there = deed-there s clock faulted p (deed.Unlink p) refl replied in
+        let some : may_take s asked u ≡ true =
+        ap (λ (x : Call). may_take s x u) of ∙ ap (λ n. is_some (file_at s (path_of folder Tmp n))) same ∙ ap is_some there.1 in
+        ap (λ b. b || holds (after_unlink p s) u) (taken u some) ∙ sym (ap (λ b. b || holds s u) (taken u some)))
+        (λ differ. ap (λ b. is_among u names || b) (holds-beside s (after_unlink p s) name (unlink-frame s p refl sound) u differ))
+    unlink-holds r replied u = refl
+
+  clean-holds : (c : Cleaning) (own : ℕ) (stage : cleaning.Stage) → asked ≡ call.Clean c.folder →
+      HoldsWith (cleaned_by.stage_turn c own stage).asked
+  clean-holds c own cleaning.Look of reply.Ok replied u = refl
+  clean-holds c own cleaning.Look of r replied u = refl
+  clean-holds c own (cleaning.Remove name rest files) of r replied u = unlink-holds c.folder name of r replied u
+
+  pub turn-holds : (number : ℕ) (task : Task) (at : Moment) → TaskFits s asked task → HoldsWith (turn_of number task at).asked
+  turn-holds number (Deliver d) at fits r replied u = let no : gathers_none asked ≡ false = ap gathers_none fits.of in cc
+  turn-holds number (Errand e) at fits r replied u =
+      ap (λ b. is_among u names || b)
+      (stage-holds s asked none sound one clock faulted number e.folder e.unique e.purpose e.stage fits r replied u)
+  turn-holds number (Clean c) at fits r replied u = clean-holds c at.own c.stage fits r replied u
+
+-- ---- the rows of tmp
+
+module _ (s : State) (folder : ℕ) (u : List ℕ) where
+  abbrev is_named : Row → Bool
+  is_named r = bytes_eq r.name u
+
+  abbrev is_there : Path × ℕ → Bool
+  is_there e = is_in folder Tmp e.0 && bytes_eq e.0.name u
+
+  rows-named : (es : List (Path × ℕ)) →
+      list_any is_named (map (row_of s.files) (filter (λ e. is_in folder Tmp e.0) es)) ≡ list_any is_there es
+  rows-named [] = refl
+  rows-named (e ∷ es) = by (is_in folder Tmp e.0) (rows-named es)
+    where
+      by : (b : Bool) → list_any is_named (map (row_of s.files) (filter (λ x. is_in folder Tmp x.0) es)) ≡ list_any is_there es →
+          list_any is_named (map (row_of s.files) (cond b (e ∷ filter (λ x. is_in folder Tmp x.0) es) (filter (λ x. is_in folder Tmp x.0) es)))
+          ≡ ((b && bytes_eq e.0.name u) || list_any is_there es)
+      by true rest = (λ i. bytes_eq (row_name e.0.name (file_by s.files e.1) i) u || rest i)
+      by false rest = rest
+
+  named-there : list_any is_there (entries s.names) ≡ is_some (file_at s (path_of folder Tmp u))
+  named-there = by (file_at s (path_of folder Tmp u)) refl
+    where
+      by : (o : Option ℕ) → file_at s (path_of folder Tmp u) ≡ o → list_any is_there (entries s.names) ≡ is_some o
+      by (Some n) there =
+          has-any is_there (entries s.names) (path_of folder Tmp u, n)
+          (get-has path_total path_exact s.names (path_of folder Tmp u) n there)
+          (and_from _ _ (in-path folder Tmp u) ((bytes_eq-Decides u u).1 refl))
+      by None there = any-none is_there (entries s.names) (λ x has.
+          never (is_there x) (λ is.
+          let parts = and_parts (is_in folder Tmp x.0) (bytes_eq x.0.name u) is in
+          let same = (bytes_eq-Decides x.0.name u).0 parts.1 in
+          let here : x.0 ≡ path_of folder Tmp u = in-is folder Tmp x.0 parts.0 ∙ ap (path_of folder Tmp) same in
+          let some : file_at s (path_of folder Tmp u) ≡ Some x.1 =
+          ap (file_at s) (sym here) ∙ has-get path_total path_exact s.names x has in
+          cc))
+
+  -- rows of tmp, in whatever order, have the names that are there
+  pub rows-there : (rows : List Row) → IsPermutation (rows_of s folder Tmp) rows →
+      list_any is_named rows ≡ is_some (file_at s (path_of folder Tmp u))
+  rows-there rows lies = sym (list_any-IsPermutation is_named (rows_of s folder Tmp) rows lies) ∙ rows-named (entries s.names) ∙ named-there

@@ -1,5 +1,5 @@
 -- A world after one turn of a job keeps what a world keeps, of the run with one more event.
-use Rattle.std.proofs.Common.{ℕ, zero, suc, ◌≡◌, ◌<◌, ◌+◌, ◌-◌, ◌++◌, ◌∙◌, List, [], ◌∷◌, Option, Some, None, Bool, true, false, cond, is_some, refl, sym, ap, subst, length, max, unwrap_or, slice_get, slice_set, arith, map, length-append}
+use Rattle.std.proofs.Common.{ℕ, zero, suc, ◌≡◌, ◌<◌, ◌+◌, ◌-◌, ◌++◌, ◌||◌, ◌∙◌, List, [], ◌∷◌, Option, Some, None, Bool, true, false, cond, is_some, refl, sym, ap, subst, length, max, unwrap_or, slice_get, slice_set, arith, map, length-append}
 use Rattle.std.specs.Prelude.{count_by}
 use Rattle.std.specs.Option.{option_to_list, option_map}
 use Rattle.std.proofs.lemmas.List.Sums.{sum_by_push}
@@ -12,14 +12,17 @@ use Rattle.md_jobs.specs.Asked.{is_fault}
 use Rattle.md_core.specs.Machine.{Machine, Standing, working, answered, is_working, Occurrence, moment_of, standing_of, after_event, after_turn, turn_of, job_at, step_of, step_out}
 use Rattle.md_core.specs.Standing.{JobView, TakesTurn, standings}
 use Rattle.md_core.specs.Runs.{Run, machine_of, jobs_of, failures_of, and_event, step_refusal, answer_of}
-use Rattle.md_core.specs.Gathering.{holds}
-use Rattle.md_core.specs.Worlds.{IsWorld, AreUsed, run_of, machine_by, occurrences}
-use Rattle.md_core.proofs.Induction.Good.{IsGood}
+use Rattle.md_core.specs.Gathering.{holds, may_take}
+use Rattle.md_core.specs.Used.{is_among}
+use Rattle.md_core.specs.declared.used.Used.{Used}
+use Rattle.md_core.specs.declared.used.Used.TheVariants.{Leaving, All}
+use Rattle.md_core.specs.Worlds.{IsWorld, AreLeaving, AreUsed, run_of, machine_by, occurrences}
+use Rattle.md_core.proofs.Induction.Good.{IsGood, TaskFits}
 use Rattle.md_core.proofs.Runs.Events.{goes_on-exact, happens-turned, done-turned, job_at-place}
 use Rattle.md_core.proofs.Runs.ByEvent.{machine-and_event}
 use Rattle.md_core.proofs.Runs.Extended.{is_run-and_event}
 use Rattle.md_core.proofs.Worlds.Before.{good-kept}
-use Rattle.md_core.proofs.Worlds.Holding.{turn-holds}
+use Rattle.md_core.proofs.Worlds.Holding.{may-still, turn-holds}
 
 pub marked-push : (es : List Event) (bs : List Bool) (e : Event) (b : Bool) → length bs ≡ length es →
     occurrences (es ++ e ∷ []) (bs ++ b ∷ []) ≡ occurrences es bs ++ record { event = e; faulted = b } ∷ []
@@ -68,7 +71,7 @@ pub moment-is : (clock now : ℕ) (own : Option ℕ) (at : Moment) → at.clock 
 moment-is clock now own at c o job = λ i. record { clock = sym c i; own = sym o i }
 
 module _ (first : Device) (began : ℕ) (jobs : List JobView) (events : List Event) (marks : List Bool) (held : Device) (clock : ℕ) (effects : List Effect)
-    (used : Option (List (List ℕ)))
+    (used : Used)
     (event : Event) (place : ℕ) (is : place + 1 ≡ event.job) (job : JobView) (there : slice_get jobs place ≡ Some job)
     (out : StepOut) (effect : Option Effect) (job' : JobView) (held' : Device) where
   abbrev pub run : Run
@@ -140,16 +143,22 @@ module _ (first : Device) (began : ℕ) (jobs : List JobView) (events : List Eve
     moved : kept' ≡ machine_of (and_event run marked_event)
     moved = sym goes-on ∙ ap (λ (m : Machine). after_event m marked_event) world.now ∙ sym (machine-and_event run marked_event)
 
-    -- while no name need be gathered, the turn leaves the same names used up
-    still-none : AreUsed run None → AreUsed (and_event run marked_event) None
-    still-none none = (
-      none.0,
-      λ u. ap (λ (m : Machine). holds m.dirs u) (sym moved)
-          ∙ ap (λ (s : State). holds s u) turned.takes.state
-          ∙ turn-holds held.state job.call (none.0 place job.call called) good.sound good.one_path at.clock (is_fault out.reply) event.job
-          turned.task at (good.fits place job.call turned.task called working-there) out.reply turned.takes.replied u
-          ∙ ap (λ (m : Machine). holds m.dirs u) world.now ∙ none.1 u,
-    )
+    -- while not all names need be gathered, the turn leaves the same names used up
+    still-leaving : (names : List (List ℕ)) → AreLeaving run names → AreLeaving (and_event run marked_event) names
+    still-leaving names h = record {
+      calls = h.calls;
+      taken = λ i call here u is. h.taken i call here u (
+          sym (ap (λ (m : Machine). may_take m.dirs call u) world.now)
+          ∙ may-still held.state job.call (h.calls place job.call called) good.sound event.job turned.task at fits out.reply call u (
+          sym (ap (λ (s : State). may_take s call u) turned.takes.state)
+          ∙ ap (λ (m : Machine). may_take m.dirs call u) moved ∙ is));
+      used = λ u. ap (λ (m : Machine). is_among u names || holds m.dirs u) (sym moved)
+          ∙ ap (λ (s : State). is_among u names || holds s u) turned.takes.state
+          ∙ turn-holds held.state job.call (h.calls place job.call called) good.sound good.one_path at.clock (is_fault out.reply) names
+          (λ v may. h.taken place job.call called v (sym (ap (λ (m : Machine). may_take m.dirs job.call v) world.now) ∙ may))
+          event.job turned.task at fits out.reply turned.takes.replied u
+          ∙ ap (λ (m : Machine). is_among u names || holds m.dirs u) world.now ∙ h.used u;
+    }
       where
         good : IsGood run.calls kept
         good = good-kept first began jobs events marks held clock effects used world
@@ -157,12 +166,12 @@ module _ (first : Device) (began : ℕ) (jobs : List JobView) (events : List Eve
         called : slice_get run.calls place ≡ Some job.call
         called = call-there jobs place job there
 
-        working-there : slice_get kept.jobs place ≡ Some (working turned.task)
-        working-there = standing-at jobs place job there ∙ ap Some turned.was
+        fits : TaskFits held.state job.call turned.task
+        fits = good.fits place job.call turned.task called (standing-at jobs place job there ∙ ap Some turned.was)
 
-    still-used : (names : Option (List (List ℕ))) → AreUsed run names → AreUsed (and_event run marked_event) names
-    still-used None none = still-none none
-    still-used (Some names) used_up = used_up
+    still-used : (names : Used) → AreUsed run names → AreUsed (and_event run marked_event) names
+    still-used (Leaving names) h = still-leaving names.items h
+    still-used (All names) used_up = used_up
 
     stepped : IsWorld (and_event run marked_event) kept' held' used (events ++ event ∷ []) (marks ++ is_fault out.reply ∷ [])
     stepped = record {

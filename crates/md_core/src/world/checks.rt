@@ -4,6 +4,7 @@ ghost use Rattle.md_name.specs.Names.{is_unique_name as is_unique};
 ghost use Rattle.md_jobs.specs.declared.call.Call.TheVariants.{Deliver, Move, Copy, Clean};
 ghost use Rattle.md_core.specs.Submitting.{submit_refusal, no_folder, too_many, is_used as is_used_by, bad_tries, first_met, checks_of_look_up};
 
+use crate::used::{Used, is_among_keys};
 use crate::world::World;
 use crate::world::held::is_held;
 use md_dirs::Dirs;
@@ -214,8 +215,9 @@ impl<D: Dirs> World<D> {
         ensures { result ≡ is_used_by self.now name.now }
     {
         match &self.used {
-            Some(used) => used.contains(name),
-            None => is_held(&self.dirs, name),
+            Used::Leaving(names) => is_held(&self.dirs, name)
+                || is_among_keys(names.as_slice(), name),
+            Used::All(used) => used.contains(name),
         }
     }
 }

@@ -5,6 +5,7 @@ ghost use Rattle.md_core.specs.Runs.{new_run};
 ghost use Rattle.md_core.specs.Interleaving.{Interleaves};
 ghost use Rattle.md_core.specs.Tracing.{trace_of};
 
+use crate::used::Used;
 use crate::world::World;
 use crate::world::log::Log;
 use crate::world::looking::look;
@@ -42,7 +43,7 @@ impl<D: Dirs> World<D> {
                 began: clock,
                 clock,
                 jobs: Vec::new(alloc),
-                used: None,
+                used: Used::Leaving(Vec::new(alloc)),
                 log: Log::new(alloc),
             });
         }
@@ -54,7 +55,7 @@ impl<D: Dirs> World<D> {
                 began: looked.clock,
                 clock: looked.clock,
                 jobs: Vec::new(alloc),
-                used: Some(looked.used),
+                used: Used::All(looked.used),
                 log: Log::new(alloc),
             }),
             Err(error) => Err(LoadRefused { error, dirs }),

@@ -6,6 +6,7 @@ ghost use Rattle.md_core.specs.Settling.{first_unanswered, settle_error, settled
 ghost use Rattle.md_core.specs.Tracing.{trace_of};
 
 use crate::jobs::job::Job;
+use crate::used::Used;
 use crate::world::World;
 use crate::world::log::Log;
 use md_dirs::Dirs;
@@ -71,7 +72,7 @@ impl<D: Dirs> World<D> {
             began: clock,
             clock,
             jobs: Vec::new(alloc),
-            used: None,
+            used: Used::Leaving(Vec::new(alloc)),
             log: Log::new(alloc),
         })
     }

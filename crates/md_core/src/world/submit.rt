@@ -2,15 +2,15 @@
 ghost use Rattle.std.specs.Prelude.{◌≡◌, ◌+◌, ◌||◌, Some, None, length, vec_len, vec_capacity, MatchResult, IfOk, IfErr, OnOk, OnErr, ◌<◌};
 ghost use Rattle.md_core.specs.Runs.{and_call, effects_of, IsRefusal};
 ghost use Rattle.md_core.specs.Submitting.{submit_refusal, makes};
-ghost use Rattle.md_core.specs.Gathering.{KeepsMade, gathers_none};
+ghost use Rattle.md_core.specs.Gathering.{KeepsMade, IsSame};
 ghost use Rattle.md_core.specs.Used.{is_among};
 ghost use Rattle.md_core.specs.Interleaving.{Interleaves};
 ghost use Rattle.md_core.specs.Tracing.{trace_of};
 
 use crate::jobs::job::Job;
-use crate::used::UsedNames;
+use crate::used::{Used, UsedNames};
 use crate::world::World;
-use crate::world::looking::names::names_in;
+use crate::world::looking::names::{is_for_few, names_with, push_tmp};
 use crate::world::room::make_room;
 use md_dirs::Dirs;
 use md_jobs::{Call, CoreError, JobId};
@@ -40,42 +40,63 @@ fn use_name(used: &mut UsedNames, call: &Call) -> Result<(), AllocError>
     Ok(())
 }
 
-// Whether no name need be gathered for a call: it makes none, and takes none away.
-fn needs_no_names(call: &Call) -> bool
-    ensures { result ≡ gathers_none call.now }
+// Uses the name that a call makes, where all names are kept, or gathers them for it.
+fn gather<D: Dirs>(alloc: Global, dirs: &D, used: &mut Used, call: &Call) -> Result<(), AllocError>
+    ensures used { OnOk result (KeepsMade (D.device dirs.now).state call.now used.old used.new) }
+    ensures same { OnErr result (IsSame used.old used.new) }
 {
-    matches!(
-        call,
-        Call::Seen { .. } | Call::Flag { .. } | Call::Move { .. }
-    )
+    let leaving = match used {
+        Used::All(names) => return use_name(names, call),
+        Used::Leaving(leaving) => leaving,
+    };
+    let mut names = names_with(alloc, dirs, leaving.as_slice())?;
+    use_name(&mut names, call)?;
+    *used = Used::All(names);
+    Ok(())
 }
 
-// Makes room for the job, and uses the name that its call makes. The names of the directories are gathered at the first call that needs
-// them: until then the directories hold all that are used.
+// Uses the name that a call makes. All names are gathered at the first call that needs them: until then the directories hold all that are
+// used, but those that a clean may have taken away, and these are kept from its submit on.
+fn keep_names<D: Dirs>(
+    alloc: Global,
+    dirs: &D,
+    used: &mut Used,
+    call: &Call,
+) -> Result<(), AllocError>
+    ensures used { OnOk result (KeepsMade (D.device dirs.now).state call.now used.old used.new) }
+    ensures same { OnErr result (IsSame used.old used.new) }
+{
+    match used {
+        Used::All(names) => return use_name(names, call),
+        Used::Leaving(leaving) => match call {
+            Call::Seen { .. } | Call::Flag { .. } | Call::Move { .. } => return Ok(()),
+            Call::Clean { folder } => {
+                if is_for_few(dirs, *folder, leaving.len()) {
+                    return push_tmp(alloc, dirs, *folder, leaving);
+                }
+            }
+            Call::Deliver { .. } | Call::Copy { .. } | Call::Expunge { .. } => {}
+        },
+    }
+    gather(alloc, dirs, used, call)
+}
+
+// Makes room for the job, and uses the name that its call makes.
 fn prepare<D: Dirs>(
     alloc: Global,
     dirs: &D,
     jobs: &mut Vec<Job>,
-    used: &mut Option<UsedNames>,
+    used: &mut Used,
     call: &Call,
 ) -> Result<(), CoreError>
     ensures jobs { jobs.new.items ≡ jobs.old.items }
     ensures room { OnOk result (vec_len jobs.new < vec_capacity jobs.new) }
     ensures used { OnOk result (KeepsMade (D.device dirs.now).state call.now used.old used.new) }
     ensures memory { IfErr result (λ e. e ≡ CoreError.NoMemory) }
-    ensures same { OnErr result (used.new ≡ used.old) }
+    ensures same { OnErr result (IsSame used.old used.new) }
 {
     make_room(jobs)?;
-    if let Some(names) = used {
-        use_name(names, call)?;
-        return Ok(());
-    }
-    if needs_no_names(call) {
-        return Ok(());
-    }
-    let mut names = names_in(alloc, dirs)?;
-    use_name(&mut names, call)?;
-    *used = Some(names);
+    keep_names(alloc, dirs, used, call)?;
     Ok(())
 }
 

@@ -1,15 +1,17 @@
 // The names that directories use up, gathered without a look for faults.
-ghost use Rattle.std.specs.Prelude.{◌≡◌, ◌+◌, ◌||◌, false, IfOk, OnOk, MatchOption};
+ghost use Rattle.std.specs.Prelude.{◌≡◌, ◌+◌, ◌||◌, ◌++◌, ◌∷◌, [], false, is_some, IfOk, OnOk, OnErr, MatchOption};
 ghost use Rattle.std.specs.FinMap as finmap;
 ghost use Rattle.std.specs.Str.{bytes_eq};
-ghost use Rattle.md_dirs.specs.Path.{place_index};
-ghost use Rattle.md_core.specs.Gathering.{AreOf};
+ghost use Rattle.md_dirs.specs.Path.{path_of, place_index};
+ghost use Rattle.md_dirs.specs.State.{file_at};
+ghost use Rattle.md_dirs.specs.declared.paths.Place.TheVariants.{Tmp as PlaceTmp};
+ghost use Rattle.md_core.specs.Gathering.{AreOf, holds};
 ghost use Rattle.md_core.specs.Looking.{entries_before, somewhere};
 ghost use Rattle.md_core.specs.Submitting.{uses};
 ghost use Rattle.md_core.specs.Used.{is_among};
 
 use crate::used::UsedNames;
-use md_dirs::{Dirs, Place, RowRef};
+use md_dirs::{Dirs, NameKey, Place, RowRef};
 use md_name::is_message;
 use std::alloc::{AllocError, Global};
 
@@ -56,6 +58,40 @@ fn use_directory<D: Dirs>(
     Ok(())
 }
 
+// Adds one more name.
+fn push_name(alloc: Global, keys: &mut Vec<NameKey<'static>>, name: &[u8]) -> Result<(), AllocError>
+    ensures ok { OnOk result (keys.new.items ≡ keys.old.items ++ name.now ∷ []) }
+    ensures err { OnErr result (keys.new.items ≡ keys.old.items) }
+{
+    let key = NameKey::copied(alloc, name)?;
+    keys.reserve(1)?;
+    keys.push_reserved(key);
+    Ok(())
+}
+
+/// Adds the names in tmp of a folder. After a refusal nothing has changed.
+pub(crate) fn push_tmp<D: Dirs>(
+    alloc: Global,
+    dirs: &D,
+    folder: u32,
+    keys: &mut Vec<NameKey<'static>>,
+) -> Result<(), AllocError>
+    ensures ok { OnOk result ((u : _) → is_among u keys.new.items
+        ≡ (is_among u keys.old.items || is_some (file_at (D.device dirs.now).state (path_of folder PlaceTmp u)))) }
+    ensures err { OnErr result (keys.new.items ≡ keys.old.items) }
+{
+    let rows = dirs.rows_unordered(alloc, folder, Place::Tmp)?;
+    let len = keys.len();
+    keys.reserve(rows.len())?;
+    for row in 0..rows.len() {
+        if let Err(error) = push_name(alloc, keys, rows[row].name()) {
+            keys.truncate(len);
+            return Err(error);
+        }
+    }
+    Ok(())
+}
+
 // How many names directories have, or as many as can be counted.
 fn count_all<D: Dirs>(dirs: &D) -> usize {
     let mut count = 0usize;
@@ -71,9 +107,16 @@ fn count_all<D: Dirs>(dirs: &D) -> usize {
     count
 }
 
-/// The names that directories use up: the unique names of messages, and the names in tmp. It makes no directory call, and is refused only
-/// when out of memory.
-pub(crate) fn names_in<D: Dirs>(alloc: Global, dirs: &D) -> Result<UsedNames, AllocError>
+/// Whether a clean of a folder adds no name to so many, or so few that all are no more than the names of the directories: a folder may be
+/// cleaned again and again.
+pub(crate) fn is_for_few<D: Dirs>(dirs: &D, folder: u32, leaving: usize) -> bool {
+    let more = dirs.count(folder, Place::Tmp);
+    more == 0 || leaving.saturating_add(more) <= count_all(dirs)
+}
+
+// The names that directories use up: the unique names of messages, and the names in tmp. It makes no directory call, and is refused only
+// when out of memory.
+fn names_in<D: Dirs>(alloc: Global, dirs: &D) -> Result<UsedNames, AllocError>
     ensures { IfOk result (λ used. AreOf (finmap.entries (D.device dirs.now).state.names) used) }
 {
     let mut used = UsedNames::with_room(alloc, count_all(dirs))?;
@@ -81,6 +124,21 @@ pub(crate) fn names_in<D: Dirs>(alloc: Global, dirs: &D) -> Result<UsedNames, Al
         use_directory(alloc, dirs, folder, Place::Tmp, &mut used)?;
         use_directory(alloc, dirs, folder, Place::New, &mut used)?;
         use_directory(alloc, dirs, folder, Place::Cur, &mut used)?;
+    }
+    Ok(used)
+}
+
+/// The names that directories use up, and these.
+pub(crate) fn names_with<D: Dirs>(
+    alloc: Global,
+    dirs: &D,
+    keys: &[NameKey<'static>],
+) -> Result<UsedNames, AllocError>
+    ensures { IfOk result (λ used. (u : _) → is_among u used ≡ (is_among u keys.now || holds (D.device dirs.now).state u)) }
+{
+    let mut used = names_in(alloc, dirs)?;
+    for key in 0..keys.len() {
+        used.insert(keys[key].as_slice())?;
     }
     Ok(used)
 }

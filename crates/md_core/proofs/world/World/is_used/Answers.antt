@@ -1,5 +1,4 @@
-use Rattle.std.proofs.Common.{◌≡◌, ◌∙◌, None, ap, sym}
-use Rattle.md_core.specs.Gathering.{is_used_before}
+use Rattle.std.proofs.Common.{◌≡◌, ◌∙◌, ap, sym}
 use Rattle.md_core.specs.Runs.{Run}
 use Rattle.md_core.specs.Submitting.{is_used}
 use Rattle.md_core.proofs.Worlds.Before.{good-kept, used-before}
@@ -10,15 +9,3 @@ is_held-requires g c =
     let s = c.self.inside in
     (good-kept (g.D.Dirs.device s.image.value) s.began s.jobs.items s.log.events.items s.log.marks.items (g.D.Dirs.device s.dirs) s.clock
     s.log.effects.items s.used c.self.invariant).one_path
-
-pub returns-in-None : goal.returns-in-None
-returns-in-None g c =
-    let s = c.self.inside in
-    let name = c.args.name.now in
-    let is = c.in-None.is in
-    let none : s.used ≡ None = cc in
-    c.is_held.ensures
-    ∙ ap (λ names. is_used_before (g.D.Dirs.device s.dirs).state names name) (sym none)
-    ∙ used-before (g.D.Dirs.device s.image.value) s.began s.jobs.items s.log.events.items s.log.marks.items (g.D.Dirs.device s.dirs) s.clock
-    s.log.effects.items s.used c.self.invariant name
-    ∙ ap (λ (r : Run). is_used r name) c.self.view_is

@@ -1,12 +1,14 @@
 use Rattle.std.proofs.Common.{arith}
+use Rattle.md_core.specs.declared.used.Used.TheVariants.{Leaving}
 use Rattle.md_core.proofs.Traces.All.{interleaves}
 use Rattle.md_core.proofs.Worlds.Submitted.{begun-bare, begun-world}
 use Rattle.md_core.proofs.world.World.load.Goals as goal
 
 pub invariant_of-result : goal.invariant_of-result
 invariant_of-result g c =
-    rw (c.of.ensures, c.new.ensures.items, c.new-in-Some.ensures.0, c.new-in-Some.ensures.1, c.new-in-Some.ensures.2)
-    (begun-bare (g.D.Dirs.device c.args.dirs) c.folders-sound.ensures.sound c.in-Some.ensures.0 c.in-Some.clock (omega (arith, c.in-Some.ensures.1)))
+    rw (c.of.ensures, c.new.ensures.items, c.new-in-Some-2.ensures.0, c.new-in-Some-2.ensures.1, c.new-in-Some-2.ensures.2)
+    (begun-bare (g.D.Dirs.device c.args.dirs) c.folders-sound.ensures.sound c.in-Some.ensures.0 c.in-Some.clock (omega (arith, c.in-Some.ensures.1))
+    (Leaving c.new-in-Some.result) c.new-in-Some.ensures.items)
 
 pub returns-in-Some-clause-theorem : goal.returns-in-Some-clause-theorem
 returns-in-Some-clause-theorem g c = interleaves _ (invariant_of-result g c).run
