@@ -1,5 +1,5 @@
 -- What a settled world keeps. And which job has no answer, by what a world keeps of its jobs.
-use Rattle.std.proofs.Common.{ℕ, ◌≡◌, ◌+◌, List, [], ◌∷◌, Option, Some, None, Bool, cond, not, nat_lt, option_map, position, refl, sym, ap, subst, ◌∙◌}
+use Rattle.std.proofs.Common.{ℕ, ◌≡◌, ◌+◌, List, [], ◌∷◌, Some, None, Bool, cond, not, nat_lt, option_map, position, refl, sym, ap, subst, ◌∙◌}
 use Rattle.std.specs.List.{position_or_len}
 use Rattle.std.proofs.lemmas.List.{length-map}
 use Rattle.md_dirs.specs.Calls.{Device}

@@ -15,7 +15,7 @@ use Rattle.lists.proofs.Members.{get-has, has-get}
 use Rattle.md_name.specs.Names.{unique_of, flagged, is_message_name}
 use Rattle.md_name.proofs.Flagged.{unique_of-flagged}
 use Rattle.md_jobs.specs.Asked.{Asked, unlink, ask_of, state_by}
-use Rattle.md_jobs.specs.Machines.Errand.{asked_of, errand_turn, stage_turn}
+use Rattle.md_jobs.specs.Machines.Errand.{asked_of, stage_turn}
 use Rattle.md_jobs.specs.Machines.Purposes.{deed_by, info_in, shown, wanted}
 use Rattle.md_jobs.specs.Machines.Clean as cleaned_by
 use Rattle.md_jobs.specs.Tasks.Cleaning.{Cleaning}

@@ -1,5 +1,5 @@
 -- A world with one more job keeps what a world keeps, of the run with one more call. And a world at its beginning.
-use Rattle.std.proofs.Common.{ℕ, ◌≡◌, ◌≤◌, ◌++◌, ◌∙◌, List, [], ◌∷◌, Option, Some, None, Bool, true, false, ◌||◌, refl, sym, ap, subst, arith}
+use Rattle.std.proofs.Common.{ℕ, ◌≡◌, ◌≤◌, ◌++◌, ◌∙◌, List, [], ◌∷◌, None, Bool, true, false, ◌||◌, refl, sym, ap, subst, arith}
 use Rattle.std.specs.List.{list_any}
 use Rattle.std.proofs.lemmas.List.{map-append}
 use Rattle.md_core.proofs.Values.{IsSound, Effect, Event}
@@ -15,7 +15,7 @@ use Rattle.md_core.specs.Used.{is_among}
 use Rattle.md_core.specs.declared.used.Used.{Used}
 use Rattle.md_core.specs.declared.used.Used.TheVariants.{Leaving, All}
 use Rattle.md_core.specs.Worlds.{IsWorld, AreLeaving, AreUsed, run_of, machine_by}
-use Rattle.md_core.specs.Gathering.{holds, gathers_none, may_take, KeepsLeaving, KeepsMade, IsSame}
+use Rattle.md_core.specs.Gathering.{holds, gathers_none, may_take, KeepsLeaving, KeepsMade}
 use Rattle.md_core.proofs.Lists.Places.{at_end}
 use Rattle.md_core.proofs.Worlds.Before.{used-before}
 use Rattle.md_core.proofs.Worlds.Holding.{may-holds}

@@ -114,6 +114,7 @@ impl<D: Dirs> World<D> {
         ensures call { IfErr result (λ r. r.call ≡ call) }
         ensures theorem { OnOk result (Interleaves (trace_of self.new)) }
     {
+        self.gather_for(&call);
         if let Some(error) = self.refusal_of(&call) {
             return Err(SubmitRefused { error, call });
         }
@@ -129,5 +130,27 @@ impl<D: Dirs> World<D> {
         }
         self.jobs.push_reserved(Job::new(self.alloc, call));
         Ok(self.jobs.len() as u64)
+    }
+
+    // Gathers all names before a call is checked that makes one, where some may have left: else each of many such calls that are refused would
+    // look through those.
+    fn gather_for(&mut self, call: &Call)
+        ensures { self.new ≡ self.old }
+    {
+        if self.used.is_leaving() && matches!(call, Call::Deliver { .. } | Call::Copy { .. }) {
+            self.gather_leaving();
+        }
+    }
+
+    // Gathers all names. Where memory runs out, those that may have left are looked through.
+    fn gather_leaving(&mut self)
+        ensures { self.new ≡ self.old }
+    {
+        let Used::Leaving(leaving) = &self.used else {
+            return;
+        };
+        if let Ok(names) = names_with(self.alloc, &self.dirs, leaving.as_slice()) {
+            self.used = Used::All(names);
+        }
     }
 }

@@ -3,7 +3,7 @@ use Rattle.std.proofs.Common.{ℕ, ◌≡◌, ◌+◌, ◌≤◌, List, Some, No
 use Rattle.std.specs.List.Sorted.{IsPermutation}
 use Rattle.md_dirs.specs.Path.{path_of, place_index}
 use Rattle.md_dirs.specs.Rows.{rows_of}
-use Rattle.md_core.proofs.Values.{State, Path, Place, Row}
+use Rattle.md_core.proofs.Values.{State, Place, Row}
 use Rattle.md_core.specs.declared.world.looking.Seen.{Seen}
 use Rattle.md_core.specs.Looking.{IsLookOf, fault_after, is_message_of, is_tmp_of, entries_before}
 use Rattle.md_core.specs.Used.{is_among}

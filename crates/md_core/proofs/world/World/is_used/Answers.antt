@@ -1,7 +1,4 @@
-use Rattle.std.proofs.Common.{◌≡◌, ◌∙◌, ap, sym}
-use Rattle.md_core.specs.Runs.{Run}
-use Rattle.md_core.specs.Submitting.{is_used}
-use Rattle.md_core.proofs.Worlds.Before.{good-kept, used-before}
+use Rattle.md_core.proofs.Worlds.Before.{good-kept}
 use Rattle.md_core.proofs.world.World.is_used.Goals as goal
 
 pub is_held-requires : goal.is_held-requires

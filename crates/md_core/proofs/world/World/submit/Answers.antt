@@ -29,4 +29,4 @@ returns-clause-effects g c =
     rw (c.push_reserved.ensures.items, c.new.ensures, c.prepare-prepared.ensures.jobs)
     (ap effects_of (run-submitted first s.began s.jobs.items s.log.events.items s.log.marks.items held s.clock s.log.effects.items s.used c.args.call)
     ∙ effects-submitted first s.began s.jobs.items s.log.events.items s.log.marks.items held s.clock s.log.effects.items s.used c.args.call c.self.invariant
-    ∙ ap effects_of c.self.view_is)
+    ∙ ap effects_of (c.self.view_is ∙ c.gather_for.ensures))
