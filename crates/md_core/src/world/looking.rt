@@ -2,10 +2,8 @@
 mod unordered;
 
 ghost use Rattle.std.specs.Prelude.{◌≡◌, [], ◌||◌, ◌+◌, max, true, Some, None, IfOk, IfErr, OnOk, MatchResult};
-ghost use Rattle.std.specs.List.{list_any};
 ghost use Rattle.std.specs.FinMap as finmap;
 ghost use Rattle.md_dirs.specs.Path.{place_index};
-ghost use Rattle.md_name.specs.Names.{is_slash, is_terminator};
 ghost use Rattle.md_core.specs.Loading.{load_refusal, is_bad_name};
 ghost use Rattle.md_core.specs.Looking.{IsLookOf, IsFault, entries_before, fault_after, message_fault, is_of, is_message_of, is_tmp_of, somewhere};
 ghost use Rattle.md_core.specs.Runs.{first_clock};
@@ -18,7 +16,7 @@ pub(crate) mod quick;
 use crate::used::{NameSet, UsedNames};
 use md_dirs::{Dirs, Place, RowRef};
 use md_jobs::CoreError;
-use md_name::{holds_terminator, is_message};
+use md_name::{holds_separator, is_message};
 use std::alloc::{AllocError, Global};
 use unordered::look_unordered;
 
@@ -110,13 +108,6 @@ impl Seen {
         }
         Ok(())
     }
-}
-
-// Whether a file name holds what none may.
-fn holds_separator(name: &[u8]) -> bool
-    ensures { result ≡ list_any (λ b. is_slash b || is_terminator b) name.now }
-{
-    name.contains(&b'/') | holds_terminator(name)
 }
 
 // Whether no file has the name.
