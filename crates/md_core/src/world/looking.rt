@@ -2,6 +2,7 @@
 mod unordered;
 
 ghost use Rattle.std.specs.Prelude.{◌≡◌, [], ◌||◌, ◌+◌, max, true, Some, None, IfOk, IfErr, OnOk, MatchResult};
+ghost use Rattle.std.specs.List.{list_any};
 ghost use Rattle.std.specs.FinMap as finmap;
 ghost use Rattle.md_dirs.specs.Path.{place_index};
 ghost use Rattle.md_core.specs.Loading.{load_refusal, is_bad_name};
