@@ -23,12 +23,12 @@ holds s u = list_any (λ e. uses u e.0) (finmap.entries s.names)
 
 -- Whether not all names need be gathered for a call: it makes none, and takes none away but those in tmp of a folder, as each path that it
 -- renames keeps its unique part.
-abbrev pub gathers_none : Call → Bool
-gathers_none (Seen folder unique flags tries) = true
-gathers_none (Flag folder unique add remove tries) = true
-gathers_none (Move folder unique to tries) = true
-gathers_none (Clean folder) = true
-gathers_none call = false
+abbrev pub keeps_few : Call → Bool
+keeps_few (Seen folder unique flags tries) = true
+keeps_few (Flag folder unique add remove tries) = true
+keeps_few (Move folder unique to tries) = true
+keeps_few (Clean folder) = true
+keeps_few call = false
 
 -- whether a call may take a name away: a clean those in tmp of its folder
 abbrev pub may_take : State → Call → List ℕ → Bool
@@ -43,7 +43,7 @@ is_used_before s (All names) u = is_among u names
 -- the names that may leave are those before a call for which none need be gathered, and those that it may take away
 abbrev pub KeepsLeaving : State → Call → Used → List (List ℕ) → Type 0
 KeepsLeaving s call (Leaving old) names =
-    (gathers_none call ≡ true) × ((u : List ℕ) → is_among u names ≡ (is_among u old.items || may_take s call u))
+    (keeps_few call ≡ true) × ((u : List ℕ) → is_among u names ≡ (is_among u old.items || may_take s call u))
 KeepsLeaving s call (All old) names = ⊥
 
 -- the names that are kept are those before a call and that which it makes. Where not all are kept, those that may leave are

@@ -10,7 +10,7 @@ use Rattle.md_core.specs.Machine.{Machine, Occurrence, job_at}
 use Rattle.md_core.specs.Standing.{JobView, standings}
 use Rattle.md_core.specs.Runs.{Run, machine_of, dirs_of, jobs_of, failures_of, calls_made_of, and_events, step_refusal, IsRefusal}
 use Rattle.md_core.specs.Submitting.{is_used}
-use Rattle.md_core.specs.Gathering.{holds, gathers_none, may_take}
+use Rattle.md_core.specs.Gathering.{holds, keeps_few, may_take}
 use Rattle.md_core.specs.Used.{is_among}
 use Rattle.md_core.specs.declared.used.Used.{Used}
 use Rattle.md_core.specs.declared.used.Used.TheVariants.{Leaving, All}
@@ -46,7 +46,7 @@ machine_by now clock jobs effects = record { dirs = now.state; clock = clock; jo
 -- While no call was one for which all names are gathered, those are kept that a call may take away or may have taken away. The directories
 -- use up the others.
 pub record AreLeaving (r : Run) (names : List (List ℕ)) : Type 0 where
-  pub calls : (i : ℕ) (call : Call) → slice_get r.calls i ≡ Some call → gathers_none call ≡ true
+  pub calls : (i : ℕ) (call : Call) → slice_get r.calls i ≡ Some call → keeps_few call ≡ true
   pub taken : (i : ℕ) (call : Call) → slice_get r.calls i ≡ Some call → (u : List ℕ) → may_take (dirs_of r) call u ≡ true →
       is_among u names ≡ true
   pub used : (u : List ℕ) → (is_among u names || holds (dirs_of r) u) ≡ is_used r u

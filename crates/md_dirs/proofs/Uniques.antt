@@ -1,6 +1,7 @@
 -- Unique parts of names, and that names of one unique part, each with a colon, compare alike with any other name.
-use Rattle.std.proofs.Common.{ℕ, zero, suc, ◌≡◌, ◌≢◌, ◌+◌, ◌==◌, ◌<◌, ◌++◌, ◌||◌, List, [], ◌∷◌, Bool, true, false, cond, not, length, take, nat_lt, refl, sym, ap, subst, ◌∙◌, arith}
+use Rattle.std.proofs.Common.{ℕ, zero, suc, ◌≡◌, ◌≢◌, ◌+◌, ◌==◌, ◌<◌, ◌≤◌, min, ◌++◌, ◌||◌, List, [], ◌∷◌, Bool, true, false, cond, not, length, take, nat_lt, refl, sym, ap, subst, ◌∙◌, arith}
 use Rattle.std.proofs.lemmas.Bool.Decides.{Decides-eqb, Decides-ltb}
+use Rattle.std.proofs.lemmas.List.{length-take}
 use Rattle.std.specs.List.{list_any, position_or_len}
 use Rattle.std.specs.declared.cmp.Ordering.{Ordering}
 use Rattle.std.specs.declared.cmp.Ordering.TheVariants.{Less, Equal, Greater}
@@ -20,6 +21,13 @@ take-length (suc n) (x ∷ xs) = ap (λ ys. x ∷ ys) (take-length n xs)
 pub take-unique : (name : List ℕ) → take (length (unique_of name)) name ≡ unique_of name
 unfolding unique_of
 take-unique name = take-length (position_or_len is_colon name) name
+
+-- so it is no longer than that
+pub unique-le : (name : List ℕ) → length (unique_of name) ≤ length name
+unique-le name =
+    let n = length (unique_of name) in
+    let short : n ≡ min n (length name) = ap length (sym (take-unique name)) ∙ length-take n name in
+    grind (arith, short)
 
 one_of : (n : ℕ) → 1 + n ≡ suc n
 one_of n = omega arith

@@ -17,5 +17,6 @@ pub mod Slots
 pub mod Find
 pub mod NameKey
 pub mod Named
+pub mod Parted
 pub mod Least
 pub mod Sortable

@@ -68,7 +68,7 @@ impl IndexDirs {
         }
     }
 
-    /// Folders with files, which are made in their order; their names and their bytes are moved in. No directory is in order yet.
+    /// Folders with files, which are made in their order; their names are copied, and their bytes are moved in. No directory is in order yet.
     /// `NotFound` or `Exists` at the first file whose folder is not there or whose path was met before. `NoMemory` may come in
     /// place of either.
     pub fn from_image(
@@ -97,7 +97,7 @@ impl IndexDirs {
             return Err(DirError::NotFound);
         }
         let number = self.slots.make_room()?;
-        if !self.names.add_owned(self.alloc, file.path, number)? {
+        if !self.names.add(self.alloc, &file.path, number)? {
             return Err(DirError::Exists);
         }
         let made = File {

@@ -22,7 +22,7 @@ pub use calls::{DirError, Dirs};
 pub use fail_at::FailAt;
 pub use image::ImageFile;
 pub use index::IndexDirs;
-pub use md_name::Bytes;
+pub use md_name::{Bytes, FileName};
 pub use name_key::NameKey;
 pub use packed::PackedRows;
 pub use paths::{File, Path, Place};

@@ -7,6 +7,7 @@ ghost use Rattle.std.proofs.Common.{ap, refl};
 ghost use Rattle.md_dirs.specs.Index.{name_cmp};
 ghost use Rattle.md_dirs.specs.NameKey.{held_bytes};
 
+use md_name::{SHORT, Short};
 use std::alloc::{AllocError, Global};
 use std::cmp::Ordering;
 use std::hash::{Hash, Hasher};
@@ -31,50 +32,9 @@ impl Held<'_> {
     }
 }
 
-/// How many bytes a name has at most that lies in its key itself. The unique names of usual deliverers have fewer.
-const SHORT: usize = 54;
-
-/// The bytes of a short name, in place.
-#[derive(Drop)]
-pub(crate) struct Short {
-    bytes: [u8; SHORT],
-    len: u8,
-}
-
-impl Model for Short {
-    ghost use Rattle.std.specs.Prelude.{List, ℕ, take, ◌≤◌};
-
-    ghost Value = { List ℕ };
-
-    ghost view = { λ s. take s.len s.bytes };
-
-    ghost invariant = { λ s. s.len ≤ 54 };
-}
-
-impl Short {
-    // A copy of a name that is short enough.
-    fn of(name: &[u8]) -> Short
-        requires { length name.now ≤ SHORT }
-        ensures { result ≡ name.now }
-    {
-        let mut bytes = [0; SHORT];
-        bytes[..name.len()].copy_from_slice(name);
-        Short {
-            bytes,
-            len: name.len() as u8,
-        }
-    }
-
-    fn as_slice(&self) -> &[u8]
-        ensures { result.now ≡ self.now }
-    {
-        &self.bytes[..self.len as usize]
-    }
-}
-
 /// How a key has its bytes: a short name that it owns lies in the key itself.
 #[derive(Drop)]
-pub(crate) enum Kept<'a> {
+enum Kept<'a> {
     Short(Short),
     Held(Held<'a>),
 }
@@ -105,7 +65,7 @@ impl<'a> NameKey<'a> {
         NameKey::held(Held::Owned(name))
     }
 
-    /// A key whose bytes are copied: into the key itself where they are at most 54. It is refused only when out of memory.
+    /// A key whose bytes are copied: into the key itself where they are at most 53. It is refused only when out of memory.
     pub fn copied(alloc: Global, name: &[u8]) -> Result<Self, AllocError>
         ensures { IfOk result (λ key. key ≡ name.now) }
     {
@@ -125,7 +85,7 @@ impl<'a> NameKey<'a> {
     }
 
     // A key of bytes that are owned or lent.
-    pub(crate) fn held(held: Held<'a>) -> Self
+    fn held(held: Held<'a>) -> Self
         ensures { result ≡ held_bytes held.entry }
     {
         NameKey {

@@ -3,7 +3,7 @@ ghost use Rattle.std.specs.Prelude.{◌≡◌, ◌<◌, ◌^◌, IfOk};
 ghost use Rattle.md_dirs.specs.Path.{path_cmp, path_of};
 ghost use Rattle.md_dirs.specs.Index.{directory_number};
 
-use md_name::Bytes;
+use md_name::{Bytes, FileName};
 use std::alloc::{AllocError, Global};
 use std::cmp::Ordering;
 
@@ -23,7 +23,7 @@ pub enum Place {
 pub struct Path {
     pub folder: u32,
     pub place: Place,
-    pub name: Bytes,
+    pub name: FileName,
 }
 
 /// What a file holds, and the second of the last call that made it or added to it.

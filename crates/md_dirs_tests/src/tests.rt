@@ -9,7 +9,7 @@ mod rows;
 mod thousand;
 mod values;
 
-use md_dirs::{Bytes, Path, Place};
+use md_dirs::{Bytes, FileName, Path, Place};
 use std::alloc::{AllocError, Global};
 
 /// The kinds of calls. A body is bytes that are appended in one piece.
@@ -53,6 +53,6 @@ fn numbered(
     Ok(Path {
         folder: 0,
         place: Place::Cur,
-        name,
+        name: FileName::of(name),
     })
 }

@@ -1,6 +1,5 @@
 //! A clean: files of tmp that have not been used for 36 hours go.
-ghost use Rattle.std.specs.Prelude.{◌≡◌, IfOk, IfErr, IsErrOf, OnErr, None};
-ghost use Rattle.md_dirs.specs.Calls.{Obeys, unlink};
+ghost use Rattle.std.specs.Prelude.{◌≡◌, IfOk, IfErr, OnErr, None};
 ghost use Rattle.md_jobs.specs.Tasks.Cleaning.{Remove};
 ghost use Rattle.md_jobs.specs.Turn.{Takes, IsUntouched};
 ghost use Rattle.md_jobs.specs.Machines.Clean.{new_cleaning, cleaning_turn, look_turn, unlink_turn, after_old, after_unlink, tmp as tmp_of};
@@ -10,10 +9,9 @@ use crate::error::CoreError;
 use crate::refusal::Refusal;
 use crate::step::{DirCall, DirReply, Moment};
 use crate::turn::{Turned, reply_of};
-use md_dirs::{Bytes, DirError, Dirs, PackedRows, Path, Place};
+use md_dirs::{Dirs, FileName, PackedRows, Path, Place};
 use std::alloc::{AllocError, Global};
 use std::marker::Model;
-use std::mem::replace;
 
 /// A file of tmp that was not used for 36 hours, in seconds, is old (maildir(5)).
 const LEAST_SECONDS: u64 = 129_600;
@@ -25,13 +23,8 @@ const LIST: DirCall = DirCall::List(Place::Tmp);
 pub enum Stage {
     /// The directory is listed.
     Look,
-    /// The names of these rows are taken away, one after another. So many files will be removed by then, if none is gone before. The path of each
-    /// call is made in the room of the one before.
-    Remove {
-        old: PackedRows,
-        files: u64,
-        room: Vec<u8>,
-    },
+    /// The names of these rows are taken away, one after another. So many files will be removed by then, if none is gone before.
+    Remove { old: PackedRows, files: u64 },
 }
 
 /// A clean of a folder.
@@ -100,7 +93,7 @@ impl Cleaning {
     {
         match dirs.list_old(alloc, self.folder, Place::Tmp, at.own, LEAST_SECONDS) {
             Ok(old) => {
-                let answer = self.listed(alloc, old);
+                let answer = self.listed(old);
                 Ok(Turned::plain(LIST, DirReply::Ok, answer))
             }
             Err(error) => {
@@ -127,57 +120,36 @@ impl Cleaning {
             (D.device dirs.new)) }
     {
         let path = self.next_path(alloc)?;
-        let reply = reply_of(self.take_away(dirs, path))?;
+        let reply = reply_of(dirs.unlink(&path))?;
         let answer = self.unlinked(reply);
         Ok(Turned::plain(DirCall::Unlink, reply, answer))
     }
 
-    // The path of the name that is next, in the room of the one before. When out of memory, nothing has changed.
-    fn next_path(&mut self, alloc: Global) -> Result<Path, AllocError>
-        ensures path { (name : _) (rest : _) (files : _) → self.old.stage ≡ Remove name rest files
-            → IfOk result (λ path. path ≡ tmp_of self.old name) }
-        ensures same { self.new ≡ self.old }
+    // The path of the name that is next. It is refused only when out of memory.
+    fn next_path(&self, alloc: Global) -> Result<Path, AllocError>
+        ensures { (name : _) (rest : _) (files : _) → self.now.stage ≡ Remove name rest files
+            → IfOk result (λ path. path ≡ tmp_of self.now name) }
     {
-        let folder = self.folder;
-        let mut name = Vec::new(alloc);
-        if let Stage::Remove { old, room, .. } = &mut self.stage {
-            name = replace(room, name);
-            name.clear();
-            name.extend_from_slice(old.first_name())?;
-        }
+        let name = match &self.stage {
+            Stage::Look => b"".as_slice(),
+            Stage::Remove { old, .. } => old.first_name(),
+        };
         Ok(Path {
-            folder,
+            folder: self.folder,
             place: Place::Tmp,
-            name: Bytes::of(name),
+            name: FileName::copied(alloc, name)?,
         })
     }
 
-    // Takes the name of a path away, and keeps its room for the next one.
-    fn take_away<D: Dirs>(&mut self, dirs: &mut D, path: Path) -> Result<(), DirError>
-        ensures meets { Obeys (unlink path) (D.device dirs.old) result (D.device dirs.new) }
-        ensures no_memory { IsErrOf result DirError.NoMemory → ⊥ }
-        ensures same { self.new ≡ self.old }
-    {
-        let taken = dirs.unlink(&path);
-        if let Stage::Remove { room, .. } = &mut self.stage {
-            *room = path.name.into_vec();
-        }
-        taken
-    }
-
     // A listing was made, and these rows are of old files.
-    fn listed(&mut self, alloc: Global, old: PackedRows) -> Option<Answer>
+    fn listed(&mut self, old: PackedRows) -> Option<Answer>
         ensures { after_old self.old old ≡ record { task = self.new; answer = result; effect = None } }
     {
         let files = old.len() as u64;
         if old.is_empty() {
             return Some(Answer::Cleaned(files));
         }
-        self.stage = Stage::Remove {
-            old,
-            files,
-            room: Vec::new(alloc),
-        };
+        self.stage = Stage::Remove { old, files };
         None
     }
 
@@ -186,7 +158,7 @@ impl Cleaning {
         ensures { (name : _) (rest : _) (files : _) → self.old.stage ≡ Remove name rest files →
             after_unlink self.old rest files reply ≡ record { task = self.new; answer = result; effect = None } }
     {
-        let Stage::Remove { old, files, .. } = &mut self.stage else {
+        let Stage::Remove { old, files } = &mut self.stage else {
             return None;
         };
         let left = match reply {

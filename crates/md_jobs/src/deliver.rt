@@ -11,11 +11,10 @@ use crate::call::JobId;
 use crate::effect::{Change, Effect};
 use crate::error::CoreError;
 use crate::image::Image;
-use crate::paths::path;
 use crate::refusal::Refusal;
 use crate::step::{DirCall, DirReply, Moment};
 use crate::turn::{Turned, reply_of};
-use md_dirs::{Bytes, Dirs, Path, Place};
+use md_dirs::{Bytes, Dirs, FileName, Path, Place};
 use std::alloc::{AllocError, Global};
 use std::marker::Model;
 
@@ -112,7 +111,7 @@ impl Delivery {
             tmp: Path {
                 folder,
                 place: Place::Tmp,
-                name: unique,
+                name: FileName::of(unique),
             },
             whole: Image::of(&body),
             size: body.len() as u64,
@@ -270,8 +269,9 @@ impl Delivery {
             (D.device dirs.new)) }
     {
         let target = self.target(alloc)?;
+        let name = Bytes::copied(alloc, self.tmp.name.as_slice())?;
         let reply = reply_of(dirs.link(&self.tmp, &target))?;
-        let effect = self.effect(job, target);
+        let effect = self.effect(job, name);
         // At the link the message is delivered. Whatever comes now, it stays so.
         Ok(self.linked(reply, effect, effects))
     }
@@ -300,21 +300,25 @@ impl Delivery {
     fn target(&self, alloc: Global) -> Result<Path, AllocError>
         ensures { IfOk result (λ path. path ≡ target_of self.now) }
     {
-        path(alloc, self.tmp.folder, Place::New, &self.tmp.name)
+        Ok(Path {
+            folder: self.tmp.folder,
+            place: Place::New,
+            name: self.tmp.name.again(alloc)?,
+        })
     }
 
-    // The effect that a link to the target is.
-    fn effect(&self, job: JobId, target: Path) -> Effect
-        requires { target ≡ target_of self.now }
+    // The effect that a link to the target is, which takes a copy of the name.
+    fn effect(&self, job: JobId, name: Bytes) -> Effect
+        requires { name ≡ self.now.tmp.name }
         ensures { result ≡ delivery_effect job self.now }
     {
         Effect {
             job,
             answer: Answer::Delivered,
             change: Change::Add {
-                folder: target.folder,
-                place: target.place,
-                name: target.name,
+                folder: self.tmp.folder,
+                place: Place::New,
+                name,
                 size: self.size,
             },
         }

@@ -78,7 +78,8 @@ impl Errand {
             // The deed is made ready before its call, since a call that was made can't be refused any more.
             Stage::Act { size, tries, .. } => {
                 let (deed, answer) = self.purpose.deed(alloc, &self.unique, &self.path)?;
-                let reply = reply_of(deed.make(dirs, self.path.path()))?;
+                let made = deed.make(alloc, dirs, self.path.path())?;
+                let reply = reply_of(made)?;
                 Ok(self.acted(alloc, job, deed, answer, size, tries, reply, effects))
             }
         }

@@ -1,11 +1,12 @@
 //! The table of errands, a row for each purpose: the places that it looks in, what it decides of a message that it found, and what it does
 //! with it.
-ghost use Rattle.std.specs.Prelude.{◌≡◌, IfOk, IfErr, IfSome, MatchResult};
+ghost use Rattle.std.specs.Prelude.{◌≡◌, IfOk, IfErr, IfSome, OnErr, MatchResult};
 ghost use Rattle.md_dirs.specs.Path.{path_of};
 ghost use Rattle.md_dirs.specs.Calls.{Obeys};
 ghost use Rattle.md_jobs.specs.Tasks.Views.Purposes.{purpose_view, decision_view, deed_view, refusal_view};
 ghost use Rattle.md_name.specs.Names.{flags_of, flagged};
 ghost use Rattle.md_jobs.specs.Sets.{is_same_set};
+ghost use Rattle.md_jobs.specs.Turn.{IsUntouched};
 ghost use Rattle.md_jobs.specs.Asked.{ask_of, shown_call};
 ghost use Rattle.md_jobs.specs.Machines.Purposes.{first, searches, place_after, info_in, wanted as wanted_by, shown as shown_by, has_trashed, act_if as act_if_by, decide_flag, decide as decide_by, answer_by, name_copied, deed_by};
 ghost use Rattle.md_jobs.specs.Machines.Errand.{asked_of, change_of, taken_by};
@@ -13,14 +14,14 @@ ghost use Rattle.md_jobs.specs.Machines.Errand.{asked_of, change_of, taken_by};
 use crate::answer::Answer;
 use crate::effect::Change;
 use crate::error::CoreError;
-use crate::paths::path;
 use crate::refusal::Refusal;
+use crate::spot::Spot;
 use crate::step::DirCall;
 use crate::target::Target;
-use md_dirs::{Bytes, DirError, Dirs, Path, Place};
+use md_dirs::{Bytes, DirError, Dirs, Place};
 use md_name::laws::only_letters;
 use md_name::{Flags, Info, split, with_flags};
-use std::alloc::Global;
+use std::alloc::{AllocError, Global};
 
 /// What an errand is for.
 #[derive(Drop)]
@@ -51,8 +52,8 @@ pub enum Decision {
 /// A directory call that an errand makes on the path that it found, and the path that it makes.
 #[derive(Drop)]
 pub enum Deed {
-    Rename { new: Path },
-    Link { new: Path },
+    Rename { new: Spot },
+    Link { new: Spot },
     Unlink,
 }
 
@@ -120,12 +121,12 @@ fn copied_name(alloc: Global, fresh: &Bytes, info: Info) -> Result<Bytes, CoreEr
 }
 
 // Where a message of this folder is that has these flags: in cur, by another name.
-fn marked(alloc: Global, folder: u32, unique: &Bytes, flags: Flags) -> Result<Path, CoreError>
+fn marked(alloc: Global, folder: u32, unique: &Bytes, flags: Flags) -> Result<Spot, CoreError>
     ensures { MatchResult result
         (λ path. path ≡ path_of folder Place.Cur (flagged unique.now flags))
         (λ e. e ≡ CoreError.NoMemory) }
 {
-    Ok(Path {
+    Ok(Spot {
         folder,
         place: Place::Cur,
         name: named(alloc, unique, flags)?,
@@ -245,7 +246,7 @@ impl Purpose {
         ensures answer { IfOk result (λ done. done.1 ≡ answer_by (purpose_view self.now) (info_in old.now.name)) }
         ensures memory { IfErr result (λ e. e ≡ CoreError.NoMemory) }
     {
-        let Path {
+        let Spot {
             folder,
             place,
             name,
@@ -257,12 +258,16 @@ impl Purpose {
                 Ok((Deed::Rename { new }, Answer::Flags(flags)))
             }
             Purpose::Move { to } => {
-                let new = path(alloc, *to, *place, name)?;
+                let new = Spot {
+                    folder: *to,
+                    place: *place,
+                    name: name.again(alloc)?,
+                };
                 Ok((Deed::Rename { new }, Answer::Moved))
             }
             Purpose::Copy { to, fresh } => {
                 let name = copied_name(alloc, fresh, old.info())?;
-                let new = Path {
+                let new = Spot {
                     folder: *to,
                     place: *place,
                     name,
@@ -275,14 +280,24 @@ impl Purpose {
 }
 
 impl Deed {
-    /// Makes the directory call on this path. No clock plays a part in it.
-    pub(crate) fn make<D: Dirs>(&self, dirs: &mut D, old: &Path) -> Result<(), DirError>
-        ensures meets { Obeys (ask_of (asked_of (deed_view old.now self.now)) 0) (D.device dirs.old) result (D.device dirs.new) }
+    /// Makes the directory call on this path, and gives its answer. No clock plays a part in it. Where there is no memory for the paths, no
+    /// call is made.
+    pub(crate) fn make<D: Dirs>(
+        &self,
+        alloc: Global,
+        dirs: &mut D,
+        old: &Spot,
+    ) -> Result<Result<(), DirError>, AllocError>
+        ensures meets { IfOk result (λ made.
+            Obeys (ask_of (asked_of (deed_view old.now self.now)) 0) (D.device dirs.old) made (D.device dirs.new)) }
+        ensures dirs { OnErr result (IsUntouched (D.device dirs.old)
+            (D.device dirs.new)) }
     {
+        let old = old.path(alloc)?;
         match self {
-            Deed::Rename { new } => dirs.rename(old, new),
-            Deed::Link { new } => dirs.link(old, new),
-            Deed::Unlink => dirs.unlink(old),
+            Deed::Rename { new } => Ok(dirs.rename(&old, &new.path(alloc)?)),
+            Deed::Link { new } => Ok(dirs.link(&old, &new.path(alloc)?)),
+            Deed::Unlink => Ok(dirs.unlink(&old)),
         }
     }
 
@@ -298,7 +313,7 @@ impl Deed {
     }
 
     /// What it changed on this path, with a message of this size.
-    pub(crate) fn change(self, old: Path, size: u64) -> Change
+    pub(crate) fn change(self, old: Spot, size: u64) -> Change
         ensures { result ≡ change_of (deed_view old self) size }
     {
         match self {

@@ -3,9 +3,9 @@ ghost use Rattle.std.specs.Prelude.{◌≡◌, [], IfSome};
 ghost use Rattle.md_dirs.specs.Path.{path_of};
 ghost use Rattle.md_jobs.specs.Machines.Purposes.{info_in};
 
-use crate::paths::nameless;
 use crate::purpose::info_of;
-use md_dirs::{Bytes, Path, Place};
+use crate::spot::Spot;
+use md_dirs::{Bytes, Place};
 use md_name::Info;
 use std::alloc::Global;
 use std::marker::Model;
@@ -14,7 +14,7 @@ use std::mem::replace;
 /// The path of an errand, where it looks or what it found, and the info of its name, where that was read.
 #[derive(Drop)]
 pub struct Target {
-    path: Path,
+    path: Spot,
     info: Option<Info>,
 }
 
@@ -36,13 +36,13 @@ impl Target {
         ensures { result ≡ path_of folder place [] }
     {
         Target {
-            path: nameless(alloc, folder, place),
+            path: Spot::nameless(alloc, folder, place),
             info: None,
         }
     }
 
     /// The path, lent.
-    pub(crate) fn path(&self) -> &Path
+    pub(crate) fn path(&self) -> &Spot
         ensures { result.now ≡ self.now }
     {
         &self.path
@@ -75,12 +75,12 @@ impl Target {
     }
 
     /// The path, moved out: one without a name stays.
-    pub(crate) fn take(&mut self, alloc: Global) -> Path
+    pub(crate) fn take(&mut self, alloc: Global) -> Spot
         ensures path { result ≡ self.old }
         ensures rest { self.new ≡ path_of self.old.folder self.old.place [] }
     {
         self.info = None;
-        let left = nameless(alloc, self.path.folder, self.path.place);
+        let left = Spot::nameless(alloc, self.path.folder, self.path.place);
         replace(&mut self.path, left)
     }
 }

@@ -18,7 +18,7 @@ use crate::names::{Names, name};
 use crate::words::{Rest, equals, piece, word};
 use calls::step_line;
 use head::{head_line, head_word};
-use md_dirs::{Bytes, Path, Place};
+use md_dirs::{Bytes, FileName, Path, Place};
 use md_name::Flags;
 use std::alloc::Global;
 pub use ticks::Ticks;
@@ -170,7 +170,7 @@ fn path<'a>(alloc: Global, folders: &Folders, rest: Rest<'a>) -> Result<(Path, R
     let (second, last) = piece(left)?;
     let folder = folder(alloc, folders, first)?;
     let place = place(second)?;
-    let name = name(alloc, last)?;
+    let name = FileName::of(name(alloc, last)?);
     let path = Path {
         folder,
         place,

@@ -104,7 +104,7 @@ impl Wanted for Barred {
 }
 
 /// Whether a byte that is looked for is among the bytes.
-pub fn holds<W: Wanted>(bytes: &[u8]) -> bool
+pub(crate) fn holds<W: Wanted>(bytes: &[u8]) -> bool
     ensures { result ≡ list_any W.wanted bytes.now }
 {
     first::<W>(bytes).is_some()

@@ -9,13 +9,17 @@
 pub mod blocks;
 mod bytes;
 mod error;
+mod file_name;
 mod flags;
 mod info;
 pub mod laws;
+mod short;
 mod unique;
 
 pub use bytes::Bytes;
 pub use error::NameError;
+pub use file_name::FileName;
 pub use flags::Flags;
 pub use info::{Info, colon_after, first_colon, is_message, split, unique_part, with_flags};
+pub use short::{SHORT, Short};
 pub use unique::{UniqueParts, holds_separator, holds_terminator, is_unique_name, make_unique};

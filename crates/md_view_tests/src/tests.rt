@@ -5,7 +5,7 @@ mod names;
 
 use md_core::World;
 use md_dirs::{Dirs, Path, Place, PlainDirs};
-use md_name::Bytes;
+use md_name::FileName;
 use md_view::{Entry, ViewError, join, list, reading};
 use std::alloc::Global;
 use std::process::Abort;
@@ -30,7 +30,7 @@ fn path_of(rt: &impl Abort, alloc: Global, text: &str) -> Path {
     Path {
         folder: u32::from(folder == "1"),
         place,
-        name: Bytes::copied(alloc, name.as_bytes()).expect(rt, "memory"),
+        name: FileName::copied(alloc, name.as_bytes()).expect(rt, "memory"),
     }
 }
 

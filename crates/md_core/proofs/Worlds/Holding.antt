@@ -29,7 +29,7 @@ use Rattle.md_jobs.specs.declared.step.DirReply.TheVariants as reply
 use Rattle.md_core.proofs.Values.{State, IsSound, file_at, file_by, Path, path_of, Place, Tmp, Cur, Row, Call, DirReply, Moment}
 use Rattle.md_core.specs.Tasks.Task.{Task, Deliver, Errand, Clean}
 use Rattle.md_core.specs.Accepting.{name_used, MakesMessage}
-use Rattle.md_core.specs.Gathering.{holds, gathers_none, may_take}
+use Rattle.md_core.specs.Gathering.{holds, keeps_few, may_take}
 use Rattle.md_core.specs.Machine.{turn_of}
 use Rattle.md_core.specs.Mailbox.{is_tmp, is_message, HasOnePath}
 use Rattle.md_core.specs.Submitting.{uses}
@@ -107,7 +107,7 @@ module _ (s : State) (o n : Path) (k : ℕ) (sound : IsSound s) (one : HasOnePat
 
 -- ---- a turn of an errand that makes no name and takes none away
 
-module _ (s : State) (asked : Call) (none : gathers_none asked ≡ true) (sound : IsSound s) (one : HasOnePath s) (clock : ℕ) (faulted : Bool)
+module _ (s : State) (asked : Call) (none : keeps_few asked ≡ true) (sound : IsSound s) (one : HasOnePath s) (clock : ℕ) (faulted : Bool)
   where
     -- what it leaves uses up the same names
     abbrev Holds : Asked → Type 0
@@ -148,8 +148,8 @@ module _ (s : State) (asked : Call) (none : gathers_none asked ≡ true) (sound 
       done (Flag add remove) fits k at u = marked (Flag add remove) fits k at u
       done (Move to) fits k at u =
           holds-moved s o (path_of to place row.name) k sound one (message (Move to) fits) (message (Move to) fits) refl fits.to_folder at u
-      done (Copy to fresh) fits k at u = let no : gathers_none asked ≡ false = ap gathers_none fits.of in cc
-      done Expunge fits k at u = let no : gathers_none asked ≡ false = ap gathers_none fits.of in cc
+      done (Copy to fresh) fits k at u = let no : keeps_few asked ≡ false = ap keeps_few fits.of in cc
+      done Expunge fits k at u = let no : keeps_few asked ≡ false = ap keeps_few fits.of in cc
 
       act-holds : (p : Purpose) → ErrandFits s asked (acting p) → Holds (made p)
       act-holds p fits reply.Ok replied u = let at = there p fits replied in done p fits at.0 at.1 u
@@ -176,13 +176,13 @@ pub may-holds : (s : State) (asked : Call) (u : List ℕ) → may_take s asked u
 may-holds s (call.Clean folder) u may = tmp-holds s folder u may
 may-holds s other u may = cc
 
-bare-makes : (asked : Call) (u : List ℕ) → gathers_none asked ≡ true → MakesMessage asked u → ⊥
+bare-makes : (asked : Call) (u : List ℕ) → keeps_few asked ≡ true → MakesMessage asked u → ⊥
 bare-makes (call.Deliver folder v body chunk) u none makes = cc
 bare-makes (call.Copy folder v to fresh tries) u none makes = cc
 bare-makes other u none makes = makes
 
 -- a turn of a job for whose call not all names need be gathered makes no name in tmp
-module _ (s : State) (asked : Call) (none : gathers_none asked ≡ true) (sound : IsSound s) (number : ℕ) (task : Task) (at : Moment)
+module _ (s : State) (asked : Call) (none : keeps_few asked ≡ true) (sound : IsSound s) (number : ℕ) (task : Task) (at : Moment)
     (fits : TaskFits s asked task) (r : DirReply) where
   abbrev asks : Asked
   asks = (turn_of number task at).asked
@@ -203,7 +203,7 @@ module _ (s : State) (asked : Call) (none : gathers_none asked ≡ true) (sound 
 
 -- ---- any turn of a job for whose call not all names need be gathered
 
-module _ (s : State) (asked : Call) (none : gathers_none asked ≡ true) (sound : IsSound s) (one : HasOnePath s) (clock : ℕ) (faulted : Bool)
+module _ (s : State) (asked : Call) (none : keeps_few asked ≡ true) (sound : IsSound s) (one : HasOnePath s) (clock : ℕ) (faulted : Bool)
     (names : List (List ℕ)) (taken : (u : List ℕ) → may_take s asked u ≡ true → is_among u names ≡ true) where
   -- what it leaves uses up the same names, but for those that it may take away
   abbrev HoldsWith : Asked → Type 0
@@ -232,7 +232,7 @@ module _ (s : State) (asked : Call) (none : gathers_none asked ≡ true) (sound 
   clean-holds c own (cleaning.Remove name rest files) of r replied u = unlink-holds c.folder name of r replied u
 
   pub turn-holds : (number : ℕ) (task : Task) (at : Moment) → TaskFits s asked task → HoldsWith (turn_of number task at).asked
-  turn-holds number (Deliver d) at fits r replied u = let no : gathers_none asked ≡ false = ap gathers_none fits.of in cc
+  turn-holds number (Deliver d) at fits r replied u = let no : keeps_few asked ≡ false = ap keeps_few fits.of in cc
   turn-holds number (Errand e) at fits r replied u =
       ap (λ b. is_among u names || b)
       (stage-holds s asked none sound one clock faulted number e.folder e.unique e.purpose e.stage fits r replied u)

@@ -15,7 +15,7 @@ use Rattle.md_core.specs.Used.{is_among}
 use Rattle.md_core.specs.declared.used.Used.{Used}
 use Rattle.md_core.specs.declared.used.Used.TheVariants.{Leaving, All}
 use Rattle.md_core.specs.Worlds.{IsWorld, AreLeaving, AreUsed, run_of, machine_by}
-use Rattle.md_core.specs.Gathering.{holds, gathers_none, may_take, KeepsLeaving, KeepsMade}
+use Rattle.md_core.specs.Gathering.{holds, keeps_few, may_take, KeepsLeaving, KeepsMade}
 use Rattle.md_core.proofs.Lists.Places.{at_end}
 use Rattle.md_core.proofs.Worlds.Before.{used-before}
 use Rattle.md_core.proofs.Worlds.Holding.{may-holds}
@@ -59,7 +59,7 @@ last_first false false true = refl
 last_first false false false = refl
 
 -- a call for which no name need be gathered makes none
-makes-none : (asked : Call) (u : List ℕ) → gathers_none asked ≡ true → makes u asked ≡ false
+makes-none : (asked : Call) (u : List ℕ) → keeps_few asked ≡ true → makes u asked ≡ false
 makes-none (Deliver folder unique body chunk) u bare = cc
 makes-none (Copy folder unique to fresh tries) u bare = cc
 makes-none call u bare = refl
@@ -87,10 +87,10 @@ module _ (first : Device) (began : ℕ) (jobs : List JobView) (events : List Eve
     moved = kept-submitted ∙ ap (λ (m : Machine). with_job m (new_job asked)) world.now ∙ sym (machine-and_call run world.run asked)
 
     -- names that may leave, with those that the call may take away
-    still-leaving : (old names : List (List ℕ)) → AreLeaving run old → gathers_none asked ≡ true →
+    still-leaving : (old names : List (List ℕ)) → AreLeaving run old → keeps_few asked ≡ true →
         ((u : List ℕ) → is_among u names ≡ (is_among u old || may_take held.state asked u)) → AreLeaving (and_call run asked) names
     still-leaving old names h bare grown = record {
-      calls = λ i call at. at_end run.calls asked i call at (h.calls i call) (λ last is. ap gathers_none is ∙ bare);
+      calls = λ i call at. at_end run.calls asked i call at (h.calls i call) (λ last is. ap keeps_few is ∙ bare);
       taken = λ i call at u is.
           let now : may_take held.state call u ≡ true = ap (λ (m : Machine). may_take m.dirs call u) moved ∙ is in
           grown u ∙ at_end run.calls asked i call at

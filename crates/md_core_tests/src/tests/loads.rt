@@ -2,7 +2,7 @@
 use super::BODY;
 use super::scene::{Scene, plays};
 use md_core::{CoreError, LoadRefused, World};
-use md_dirs::{Bytes, DirError, Dirs, IndexDirs, Path, Place, PlainDirs};
+use md_dirs::{DirError, Dirs, FileName, IndexDirs, Path, Place, PlainDirs};
 use std::alloc::Global;
 
 // A name with a line feed, which no line of a script can have. Other bad names are loaded by tools/tests/ffi.
@@ -38,7 +38,7 @@ fn add(alloc: Global, dirs: &mut PlainDirs, place: Place, name: &str) -> Result<
     let path = Path {
         folder: 0,
         place,
-        name: Bytes::copied(alloc, name.as_bytes())?,
+        name: FileName::copied(alloc, name.as_bytes())?,
     };
     dirs.create(&path, 0)?;
     dirs.append(&path, BODY, 0)
@@ -88,11 +88,11 @@ pub(super) fn is_refused(alloc: Global, place: Place) -> Result<bool, CoreError>
 }
 
 // The name of a file, spelled out.
-fn name_of(alloc: Global, name: &str) -> Result<Bytes, CoreError> {
+fn name_of(alloc: Global, name: &str) -> Result<FileName, CoreError> {
     if name == LONG {
-        Ok(Bytes::copied(alloc, &[b'm'; 201])?)
+        Ok(FileName::copied(alloc, &[b'm'; 201])?)
     } else {
-        Ok(Bytes::copied(alloc, name.as_bytes())?)
+        Ok(FileName::copied(alloc, name.as_bytes())?)
     }
 }
 

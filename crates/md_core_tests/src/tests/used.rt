@@ -2,7 +2,7 @@
 use super::scene::{Scene, plays};
 use super::{BODY, letter, load, submitted};
 use md_core::{CoreError, World};
-use md_dirs::{Bytes, ImageFile, IndexDirs, Path, Place};
+use md_dirs::{Bytes, FileName, ImageFile, IndexDirs, Path, Place};
 use std::alloc::{AllocError, Global};
 use std::process::Abort;
 
@@ -12,7 +12,7 @@ fn file(alloc: Global, place: Place, name: &str) -> Result<ImageFile, AllocError
         path: Path {
             folder: 0,
             place,
-            name: Bytes::copied(alloc, name.as_bytes())?,
+            name: FileName::copied(alloc, name.as_bytes())?,
         },
         bytes: Bytes::copied(alloc, BODY)?,
         stamp: 0,

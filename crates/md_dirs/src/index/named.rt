@@ -1,5 +1,5 @@
 // A name with the number of its file, as the table of a directory has it.
-ghost use Rattle.std.specs.Prelude.{◌≡◌, ◌∷◌, [], IsSome, List, ℕ};
+ghost use Rattle.std.specs.Prelude.{◌≡◌, ◌∷◌, [], IsSome, IfOk, List, ℕ, length};
 ghost use Rattle.std.specs.Cmp.{partial_equiv_from_equiv};
 ghost use Rattle.std.specs.Cmp.Lexicographic.{bytes_decides};
 ghost use Rattle.std.specs.Str.{bytes_eq};
@@ -12,49 +12,61 @@ ghost use Rattle.md_dirs.specs.Slots.{slots_of};
 ghost use Rattle.md_dirs.specs.Named.{Row, is_alike, alike_equiv};
 
 use crate::files::known_row;
-use crate::name_key::{Held, NameKey};
+use crate::name_key::Held;
 use crate::rows::RowRef;
 use crate::slots::Slots;
-use md_name::unique_part;
+use md_name::{SHORT, Short, unique_part};
+use std::alloc::{AllocError, Global};
 use std::hash::{Hash, Hasher};
 use std::marker::Model;
 
-/// A name, owned or lent, and the number of its file. Contracts see both.
+/// A name, owned or lent, and the number of its file. Contracts see both. A short name that it owns lies in place, so that a row of a table
+/// has 64 bytes and a look at it goes nowhere else.
 ///
 /// Two are equal where their names have the same unique part, all before the first colon, whatever comes after it and whatever their files:
 /// so a table of them finds the one name of a message by its unique name. Its unique part goes to the hasher at once.
 #[derive(Drop)]
 pub struct Named<'a> {
-    name: Held<'a>,
-    // How many bytes the unique part has.
-    unique: usize,
+    name: Parted<'a>,
     file: usize,
 }
 
+/// A name, in place or held, and how many bytes its unique part has.
+#[derive(Drop)]
+enum Parted<'a> {
+    Short { name: Short, unique: u8 },
+    Held { name: Held<'a>, unique: usize },
+}
+
 impl<'a> Model for Named<'a> {
-    ghost use Rattle.std.specs.Prelude.{◌≡◌, length};
-    ghost use Rattle.md_name.specs.Names.{unique_of};
     ghost use Rattle.md_dirs.specs.Named.{Row};
-    ghost use Rattle.md_dirs.specs.NameKey.{held_bytes};
+    ghost use Rattle.md_dirs.specs.Parted.{parted_bytes, IsParted};
 
     ghost Value = { Row };
 
-    ghost view = { λ n. (held_bytes n.name, n.file) };
+    ghost view = { λ n. (parted_bytes n.name, n.file) };
 
-    ghost invariant = { λ n. n.unique ≡ length (unique_of (held_bytes n.name)) };
+    ghost invariant = { λ n. IsParted n.name };
 }
 
 impl<'a> Named<'a> {
-    /// A name that is moved in, with the number of its file. It takes no memory.
-    pub fn owned(name: Vec<u8>, file: usize) -> Self
-        ensures { result ≡ (name.items, file) }
+    /// A copy of a name, in place where it is short, with the number of its file. It is refused only when out of memory.
+    pub fn copied(alloc: Global, name: &[u8], file: usize) -> Result<Self, AllocError>
+        ensures { IfOk result (λ named. named ≡ (name.now, file)) }
     {
-        let unique = unique_part(&name).len();
-        Named {
-            name: Held::Owned(name),
-            unique,
-            file,
-        }
+        let unique = unique_part(name).len();
+        let name = if name.len() > SHORT {
+            Parted::Held {
+                name: Held::Owned(Vec::from_slice(alloc, name)?),
+                unique,
+            }
+        } else {
+            Parted::Short {
+                name: Short::of(name),
+                unique: unique as u8,
+            }
+        };
+        Ok(Named { name, file })
     }
 
     /// A name that is lent, to look it up. It takes no memory.
@@ -62,8 +74,10 @@ impl<'a> Named<'a> {
         ensures { result ≡ (name.now, 0) }
     {
         Named {
-            name: Held::Lent(name),
-            unique: unique_part(name).len(),
+            name: Parted::Held {
+                name: Held::Lent(name),
+                unique: unique_part(name).len(),
+            },
             file: 0,
         }
     }
@@ -72,7 +86,20 @@ impl<'a> Named<'a> {
     pub fn name(&self) -> &[u8]
         ensures { result.now ≡ self.now.0 }
     {
-        self.name.as_slice()
+        match &self.name {
+            Parted::Short { name, .. } => name.as_slice(),
+            Parted::Held { name, .. } => name.as_slice(),
+        }
+    }
+
+    // How many bytes the unique part has.
+    fn unique_len(&self) -> usize
+        ensures { result ≡ length (unique_of self.now.0) }
+    {
+        match &self.name {
+            Parted::Short { unique, .. } => *unique as usize,
+            Parted::Held { unique, .. } => *unique,
+        }
     }
 
     /// The unique part of the name.
@@ -80,7 +107,7 @@ impl<'a> Named<'a> {
         ensures { result.now ≡ unique_of self.now.0 }
     {
         let name = self.name();
-        &name[..self.unique]
+        &name[..self.unique_len()]
     }
 
     /// The number of the file.
@@ -101,14 +128,7 @@ impl<'a> Named<'a> {
     pub fn has_info(&self) -> bool
         ensures { result ≡ list_any is_colon self.now.0 }
     {
-        self.unique < self.name().len()
-    }
-
-    /// The name as a key of another table, moved out.
-    pub fn into_key(self) -> NameKey<'a>
-        ensures { result ≡ self.entry.0 }
-    {
-        NameKey::held(self.name)
+        self.unique_len() < self.name().len()
     }
 
     /// The name and the number of its file.
@@ -124,7 +144,7 @@ impl<'a> Named<'a> {
         requires { IsSome (file_by (files_of (slots_of slots.now)) self.now.1) }
         ensures { result ≡ name_row (files_of (slots_of slots.now)) self.now }
     {
-        known_row(slots, self.name(), self.unique, self.file)
+        known_row(slots, self.name(), self.unique_len(), self.file)
     }
 }
 

@@ -229,7 +229,7 @@ fn rename_row(
     let Some(row) = row_of(table, at, old) else {
         return Ok(false);
     };
-    let renamed = Named::owned(Vec::from_slice(alloc, new)?, file);
+    let renamed = Named::copied(alloc, new, file)?;
     if row.is(new) || row.unique() != renamed.unique() {
         return Ok(false);
     }
@@ -369,7 +369,7 @@ impl Names {
         if file_beside(&self.others, name).is_some() {
             return Ok(false);
         }
-        let row = Named::owned(Vec::from_slice(alloc, name)?, file);
+        let row = Named::copied(alloc, name, file)?;
         let end = self.table.len();
         let Some(at) = add_row(&mut self.table, &mut self.order, row)? else {
             self.near = end;
@@ -379,27 +379,6 @@ impl Names {
             return Ok(false);
         }
         put_beside(&mut self.others, alloc, name, file)?;
-        Ok(true)
-    }
-
-    /// The same of a name that is moved in.
-    pub fn add_owned(&mut self, name: Vec<u8>, file: usize) -> Result<bool, AllocError>
-        ensures new { IfOk result (λ is_new. is_new ≡ is_none (finmap.get self.old name.items)) }
-        ensures ok { IfOk result (λ is_new. self.new ≡ if is_new then finmap.insert self.old name.items file else self.old) }
-        ensures err { OnErr result (self.new ≡ self.old) }
-    {
-        let row = Named::owned(name, file);
-        if file_beside(&self.others, row.name()).is_some() {
-            return Ok(false);
-        }
-        let Some((_, there)) = row_like(&self.table, &row) else {
-            add_row(&mut self.table, &mut self.order, row)?;
-            return Ok(true);
-        };
-        if there.is(row.name()) {
-            return Ok(false);
-        }
-        self.others.insert(row.into_key(), file)?;
         Ok(true)
     }
 
@@ -415,7 +394,7 @@ impl Names {
             put_beside(&mut self.others, alloc, name, file)?;
             return Ok(());
         }
-        let row = Named::owned(Vec::from_slice(alloc, name)?, file);
+        let row = Named::copied(alloc, name, file)?;
         self.table.replace(row)?;
         Ok(())
     }

@@ -293,19 +293,6 @@ impl Tree {
         Ok(())
     }
 
-    /// Gives a path to a file, unless it is there: whether it was not. The name is moved in. When out of memory, nothing has changed.
-    pub fn add_owned(&mut self, alloc: Global, path: Path, file: usize) -> Result<bool, AllocError>
-        ensures new { IfOk result (λ is_new. is_new ≡ is_none (finmap.get self.old path)) }
-        ensures ok { IfOk result (λ is_new. self.new ≡ if is_new then finmap.insert self.old path file else self.old) }
-        ensures err { OnErr result (self.new ≡ self.old) }
-    {
-        let number = number_of(path.folder, path.place);
-        make_directory(&mut self.directories, alloc, number)?;
-        let directory = &mut self.directories[number];
-        let is_new = directory.add_owned(path.name.into_vec(), file)?;
-        Ok(is_new)
-    }
-
     /// Makes the order of a directory, unless it is made. It is refused only when out of memory.
     pub fn arrange(&mut self, alloc: Global, folder: u32, place: Place) -> Result<(), AllocError>
         ensures { self.new ≡ self.old }

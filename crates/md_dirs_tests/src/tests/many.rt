@@ -3,7 +3,7 @@ use super::cases::{Case, Ends, play};
 use super::model::Model;
 use super::numbers::random;
 use super::{Call, Kind, numbered};
-use md_dirs::{DirError, Dirs, IndexDirs, Path, Place};
+use md_dirs::{Bytes, DirError, Dirs, FileName, IndexDirs, Path, Place};
 use std::alloc::{AllocError, Global};
 use std::process::Abort;
 
@@ -52,7 +52,8 @@ fn unique_of(alloc: Global, number: u32) -> Result<Path, AllocError> {
 // A unique name and what comes behind it: information, or bytes below and above the colon.
 fn message_of(alloc: Global, number: u32, behind: u32) -> Result<Path, AllocError> {
     let mut path = unique_of(alloc, number)?;
-    path.name.extend(match behind % 8 {
+    let mut name = Bytes::copied(alloc, path.name.as_slice())?;
+    name.extend(match behind % 8 {
         0 => b"",
         1 => b":2,",
         2 => b":2,S",
@@ -62,6 +63,7 @@ fn message_of(alloc: Global, number: u32, behind: u32) -> Result<Path, AllocErro
         6 => b"\x00",
         _ => b"\xff",
     })?;
+    path.name = FileName::of(name);
     Ok(path)
 }
 

@@ -2,7 +2,7 @@
 use super::model::Model;
 use super::thousand::CALLS;
 use super::{Call, Kind};
-use md_dirs::{Bytes, DirError, Dirs, Path, Place};
+use md_dirs::{DirError, Dirs, FileName, Path, Place};
 use std::alloc::{AllocError, Global};
 use std::process::Abort;
 
@@ -18,7 +18,7 @@ fn paths(alloc: Global) -> Result<Vec<Path>, AllocError> {
                 paths.push(Path {
                     folder,
                     place,
-                    name: Bytes::copied(alloc, name.as_bytes())?,
+                    name: FileName::copied(alloc, name.as_bytes())?,
                 })?;
             }
         }

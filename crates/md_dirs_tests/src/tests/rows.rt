@@ -3,7 +3,7 @@
 use super::model::Model;
 use super::values::is_told;
 use super::{Call, Kind};
-use md_dirs::{Bytes, DirError, Dirs, Path, Place, RowRef};
+use md_dirs::{DirError, Dirs, FileName, Path, Place, RowRef};
 use std::alloc::{AllocError, Global};
 use std::process::Abort;
 
@@ -193,7 +193,7 @@ pub fn path_of(alloc: Global, text: &str) -> Result<Path, AllocError> {
     Ok(Path {
         folder: folder.parse().unwrap_or(0),
         place,
-        name: Bytes::copied(alloc, name_of(name))?,
+        name: FileName::copied(alloc, name_of(name))?,
     })
 }
 

@@ -10,7 +10,7 @@ use crate::command::Command;
 use crate::error::PlayKind;
 use crate::folders::Folders;
 use crate::words::{Rest, body, end, number_word, word};
-use md_dirs::{Bytes, ImageFile, Path, Place};
+use md_dirs::{Bytes, FileName, ImageFile, Path, Place};
 use std::alloc::Global;
 
 /// The words of `folder` after the first.
@@ -49,7 +49,7 @@ fn file_of(alloc: Global, folders: &Folders, rest: Rest<'_>) -> Result<ImageFile
     let (name, rest) = word(rest)?;
     let (stamp, rest) = number_word(rest)?;
     let bytes = Bytes::of(body(alloc, rest)?);
-    let name = Bytes::copied(alloc, name)?;
+    let name = FileName::copied(alloc, name)?;
     let path = Path {
         folder,
         place,

@@ -19,8 +19,8 @@ fn a_setup_has_what_the_lines_name(rt: HostRuntime) {
     let script =
         b"folder i\nfolder j\nfile i new u:2,S 7 a b\\n\n# none\njob clean i\njob flag j u SF - 3\nfile j tmp x 9";
     let setup = b"Setup { folders: [[105], [106]], files: [\
-ImageFile { path: Path { folder: 0, place: New, name: Bytes { items: [117, 58, 50, 44, 83] } }, bytes: Bytes { items: [97, 32, 98, 10] }, stamp: 7 }, \
-ImageFile { path: Path { folder: 1, place: Tmp, name: Bytes { items: [120] } }, bytes: Bytes { items: [] }, stamp: 9 }], calls: [\
+ImageFile { path: Path { folder: 0, place: New, name: [117, 58, 50, 44, 83] }, bytes: Bytes { items: [97, 32, 98, 10] }, stamp: 7 }, \
+ImageFile { path: Path { folder: 1, place: Tmp, name: [120] }, bytes: Bytes { items: [] }, stamp: 9 }], calls: [\
 Clean { folder: 0 }, \
 Flag { folder: 1, unique: Bytes { items: [117] }, add: Flags { word: 262176 }, remove: Flags { word: 0 }, tries: 3 }] }";
     assert!(rt; is_set_up(rt.alloc(), script, setup));
@@ -45,9 +45,9 @@ fn a_setup_is_not_checked_beyond_its_words(rt: HostRuntime) {
     let script =
         b"folder i\nfile i new u 0\nfile i new u 0\nfile i cur u 0\njob deliver i .u 0\nfolder j";
     let setup = b"Setup { folders: [[105], [106]], files: [\
-ImageFile { path: Path { folder: 0, place: New, name: Bytes { items: [117] } }, bytes: Bytes { items: [] }, stamp: 0 }, \
-ImageFile { path: Path { folder: 0, place: New, name: Bytes { items: [117] } }, bytes: Bytes { items: [] }, stamp: 0 }, \
-ImageFile { path: Path { folder: 0, place: Cur, name: Bytes { items: [117] } }, bytes: Bytes { items: [] }, stamp: 0 }], calls: [\
+ImageFile { path: Path { folder: 0, place: New, name: [117] }, bytes: Bytes { items: [] }, stamp: 0 }, \
+ImageFile { path: Path { folder: 0, place: New, name: [117] }, bytes: Bytes { items: [] }, stamp: 0 }, \
+ImageFile { path: Path { folder: 0, place: Cur, name: [117] }, bytes: Bytes { items: [] }, stamp: 0 }], calls: [\
 Deliver { folder: 0, unique: Bytes { items: [46, 117] }, body: Bytes { items: [] }, chunk: 0 }] }";
     assert!(rt; is_set_up(rt.alloc(), script, setup));
 }

@@ -1,6 +1,6 @@
 // Calls, files, steps and listings for the tests.
 use md_core::{Answer, Call, CoreError, JobId};
-use md_dirs::{Bytes, Dirs, ImageFile, Path, Place};
+use md_dirs::{Bytes, Dirs, FileName, ImageFile, Path, Place};
 use md_name::Flags;
 use md_store::{ListError, Naming, News, Pass, Store};
 use md_view::Entry;
@@ -106,7 +106,7 @@ pub fn file(alloc: Global, folder: u32, row: &str) -> Result<ImageFile, AllocErr
     } else {
         Place::Cur
     };
-    let name = Bytes::copied(alloc, name.as_bytes())?;
+    let name = FileName::copied(alloc, name.as_bytes())?;
     let bytes = Bytes::copied(alloc, b"x")?;
     let path = Path {
         folder,

@@ -8,7 +8,7 @@ use md_dirs::{Dirs, Path, Place, PlainDirs};
 use md_name::Bytes;
 use md_replica::{Names, TreeNames};
 use md_view::{Entry, ViewError, reading};
-use std::alloc::Global;
+use std::alloc::{AllocError, Global};
 use std::process::Abort;
 
 // Files, and behind a mark steps, between bars; behind another mark come those that a copy then takes, which stays as it was before. A step
@@ -45,13 +45,10 @@ misfit remove 0/cur=.u|\
 0/tmp|1/cur";
 
 // The change of a row: its kind, a path, and where that is renamed to. What is added has one byte.
-fn change_of(kind: &str, from: Path, to: Path) -> Change {
-    let Path {
-        folder,
-        place,
-        name,
-    } = from;
-    match kind {
+fn change_of(alloc: Global, kind: &str, from: &Path, to: &Path) -> Result<Change, AllocError> {
+    let Path { folder, place, .. } = *from;
+    let name = Bytes::copied(alloc, from.name.as_slice())?;
+    Ok(match kind {
         "add" => Change::Add {
             folder,
             place,
@@ -64,7 +61,7 @@ fn change_of(kind: &str, from: Path, to: Path) -> Change {
             name,
             to_folder: to.folder,
             to_place: to.place,
-            to_name: to.name,
+            to_name: Bytes::copied(alloc, to.name.as_slice())?,
         },
         "remove" => Change::Remove {
             folder,
@@ -72,7 +69,7 @@ fn change_of(kind: &str, from: Path, to: Path) -> Change {
             name,
         },
         _ => Change::Same,
-    }
+    })
 }
 
 // Whether a change is taken, both ways.
@@ -90,8 +87,8 @@ fn applies(
 ) -> bool {
     let (kind, paths) = cut(row, ' ');
     let (from, to) = cut(paths, ' ');
-    let from = path_of(rt, alloc, from);
-    let change = change_of(kind, from, path_of(rt, alloc, to));
+    let (from, to) = (path_of(rt, alloc, from), path_of(rt, alloc, to));
+    let change = change_of(alloc, kind, &from, &to).expect(rt, "memory");
     takes(names, trees, &change)
 }
 

@@ -28,4 +28,4 @@ delivery_stage (delivery_at.Undo refusal) = delivery.Undo (refusal_view refusal)
 -- how far a clean has come, as the definitions see it: the name that is next is that of the first row that is left
 abbrev pub cleaning_stage : CleaningStage → cleaning.Stage
 cleaning_stage cleaning_at.Look = cleaning.Look
-cleaning_stage (cleaning_at.Remove old files room) = cleaning.Remove (first_name old) (drop 1 old) files
+cleaning_stage (cleaning_at.Remove old files) = cleaning.Remove (first_name old) (drop 1 old) files

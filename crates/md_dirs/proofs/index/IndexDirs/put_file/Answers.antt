@@ -16,7 +16,7 @@ none-is (Some n) is = cc
 pub invariant_of-self-2 : goal.invariant_of-self-2
 invariant_of-self-2 c =
     let s = c.self.inside in
-    let added = rw c.if-not-branch.false at c.in_ok-add_owned.ensures.ok in
-    let none = none-is _ (sym c.in_ok-add_owned.ensures.new ∙ c.if-not-branch.false) in
+    let added = rw c.if-not-branch.false at c.in_ok-add.ensures.ok in
+    let none = none-is _ (sym c.in_ok-add.ensures.new ∙ c.if-not-branch.false) in
     rw (added, c.push.ensures, c.in_ok-number.ensures.same, c.in_ok-number.ensures.number)
     (counted-made s.folders s.names (slots_of s.slots) c.self.invariant c.args.file.path (made_of c.args.file) c.if-file-self.false none)

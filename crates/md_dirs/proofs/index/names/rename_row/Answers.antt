@@ -16,7 +16,7 @@ returns-then-not-had_info-clause-there c t =
     let rows = c.args.table.now.keys in
     let o = c.args.old.now in
     let k = c.args.new.now in
-    let x = c.owned-renamed.ensures ∙ (λ i. (c.in_ok-from_slice.ensures.items i, c.args.file)) in
+    let x = c.in_ok-renamed.ensures in
     let keys = rw x at c.in_ok-replace.ensures.keys in
     let one : same (unique_of o) (unique_of k) ≡ true =
     (λ i. same (sym (c.unique.ensures ∙ ap unique_of c.in-Some.ensures.name) i) (sym (c.unique-else-is.ensures ∙ ap (λ (r : Row). unique_of r.0) x) i))
@@ -30,7 +30,7 @@ returns-then-not-had_info-clause-free c t =
     let rows = c.args.table.now.keys in
     let o = c.args.old.now in
     let k = c.args.new.now in
-    let x = c.owned-renamed.ensures ∙ (λ i. (c.in_ok-from_slice.ensures.items i, c.args.file)) in
+    let x = c.in_ok-renamed.ensures in
     let keys = rw x at c.in_ok-replace.ensures.keys in
     let one : same (unique_of o) (unique_of k) ≡ true =
     (λ i. same (sym (c.unique.ensures ∙ ap unique_of c.in-Some.ensures.name) i) (sym (c.unique-else-is.ensures ∙ ap (λ (r : Row). unique_of r.0) x) i))
@@ -44,7 +44,7 @@ returns-then-not-had_info-clause-names c t q =
     let rows = c.args.table.now.keys in
     let o = c.args.old.now in
     let k = c.args.new.now in
-    let x = c.owned-renamed.ensures ∙ (λ i. (c.in_ok-from_slice.ensures.items i, c.args.file)) in
+    let x = c.in_ok-renamed.ensures in
     let keys = rw x at c.in_ok-replace.ensures.keys in
     let one : same (unique_of o) (unique_of k) ≡ true =
     (λ i. same (sym (c.unique.ensures ∙ ap unique_of c.in-Some.ensures.name) i) (sym (c.unique-else-is.ensures ∙ ap (λ (r : Row). unique_of r.0) x) i))
@@ -58,7 +58,7 @@ returns-else-not-has_info-clause-there c t =
     let rows = c.args.table.now.keys in
     let o = c.args.old.now in
     let k = c.args.new.now in
-    let x = c.owned-renamed.ensures ∙ (λ i. (c.in_ok-from_slice.ensures.items i, c.args.file)) in
+    let x = c.in_ok-renamed.ensures in
     let keys = rw x at c.in_ok-replace.ensures.keys in
     let one : same (unique_of o) (unique_of k) ≡ true =
     (λ i. same (sym (c.unique.ensures ∙ ap unique_of c.in-Some.ensures.name) i) (sym (c.unique-else-is.ensures ∙ ap (λ (r : Row). unique_of r.0) x) i))
@@ -72,7 +72,7 @@ returns-else-not-has_info-clause-free c t =
     let rows = c.args.table.now.keys in
     let o = c.args.old.now in
     let k = c.args.new.now in
-    let x = c.owned-renamed.ensures ∙ (λ i. (c.in_ok-from_slice.ensures.items i, c.args.file)) in
+    let x = c.in_ok-renamed.ensures in
     let keys = rw x at c.in_ok-replace.ensures.keys in
     let one : same (unique_of o) (unique_of k) ≡ true =
     (λ i. same (sym (c.unique.ensures ∙ ap unique_of c.in-Some.ensures.name) i) (sym (c.unique-else-is.ensures ∙ ap (λ (r : Row). unique_of r.0) x) i))
@@ -86,7 +86,7 @@ returns-else-not-has_info-clause-names c t q =
     let rows = c.args.table.now.keys in
     let o = c.args.old.now in
     let k = c.args.new.now in
-    let x = c.owned-renamed.ensures ∙ (λ i. (c.in_ok-from_slice.ensures.items i, c.args.file)) in
+    let x = c.in_ok-renamed.ensures in
     let keys = rw x at c.in_ok-replace.ensures.keys in
     let one : same (unique_of o) (unique_of k) ≡ true =
     (λ i. same (sym (c.unique.ensures ∙ ap unique_of c.in-Some.ensures.name) i) (sym (c.unique-else-is.ensures ∙ ap (λ (r : Row). unique_of r.0) x) i))
@@ -100,7 +100,7 @@ returns-else-not-has_info-clause-ordered c =
     let rows = c.args.table.now.keys in
     let o = c.args.old.now in
     let k = c.args.new.now in
-    let x = c.owned-renamed.ensures ∙ (λ i. (c.in_ok-from_slice.ensures.items i, c.args.file)) in
+    let x = c.in_ok-renamed.ensures in
     let keys = rw x at c.in_ok-replace.ensures.keys in
     let one : same (unique_of o) (unique_of k) ≡ true =
     (λ i. same (sym (c.unique.ensures ∙ ap unique_of c.in-Some.ensures.name) i) (sym (c.unique-else-is.ensures ∙ ap (λ (r : Row). unique_of r.0) x) i))

@@ -7,16 +7,15 @@ use Rattle.md_jobs.proofs.cleaning.Cleaning.unlink.Goals as goal
 
 pub returns-clause-ok : goal.returns-clause-ok
 returns-clause-ok g c name rest files is =
-    let same = c.take_away.ensures.same ∙ c.next_path.ensures.same in
     let shown = c.plain.ensures.out in
     let none = c.plain.ensures.effect in
-    let follows = c.unlinked-answer.ensures name rest files (ap (λ (t : Cleaning). t.stage) same ∙ is) in
-    let meets = subst (λ path. Obeys (unlink path) (g.D.Dirs.device c.args.dirs.now) c.take_away.result (g.D.Dirs.device c.take_away.new.dirs))
-    (c.in_ok-path.ensures.path name rest files is) c.take_away.ensures.meets in
-    takes (unlink_turn c.args.self.now name rest files) c.args.at (g.D.Dirs.device c.args.dirs.now) c.take_away.result
-    (g.D.Dirs.device c.take_away.new.dirs) c.in_ok-reply.reply c.plain.result.out c.plain.result.effect.value c.unlinked-answer.new.self
+    let follows = c.unlinked-answer.ensures name rest files is in
+    let meets = subst (λ path. Obeys (unlink path) (g.D.Dirs.device c.args.dirs.now) c.unlink.result (g.D.Dirs.device c.unlink.new.self))
+    (c.in_ok-path.ensures name rest files is) c.unlink.ensures.meets in
+    takes (unlink_turn c.args.self.now name rest files) c.args.at (g.D.Dirs.device c.args.dirs.now) c.unlink.result
+    (g.D.Dirs.device c.unlink.new.self) c.in_ok-reply.reply c.plain.result.out c.plain.result.effect.value c.unlinked-answer.new.self
     meets c.in_ok-reply.ensures.ok
     (ap (λ t. t.call) shown) (ap (λ t. t.reply) shown)
-    (ap (λ (t : Cleaning). after_unlink t rest files c.in_ok-reply.reply) (sym same) ∙ follows ∙
+    (follows ∙
     (λ i. record { task = c.unlinked-answer.new.self; answer = sym (ap (λ t. t.answer) shown) i; effect = sym none i }))
     (ap (λ t. t.effect) shown ∙ sym (ap is_some none))

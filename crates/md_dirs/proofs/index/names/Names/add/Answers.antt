@@ -15,7 +15,7 @@ pub invariant_of-self-in_default : goal.invariant_of-self-in_default
 invariant_of-self-in_default c =
     let rows = c.self.inside.table.keys in
     let others = c.self.inside.others.entries in
-    let x : c.owned-row.result ≡ (c.args.name.now, c.args.file) = c.owned-row.ensures ∙ (λ i. (c.in_ok-from_slice.ensures.items i, c.args.file)) in
+    let x : c.in_ok-row.row ≡ (c.args.name.now, c.args.file) = c.in_ok-row.ensures in
     let added = rw (c.in_default.is, x) at c.in_ok-at.ensures.added in
     let none = none-from (get_name others c.args.name.now) (ap is_some (sym c.file_beside.ensures) ∙ sym c.is_some.ensures ∙ c.if-is_some.false) in
     record {
@@ -27,7 +27,7 @@ pub returns-in_default-clause-new : goal.returns-in_default-clause-new
 returns-in_default-clause-new c =
     let rows = c.self.inside.table.keys in
     let others = c.self.inside.others.entries in
-    let x : c.owned-row.result ≡ (c.args.name.now, c.args.file) = c.owned-row.ensures ∙ (λ i. (c.in_ok-from_slice.ensures.items i, c.args.file)) in
+    let x : c.in_ok-row.row ≡ (c.args.name.now, c.args.file) = c.in_ok-row.ensures in
     let added = rw (c.in_default.is, x) at c.in_ok-at.ensures.added in
     let none = none-from (get_name others c.args.name.now) (ap is_some (sym c.file_beside.ensures) ∙ sym c.is_some.ensures ∙ c.if-is_some.false) in
     rw (← c.self.view_is) (is-nowhere rows others c.args.name.now (none-listed (c.args.name.now, c.args.file) rows added.1) none)
@@ -36,7 +36,7 @@ pub returns-in_default-clause-ok : goal.returns-in_default-clause-ok
 returns-in_default-clause-ok c =
     let rows = c.self.inside.table.keys in
     let others = c.self.inside.others.entries in
-    let x : c.owned-row.result ≡ (c.args.name.now, c.args.file) = c.owned-row.ensures ∙ (λ i. (c.in_ok-from_slice.ensures.items i, c.args.file)) in
+    let x : c.in_ok-row.row ≡ (c.args.name.now, c.args.file) = c.in_ok-row.ensures in
     let added = rw (c.in_default.is, x) at c.in_ok-at.ensures.added in
     let none = none-from (get_name others c.args.name.now) (ap is_some (sym c.file_beside.ensures) ∙ sym c.is_some.ensures ∙ c.if-is_some.false) in
     rw (← c.self.view_is) (put-new rows others c.add_row.new.table.keys (c.args.name.now, c.args.file) none added c.self.invariant.apart).0
@@ -46,7 +46,7 @@ returns-then-is-clause-new c =
     let rows = c.self.inside.table.keys in
     let others = c.self.inside.others.entries in
     let y : Row = (c.args.name.now, c.args.file) in
-    let x : c.owned-row.result ≡ (c.args.name.now, c.args.file) = c.owned-row.ensures ∙ (λ i. (c.in_ok-from_slice.ensures.items i, c.args.file)) in
+    let x : c.in_ok-row.row ≡ (c.args.name.now, c.args.file) = c.in_ok-row.ensures in
     let there = rw (c.in-Some.is, x) at c.in_ok-at.ensures.there in
     let row = c.unwrap.result.now in
     let read : slice_get c.add_row.new.table.keys c.in-Some.at ≡ Some row = sym c.get_index.ensures.key ∙ ap option_copied c.unwrap.ensures in
@@ -58,7 +58,7 @@ invariant_of-self-2 c =
     let rows = c.self.inside.table.keys in
     let new = c.add_row.new.table.keys in
     let others = c.self.inside.others.entries in
-    let x : c.owned-row.result ≡ (c.args.name.now, c.args.file) = c.owned-row.ensures ∙ (λ i. (c.in_ok-from_slice.ensures.items i, c.args.file)) in
+    let x : c.in_ok-row.row ≡ (c.args.name.now, c.args.file) = c.in_ok-row.ensures in
     let there = rw (c.in-Some.is, x) at c.in_ok-at.ensures.there in
     let row = c.unwrap.result.now in
     let read : slice_get new c.in-Some.at ≡ Some row = sym c.get_index.ensures.key ∙ ap option_copied c.unwrap.ensures in
@@ -75,7 +75,7 @@ returns-clause-new c =
     let rows = c.self.inside.table.keys in
     let new = c.add_row.new.table.keys in
     let others = c.self.inside.others.entries in
-    let x : c.owned-row.result ≡ (c.args.name.now, c.args.file) = c.owned-row.ensures ∙ (λ i. (c.in_ok-from_slice.ensures.items i, c.args.file)) in
+    let x : c.in_ok-row.row ≡ (c.args.name.now, c.args.file) = c.in_ok-row.ensures in
     let there = rw (c.in-Some.is, x) at c.in_ok-at.ensures.there in
     let row = c.unwrap.result.now in
     let read : slice_get new c.in-Some.at ≡ Some row = sym c.get_index.ensures.key ∙ ap option_copied c.unwrap.ensures in
@@ -89,7 +89,7 @@ returns-clause-ok c =
     let rows = c.self.inside.table.keys in
     let new = c.add_row.new.table.keys in
     let others = c.self.inside.others.entries in
-    let x : c.owned-row.result ≡ (c.args.name.now, c.args.file) = c.owned-row.ensures ∙ (λ i. (c.in_ok-from_slice.ensures.items i, c.args.file)) in
+    let x : c.in_ok-row.row ≡ (c.args.name.now, c.args.file) = c.in_ok-row.ensures in
     let there = rw (c.in-Some.is, x) at c.in_ok-at.ensures.there in
     let row = c.unwrap.result.now in
     let read : slice_get new c.in-Some.at ≡ Some row = sym c.get_index.ensures.key ∙ ap option_copied c.unwrap.ensures in
