@@ -7,7 +7,7 @@ ghost use Rattle.std.proofs.Common.{ap, refl};
 ghost use Rattle.md_dirs.specs.Index.{name_cmp};
 ghost use Rattle.md_dirs.specs.NameKey.{held_bytes};
 
-use md_name::{SHORT, Short};
+use md_name::Short;
 use std::alloc::{AllocError, Global};
 use std::cmp::Ordering;
 use std::hash::{Hash, Hasher};
@@ -69,12 +69,11 @@ impl<'a> NameKey<'a> {
     pub fn copied(alloc: Global, name: &[u8]) -> Result<Self, AllocError>
         ensures { IfOk result (λ key. key ≡ name.now) }
     {
-        if name.len() > SHORT {
-            return Ok(NameKey::owned(Vec::from_slice(alloc, name)?));
-        }
-        Ok(NameKey {
-            kept: Kept::Short(Short::of(name)),
-        })
+        let kept = match Short::copied(name) {
+            Some(short) => Kept::Short(short),
+            None => Kept::Held(Held::Owned(Vec::from_slice(alloc, name)?)),
+        };
+        Ok(NameKey { kept })
     }
 
     /// A key whose bytes are lent. It takes no memory.

@@ -2,7 +2,7 @@
 ghost use Rattle.std.specs.Prelude.{◌≡◌, IfOk};
 
 use crate::bytes::Bytes;
-use crate::short::{SHORT, Short};
+use crate::short::Short;
 use std::alloc::{AllocError, Global};
 use std::fmt::{Debug, Error, Formatter, Write};
 use std::marker::Model;
@@ -35,10 +35,9 @@ impl FileName {
     pub fn of(name: Bytes) -> Self
         ensures { result ≡ name }
     {
-        let room = if name.len() > SHORT {
-            Room::Long(name)
-        } else {
-            Room::Short(Short::of(name.as_slice()))
+        let room = match Short::copied(name.as_slice()) {
+            Some(short) => Room::Short(short),
+            None => Room::Long(name),
         };
         FileName { room }
     }
@@ -47,10 +46,9 @@ impl FileName {
     pub fn copied(alloc: Global, name: &[u8]) -> Result<Self, AllocError>
         ensures { IfOk result (λ copy. copy ≡ name.now) }
     {
-        let room = if name.len() > SHORT {
-            Room::Long(Bytes::copied(alloc, name)?)
-        } else {
-            Room::Short(Short::of(name))
+        let room = match Short::copied(name) {
+            Some(short) => Room::Short(short),
+            None => Room::Long(Bytes::copied(alloc, name)?),
         };
         Ok(FileName { room })
     }

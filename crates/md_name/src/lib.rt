@@ -21,5 +21,5 @@ pub use error::NameError;
 pub use file_name::FileName;
 pub use flags::Flags;
 pub use info::{Info, colon_after, first_colon, is_message, split, unique_part, with_flags};
-pub use short::{SHORT, Short};
+pub use short::Short;
 pub use unique::{UniqueParts, holds_separator, holds_terminator, is_unique_name, make_unique};

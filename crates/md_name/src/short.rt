@@ -1,10 +1,10 @@
 // A few bytes, in place.
-ghost use Rattle.std.specs.Prelude.{◌≡◌, ◌≤◌, length};
+ghost use Rattle.std.specs.Prelude.{◌≡◌, ◌≤◌, ◌↔◌, length, IsSome, IfSome};
 
 use std::marker::Model;
 
 /// How many bytes lie in place at most. The names of usual deliverers have fewer, with three flags too.
-pub const SHORT: usize = 53;
+const SHORT: usize = 53;
 
 /// A few bytes, in place.
 #[derive(Drop)]
@@ -24,17 +24,20 @@ impl Model for Short {
 }
 
 impl Short {
-    /// A copy of bytes that are few enough.
-    pub fn of(items: &[u8]) -> Short
-        requires { length items.now ≤ SHORT }
-        ensures { result ≡ items.now }
+    /// A copy of bytes, where they are at most 53.
+    pub fn copied(items: &[u8]) -> Option<Short>
+        ensures few { IsSome result ↔ (length items.now ≤ SHORT) }
+        ensures copy { IfSome result (λ short. short ≡ items.now) }
     {
+        if items.len() > SHORT {
+            return None;
+        }
         let mut bytes = [0; SHORT];
         bytes[..items.len()].copy_from_slice(items);
-        Short {
+        Some(Short {
             bytes,
             len: items.len() as u8,
-        }
+        })
     }
 
     /// The bytes, lent.

@@ -15,7 +15,7 @@ use crate::files::known_row;
 use crate::name_key::Held;
 use crate::rows::RowRef;
 use crate::slots::Slots;
-use md_name::{SHORT, Short, unique_part};
+use md_name::{Short, unique_part};
 use std::alloc::{AllocError, Global};
 use std::hash::{Hash, Hasher};
 use std::marker::Model;
@@ -55,16 +55,15 @@ impl<'a> Named<'a> {
         ensures { IfOk result (λ named. named ≡ (name.now, file)) }
     {
         let unique = unique_part(name).len();
-        let name = if name.len() > SHORT {
-            Parted::Held {
+        let name = match Short::copied(name) {
+            Some(short) => Parted::Short {
+                name: short,
+                unique: unique as u8,
+            },
+            None => Parted::Held {
                 name: Held::Owned(Vec::from_slice(alloc, name)?),
                 unique,
-            }
-        } else {
-            Parted::Short {
-                name: Short::of(name),
-                unique: unique as u8,
-            }
+            },
         };
         Ok(Named { name, file })
     }
