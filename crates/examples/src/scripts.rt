@@ -2,7 +2,7 @@
 //! it ends with, is compared with the text beside it: `NAME.script` with `NAME.out`. Then the same is done with the rows of `NAME.rows`: a
 //! script, a line `>`, and what it prints. Between rows is a line `%`.
 use crate::files::read;
-use md_dirs::{IndexDirs, PlainDirs};
+use md_dirs::{HashSeed, IndexDirs, PlainDirs};
 use md_script::{Storage, transcript_over};
 use std::{fs, io};
 
@@ -56,7 +56,7 @@ fn prints(rt: &HostRuntime, script: &[u8], expected: &[u8]) -> io::Result<bool> 
 }
 
 fn prints_over<D: Storage>(rt: &HostRuntime, script: &[u8], expected: &[u8]) -> io::Result<bool> {
-    let printed = transcript_over::<D>(rt.alloc(), script)?;
+    let printed = transcript_over::<D>(rt.alloc(), HashSeed::fixed(), script)?;
     let mut text = printed.text;
     if let Some(refusal) = printed.refusal {
         let line = format!(in rt.alloc(); "{refusal}\n")?;

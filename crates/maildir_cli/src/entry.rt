@@ -4,7 +4,8 @@ ghost use Rattle.maildir_cli.specs.Program.{Ends, IsWithin, Performs, Reported, 
 
 use crate::command::{Answer, command};
 use crate::refusal::refusal_line;
-use md_runs::{Run, RunFault, run_index, run_threads};
+use md_dirs::HashSeed;
+use md_runs::{Run, RunFault, run_index_with_seed, run_threads_with_seed};
 use md_script::{PlayKind, Sink, Source, play_last, write_whole};
 use std::alloc::Global;
 use std::sync::Wait;
@@ -19,7 +20,7 @@ const REFUSED: u8 = 1;
 /// The status of refused words.
 const BAD_WORDS: u8 = 2;
 
-/// Does what the words after the program's name ask for, and gives the status that it ends with.
+/// Does what the words after the program's name ask for, and gives the status that it ends with. Names are hashed by the seed.
 ///
 /// `play`, `threads N` and `index N` run the script that the source gives and print on the sink: the status is 0, or 1 where the run is
 /// refused, and then one line `line N: TEXT` goes to the errors. Help and the version go to the sink. Wrong words are answered with one line
@@ -27,6 +28,7 @@ const BAD_WORDS: u8 = 2;
 pub fn program<R: Threads + Wait + Sync, S: Source, T: Sink, E: Sink>(
     rt: &R,
     alloc: Global,
+    seed: HashSeed,
     words: &[&str],
     source: &mut S,
     sink: &mut T,
@@ -38,7 +40,7 @@ pub fn program<R: Threads + Wait + Sync, S: Source, T: Sink, E: Sink>(
         result }
 {
     match command(alloc, words) {
-        Ok(run) => report(errors, perform(rt, alloc, run, source, sink)),
+        Ok(run) => report(errors, perform(rt, alloc, seed, run, source, sink)),
         Err(Answer::Shown(text)) => report(errors, show(sink, &text)),
         Err(Answer::Refused(line)) => {
             let _told = errors.put(&line);
@@ -52,6 +54,7 @@ pub fn program<R: Threads + Wait + Sync, S: Source, T: Sink, E: Sink>(
 fn perform<R: Threads + Wait + Sync, S: Source, T: Sink>(
     rt: &R,
     alloc: Global,
+    seed: HashSeed,
     run: Run,
     source: &mut S,
     sink: &mut T,
@@ -60,9 +63,13 @@ fn perform<R: Threads + Wait + Sync, S: Source, T: Sink>(
     ensures { Performs run (S.state source.old) (S.state source.new) (T.state sink.old) (T.state sink.new) result }
 {
     match run {
-        Run::Play => Ok(play_last(alloc, source, sink)?),
-        Run::Threads(count) => run_threads(rt, alloc, count as usize, source, sink),
-        Run::Index(count) => Ok(run_index(rt, alloc, count as usize, source, sink)?),
+        Run::Play => Ok(play_last(alloc, seed, source, sink)?),
+        Run::Threads(count) => {
+            run_threads_with_seed(rt, alloc, seed, count as usize, source, sink)
+        }
+        Run::Index(count) => {
+            Ok(run_index_with_seed(rt, alloc, seed, count as usize, source, sink)?)
+        }
     }
 }
 

@@ -13,6 +13,7 @@ mod options;
 mod refusal;
 
 use entry::program;
+use md_dirs::HashSeed;
 use md_script::{Reader, Writer};
 use std::alloc::AllocGlobal;
 use std::io::ErrorKind;
@@ -44,7 +45,16 @@ fn main(rt: HostRuntime) -> ExitCode {
     let mut source = Reader::new(rt.reader());
     let mut sink = Writer::new(io::writer(&rt));
     let mut errors = Writer::new(rt.stderr());
-    let status = program(&rt, rt.alloc(), &words, &mut source, &mut sink, &mut errors);
+    let seed = HashSeed::drawn(&rt).unwrap_or(HashSeed::fixed());
+    let status = program(
+        &rt,
+        rt.alloc(),
+        seed,
+        &words,
+        &mut source,
+        &mut sink,
+        &mut errors,
+    );
     ExitCode::from(status)
 }
 

@@ -17,6 +17,7 @@ mod store;
 mod text;
 mod tracer;
 
+use md_dirs::HashSeed;
 use md_script::{Reader, Writer};
 use std::io::ErrorKind;
 use std::process::ExitCode;
@@ -46,7 +47,8 @@ fn main(rt: HostRuntime) -> ExitCode {
 fn run(rt: &HostRuntime, with_states: bool) -> ExitCode {
     let mut source = Reader::new(rt.reader());
     let mut sink = Writer::new(io::writer(rt));
-    match trace(rt.alloc(), &mut source, &mut sink, with_states) {
+    let seed = HashSeed::drawn(rt).unwrap_or(HashSeed::fixed());
+    match trace(rt.alloc(), seed, &mut source, &mut sink, with_states) {
         Ok(()) => ExitCode::SUCCESS,
         Err(refused) => {
             let _ = eprintln!(rt; "{refused}");

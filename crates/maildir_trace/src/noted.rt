@@ -5,7 +5,7 @@ ghost use Rattle.md_dirs.specs.Image.{image_state, image_refusal};
 ghost use Rattle.md_dirs.specs.Rows.{rows_of, row_named, is_old};
 ghost use Rattle.maildir_trace.specs.declared.noted.Asked.TheVariants as asked;
 
-use md_dirs::{Bytes, DirError, Dirs, ImageFile, PackedRows, Path, Place, Row, RowRef};
+use md_dirs::{Bytes, DirError, Dirs, HashSeed, ImageFile, PackedRows, Path, Place, Row, RowRef};
 use md_script::Storage;
 use std::alloc::{AllocError, Global};
 
@@ -184,6 +184,10 @@ impl<D: Dirs> Dirs for NotedDirs<D> {
         self.dirs.folders()
     }
 
+    fn hash_seed(&self) -> HashSeed {
+        self.dirs.hash_seed()
+    }
+
     fn row_at(&self, folder: u32, place: Place, at: usize) -> Option<RowRef<'_>> {
         self.dirs.row_at(folder, place, at)
     }
@@ -232,10 +236,15 @@ impl<D: Dirs> Dirs for NotedDirs<D> {
 impl<D: Storage> Storage for NotedDirs<D> {
     ghost never_fails = { λ n. D.never_fails n.dirs };
 
-    fn holding(alloc: Global, folders: u32, files: Vec<ImageFile>) -> Result<Self, DirError> {
+    fn holding(
+        alloc: Global,
+        seed: HashSeed,
+        folders: u32,
+        files: Vec<ImageFile>,
+    ) -> Result<Self, DirError> {
         Ok(NotedDirs {
             alloc,
-            dirs: D::holding(alloc, folders, files)?,
+            dirs: D::holding(alloc, seed, folders, files)?,
             noted: None,
         })
     }

@@ -4,7 +4,7 @@ ghost use Rattle.md_script.specs.Folders.{most_folders};
 
 use crate::log::Log;
 use crate::store::Store;
-use md_dirs::ImageFile;
+use md_dirs::{HashSeed, ImageFile};
 use md_name::{UniqueParts, make_unique};
 use md_script::{Command, Folders, Mode, PlayKind, open_store, read_command};
 use std::alloc::Global;
@@ -14,6 +14,7 @@ use std::mem::{forget, replace};
 #[derive(Drop)]
 pub(crate) struct Session {
     alloc: Global,
+    seed: HashSeed,
     with_states: bool,
     folders: Folders,
     names: Vec<Vec<u8>>,
@@ -22,10 +23,11 @@ pub(crate) struct Session {
 }
 
 impl Session {
-    /// A session without a folder.
-    pub(crate) fn new(alloc: Global, with_states: bool) -> Session {
+    /// A session without a folder, whose store will hash names by a seed.
+    pub(crate) fn new(alloc: Global, seed: HashSeed, with_states: bool) -> Session {
         Session {
             alloc,
+            seed,
             with_states,
             folders: Folders::new(alloc),
             names: Vec::new(alloc),
@@ -78,7 +80,7 @@ impl Session {
 
     fn open(&mut self) -> Result<(), PlayKind> {
         let files = replace(&mut self.files, Vec::new(self.alloc));
-        let world = open_store(self.alloc, self.folders.count(), files)?;
+        let world = open_store(self.alloc, self.seed, self.folders.count(), files)?;
         let names = replace(&mut self.names, Vec::new(self.alloc));
         let store = Store::new(self.alloc, self.with_states, names, world);
         // There was none, so that nothing is forgotten.

@@ -1,6 +1,7 @@
 //! A script, played for its log.
 use crate::log::Log;
 use crate::session::Session;
+use md_dirs::HashSeed;
 use md_head::cut_line;
 use md_script::{PlayError, PlayKind, Printed, Sink, Source, read_script, write_whole};
 use std::alloc::{AllocError, Global};
@@ -16,16 +17,17 @@ const BEGIN: &[u8] = b"maildir_log 1\nallow NotFlushed\n";
 /// Plays a script and writes the log of its directory calls: reads it whole, runs its lines up to the first that is refused, and writes
 /// what they did.
 ///
-/// With `with_states` there are comments after the beginning and after each step that show each name of each directory. The errors are
+/// Names are hashed by a seed. With `with_states` there are comments after the beginning and after each step that show each name of each directory. The errors are
 /// those of `md_script::play`. A moment or a stamp of more than 19 digits, which no log has, is refused `BadNumber`.
 pub(crate) fn trace<S: Source, T: Sink>(
     alloc: Global,
+    seed: HashSeed,
     source: &mut S,
     sink: &mut T,
     with_states: bool,
 ) -> Result<(), PlayError> {
     let script = read_script(alloc, source)?;
-    let printed = log_of(alloc, &script, with_states)?;
+    let printed = log_of(alloc, seed, &script, with_states)?;
     write_whole(sink, &printed.text)?;
     match printed.refusal {
         None => Ok(()),
@@ -34,9 +36,14 @@ pub(crate) fn trace<S: Source, T: Sink>(
 }
 
 /// The log of a script up to the first line that is refused, and that line's refusal. The only error is out of memory.
-fn log_of(alloc: Global, script: &[u8], with_states: bool) -> Result<Printed, AllocError> {
+fn log_of(
+    alloc: Global,
+    seed: HashSeed,
+    script: &[u8],
+    with_states: bool,
+) -> Result<Printed, AllocError> {
     let mut log = Log::new(alloc);
-    let refusal = play(alloc, script, with_states, &mut log)?;
+    let refusal = play(alloc, seed, script, with_states, &mut log)?;
     let text = log.into_text();
     Ok(Printed { text, refusal })
 }
@@ -44,11 +51,12 @@ fn log_of(alloc: Global, script: &[u8], with_states: bool) -> Result<Printed, Al
 // The refusal of the first line that is refused.
 fn play(
     alloc: Global,
+    seed: HashSeed,
     script: &[u8],
     with_states: bool,
     log: &mut Log,
 ) -> Result<Option<PlayError>, AllocError> {
-    let mut session = Session::new(alloc, with_states);
+    let mut session = Session::new(alloc, seed, with_states);
     let refusal = run_lines(&mut session, script, log);
     // The process ends soon, and the system takes its memory at once.
     forget(session);

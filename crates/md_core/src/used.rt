@@ -3,17 +3,16 @@ ghost use Rattle.std.specs.Prelude.{◌≡◌, ◌||◌, ◌++◌, [], not, OnOk
 ghost use Rattle.std.specs.Str.{bytes_eq};
 ghost use Rattle.md_core.specs.Used.{is_among};
 
-use md_dirs::NameKey;
+use md_dirs::{HashSeed, NameKey};
 use std::alloc::{AllocError, Global};
 use std::collections::HashSet;
-use std::hash::{BuildHasherDefault, FoldHasher};
 use std::marker::Model;
 
 /// Names, each once.
 #[derive(Drop)]
 pub(crate) struct NameSet {
     alloc: Global,
-    names: HashSet<NameKey<'static>, BuildHasherDefault<FoldHasher>, Global>,
+    names: HashSet<NameKey<'static>, HashSeed, Global>,
 }
 
 impl Model for NameSet {
@@ -25,13 +24,17 @@ impl Model for NameSet {
 }
 
 impl NameSet {
-    /// No name, and room for so many.
-    pub(crate) fn with_room(alloc: Global, count: usize) -> Result<NameSet, AllocError>
+    /// No name, and room for so many, which are hashed by a seed.
+    pub(crate) fn with_room(
+        alloc: Global,
+        seed: HashSeed,
+        count: usize,
+    ) -> Result<NameSet, AllocError>
         ensures { IfOk result (λ names. names ≡ []) }
     {
         Ok(NameSet {
             alloc,
-            names: HashSet::with_capacity(alloc, count)?,
+            names: HashSet::with_capacity_and_hasher(alloc, count, seed)?,
         })
     }
 
@@ -107,13 +110,17 @@ impl UsedNames {
         UsedNames { messages, tmp }
     }
 
-    /// No name, and room for so many.
-    pub(crate) fn with_room(alloc: Global, count: usize) -> Result<UsedNames, AllocError>
+    /// No name, and room for so many, which are hashed by a seed.
+    pub(crate) fn with_room(
+        alloc: Global,
+        seed: HashSeed,
+        count: usize,
+    ) -> Result<UsedNames, AllocError>
         ensures { IfOk result (λ used. used ≡ []) }
     {
         Ok(UsedNames {
-            messages: NameSet::with_room(alloc, count)?,
-            tmp: NameSet::with_room(alloc, 0)?,
+            messages: NameSet::with_room(alloc, seed, count)?,
+            tmp: NameSet::with_room(alloc, seed, 0)?,
         })
     }
 

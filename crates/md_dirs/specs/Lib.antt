@@ -15,6 +15,7 @@ pub mod Files
 pub mod Places
 pub mod Slots
 pub mod Find
+pub mod Hashing
 pub mod NameKey
 pub mod Named
 pub mod Parted

@@ -9,6 +9,7 @@ ghost use Rattle.md_dirs.specs.Lent.{AreNext};
 ghost use Rattle.md_dirs.specs.Once.{HoldsEachOnce};
 ghost use Rattle.md_dirs.specs.declared.calls.DirError.TheVariants.{NoMemory};
 
+use crate::hashing::HashSeed;
 use crate::packed::PackedRows;
 use crate::paths::{Path, Place};
 use crate::rows::{Row, RowRef, first_named, is_below, is_below_info, is_named};
@@ -148,6 +149,12 @@ pub trait Dirs {
     fn folders(&self) -> u32
         ensures count { result ≡ (device self.now).state.folders }
         ensures sound { IsSound (device self.now).state };
+
+    /// The seed that names are hashed by, theirs and those of whoever keeps names beside them. By itself it is the fixed one. No answer
+    /// hangs on it.
+    fn hash_seed(&self) -> HashSeed {
+        HashSeed::fixed()
+    }
 
     /// The row at a position, from 0, of a directory in order of the bytes of its names. None past the last, and where
     /// the folder is not there. There is none at the last position that a `usize` counts.

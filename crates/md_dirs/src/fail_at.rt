@@ -5,6 +5,7 @@ ghost use Rattle.md_dirs.specs.Rows.{rows_of, row_named, is_old};
 
 use crate::calls::{DirError, Dirs};
 use crate::count::Count;
+use crate::hashing::HashSeed;
 use crate::packed::PackedRows;
 use crate::paths::{Path, Place};
 use crate::rows::{Row, RowRef};
@@ -161,6 +162,10 @@ impl<D: Dirs> Dirs for FailAt<D> {
 
     fn folders(&self) -> u32 {
         self.dirs.folders()
+    }
+
+    fn hash_seed(&self) -> HashSeed {
+        self.dirs.hash_seed()
     }
 
     fn row_at(&self, folder: u32, place: Place, at: usize) -> Option<RowRef<'_>> {

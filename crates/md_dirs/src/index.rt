@@ -5,12 +5,14 @@ mod lying;
 mod named;
 mod names;
 mod sorting;
+mod tables;
 mod tree;
 
 use crate::calls::{DirError, Dirs};
 use crate::changes::{Paths, add_file, add_name};
 use crate::count::Count;
 use crate::files::{Kept, is_same, release_one};
+use crate::hashing::HashSeed;
 use crate::image::ImageFile;
 use crate::paths::{File, Path, Place};
 use crate::rows::{Row, RowRef, copied_row};
@@ -55,22 +57,27 @@ impl IndexDirs {
     ghost use Rattle.md_dirs.specs.Image.{put, image_state, image_refusal};
     ghost use Rattle.md_dirs.specs.declared.calls.DirError.TheVariants.{NoMemory};
 
-    /// Folders with no file. It takes no memory.
+    /// Folders with no file, whose names are hashed by the fixed seed. It takes no memory.
     pub fn new(alloc: Global, folders: u32) -> Self
+        ensures { result ≡ record { state = bare folders; calls = 0 } }
+    {
+        IndexDirs::with_seed(alloc, HashSeed::fixed(), folders)
+    }
+
+    /// Folders with no file, whose names are hashed by a seed. It takes no memory.
+    pub fn with_seed(alloc: Global, seed: HashSeed, folders: u32) -> Self
         ensures { result ≡ record { state = bare folders; calls = 0 } }
     {
         IndexDirs {
             alloc,
             folders,
-            names: Tree::new(alloc),
+            names: Tree::new(alloc, seed),
             slots: Slots::new(alloc),
             calls: Count::zero(),
         }
     }
 
-    /// Folders with files, which are made in their order; their names are copied, and their bytes are moved in. No directory is in order yet.
-    /// `NotFound` or `Exists` at the first file whose folder is not there or whose path was met before. `NoMemory` may come in
-    /// place of either.
+    /// Folders with files, whose names are hashed by the fixed seed, as `from_image_with_seed` makes them.
     pub fn from_image(
         alloc: Global,
         folders: u32,
@@ -80,7 +87,23 @@ impl IndexDirs {
         ensures made { IfOk result (λ dirs. dirs ≡ record { state = image_state folders image.items; calls = 0 }) }
         ensures refused { IfErr result (λ e. (e ≡ NoMemory) ⊎ (image_refusal folders image.items ≡ Some e)) }
     {
-        let mut dirs = IndexDirs::new(alloc, folders);
+        IndexDirs::from_image_with_seed(alloc, HashSeed::fixed(), folders, image)
+    }
+
+    /// Folders with files, which are made in their order; their names are copied and hashed by a seed, and their bytes are moved in. No
+    /// directory is in order yet. `NotFound` or `Exists` at the first file whose folder is not there or whose path was met before. `NoMemory`
+    /// may come in place of either.
+    pub fn from_image_with_seed(
+        alloc: Global,
+        seed: HashSeed,
+        folders: u32,
+        image: Vec<ImageFile>,
+    ) -> Result<IndexDirs, DirError>
+        ensures accepted { IfOk result (λ dirs. image_refusal folders image.items ≡ None) }
+        ensures made { IfOk result (λ dirs. dirs ≡ record { state = image_state folders image.items; calls = 0 }) }
+        ensures refused { IfErr result (λ e. (e ≡ NoMemory) ⊎ (image_refusal folders image.items ≡ Some e)) }
+    {
+        let mut dirs = IndexDirs::with_seed(alloc, seed, folders);
         for file in image {
             dirs.put_file(file)?;
         }
@@ -226,6 +249,10 @@ impl Dirs for IndexDirs {
 
     fn folders(&self) -> u32 {
         self.folders
+    }
+
+    fn hash_seed(&self) -> HashSeed {
+        self.names.seed()
     }
 
     fn arrange(&mut self, folder: u32, place: Place) -> Result<(), AllocError> {

@@ -8,6 +8,7 @@ mod count;
 mod fail_at;
 mod files;
 mod finding;
+mod hashing;
 mod image;
 mod index;
 pub mod laws;
@@ -20,6 +21,7 @@ mod slots;
 
 pub use calls::{DirError, Dirs};
 pub use fail_at::FailAt;
+pub use hashing::HashSeed;
 pub use image::ImageFile;
 pub use index::IndexDirs;
 pub use md_name::{Bytes, FileName};

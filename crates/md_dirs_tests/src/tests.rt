@@ -1,5 +1,6 @@
 // What no clause says: calls and answers from a file system, the texts of errors, and that values may cross threads.
 mod cases;
+mod hashing;
 mod image;
 mod lent;
 mod many;

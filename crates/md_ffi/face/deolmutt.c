@@ -4,9 +4,18 @@
  *
  * A world is the proved handle in memory of malloc: two words, all zero where it is closed.
  */
+
+/* getentropy is no part of C99. */
+#define _DEFAULT_SOURCE
+
 #include "deolmutt.h"
 
 #include <stdlib.h>
+#ifdef __APPLE__
+#include <sys/random.h>
+#else
+#include <unistd.h>
+#endif
 
 struct deolmutt_world {
     uint8_t is_open;
@@ -30,7 +39,8 @@ struct own {
 
 uint32_t md_ffi_abi(void);
 size_t md_ffi_text(uint32_t refusal, uint8_t *out, size_t room);
-uint32_t md_ffi_load(const uint8_t *lines, size_t length, struct deolmutt_world *handle, uint64_t *line);
+uint32_t md_ffi_load(const uint8_t *lines, size_t length, const uint8_t *random, size_t drawn, struct deolmutt_world *handle,
+                     uint64_t *line);
 uint32_t md_ffi_free(struct deolmutt_world *handle);
 uint32_t md_ffi_submit(struct deolmutt_world *handle, const struct asked *asked, const uint8_t *unique, size_t unique_length,
                        const uint8_t *first, size_t first_length, const uint8_t *second, size_t second_length, uint64_t *job);
@@ -47,8 +57,10 @@ uint32_t md_ffi_names(struct deolmutt_world *handle, uint32_t folder, uint32_t p
                       size_t *length);
 uint32_t md_ffi_calls(struct deolmutt_world *handle, const uint8_t *records, size_t length, uint64_t now, deolmutt_answer *answers,
                       size_t room, size_t *done);
-uint32_t md_ffi_transcript(const uint8_t *script, size_t length, uint8_t *out, size_t room, size_t *out_length, uint64_t *line);
-uint32_t md_ffi_index(const uint8_t *lines, size_t length, uint8_t *out, size_t room, size_t *out_length, uint64_t *line);
+uint32_t md_ffi_transcript(const uint8_t *script, size_t length, const uint8_t *random, size_t drawn, uint8_t *out, size_t room,
+                           size_t *out_length, uint64_t *line);
+uint32_t md_ffi_index(const uint8_t *lines, size_t length, const uint8_t *random, size_t drawn, uint8_t *out, size_t room,
+                      size_t *out_length, uint64_t *line);
 uint32_t md_ffi_unique(uint64_t sec, uint64_t micro, uint64_t pid, uint64_t count, const uint8_t *host, size_t host_length, uint8_t *out,
                        size_t room, size_t *length);
 uint32_t md_ffi_split(const uint8_t *name, size_t length, size_t *unique_length, uint32_t *info, uint64_t *flags);
@@ -62,6 +74,12 @@ static uint8_t no_room[1];
 #define IS_LONG(length) ((length) > (size_t)PTRDIFF_MAX)
 #define BYTES(bytes, length) ((length) == 0 ? no_bytes : (bytes)), (length)
 #define ROOM(out, room) ((room) == 0 ? no_room : (out)), (room)
+
+/* The bytes by which a world hashes names, so that nobody can choose names that collide. */
+#define RANDOM 16
+
+/* Draws so many random bytes, and says how many: none where the system has none. */
+static size_t draw(uint8_t *random) { return getentropy(random, RANDOM) == 0 ? RANDOM : 0; }
 
 static struct own own_of(const uint64_t *own) {
     struct own given = {0, 0};
@@ -92,6 +110,7 @@ size_t deolmutt_text(uint32_t refusal, uint8_t *out, size_t room) {
 
 uint32_t deolmutt_load(const uint8_t *lines, size_t length, deolmutt_world **world, uint64_t *line) {
     struct deolmutt_world *made;
+    uint8_t random[RANDOM];
     uint32_t status;
     if (IS_NULL(lines, length) || world == NULL || line == NULL)
         return DEOLMUTT_NULL;
@@ -102,7 +121,7 @@ uint32_t deolmutt_load(const uint8_t *lines, size_t length, deolmutt_world **wor
     made = calloc(1, sizeof *made);
     if (made == NULL)
         return DEOLMUTT_NO_MEMORY;
-    status = md_ffi_load(BYTES(lines, length), made, line);
+    status = md_ffi_load(BYTES(lines, length), random, draw(random), made, line);
     if (status == DEOLMUTT_OK)
         *world = made;
     else
@@ -198,19 +217,21 @@ uint32_t deolmutt_calls(deolmutt_world *world, const uint8_t *records, size_t le
 }
 
 uint32_t deolmutt_transcript(const uint8_t *script, size_t length, uint8_t *out, size_t room, size_t *out_length, uint64_t *line) {
+    uint8_t random[RANDOM];
     if (out_length == NULL || line == NULL || IS_NULL(script, length) || IS_NULL(out, room))
         return DEOLMUTT_NULL;
     if (IS_LONG(length) || IS_LONG(room))
         return DEOLMUTT_LENGTH;
-    return md_ffi_transcript(BYTES(script, length), ROOM(out, room), out_length, line);
+    return md_ffi_transcript(BYTES(script, length), random, draw(random), ROOM(out, room), out_length, line);
 }
 
 uint32_t deolmutt_index(const uint8_t *lines, size_t length, uint8_t *out, size_t room, size_t *out_length, uint64_t *line) {
+    uint8_t random[RANDOM];
     if (out_length == NULL || line == NULL || IS_NULL(lines, length) || IS_NULL(out, room))
         return DEOLMUTT_NULL;
     if (IS_LONG(length) || IS_LONG(room))
         return DEOLMUTT_LENGTH;
-    return md_ffi_index(BYTES(lines, length), ROOM(out, room), out_length, line);
+    return md_ffi_index(BYTES(lines, length), random, draw(random), ROOM(out, room), out_length, line);
 }
 
 uint32_t deolmutt_unique(uint64_t sec, uint64_t micro, uint64_t pid, uint64_t count, const uint8_t *host, size_t host_length, uint8_t *out,

@@ -4,11 +4,13 @@ ghost use Rattle.md_ffi.specs.Naming.{Indexes};
 
 use crate::refusal::{Refusal, status};
 use crate::room::lay;
+use crate::seed::seed_of;
 use md_indexing::{InTurn, index_text};
 use std::alloc::Global;
 
 /// Lays the index of `folder` and `file` lines into `out`, as `maildir_cli index` prints it, and sets `length` to its length and `line` to
-/// 0. It holds the store of the lines and the whole index meanwhile, and makes one summary after the other.
+/// 0. It holds the store of the lines and the whole index meanwhile, and makes one summary after the other. Names are hashed as those of
+/// `md_ffi_load`.
 ///
 /// A refused line is named by its number, from 1, in `line`, and where the files make no store the last one is; `length` is 0 then. Refused
 /// out of memory, with both 0, and `Room`, with `length` set.
@@ -16,6 +18,7 @@ use std::alloc::Global;
 pub extern "C" fn md_ffi_index(
     alloc: Global,
     lines: &[u8],
+    random: &[u8],
     out: &mut [u8],
     length: &mut usize,
     line: &mut u64,
@@ -24,7 +27,7 @@ pub extern "C" fn md_ffi_index(
 {
     *length = 0;
     *line = 0;
-    match index_text(alloc, &InTurn, lines) {
+    match index_text(alloc, seed_of(random), &InTurn, lines) {
         Ok(text) => status(lay(&text, out, length)),
         Err(refused) => {
             *line = refused.line;

@@ -15,6 +15,7 @@ pub mod names;
 pub mod reading;
 mod refusal;
 mod room;
+mod seed;
 pub mod settle;
 mod shown;
 mod slot;

@@ -8,15 +8,16 @@ ghost use Rattle.md_ffi.specs.Loads.{loaded, GivesWorld};
 use crate::handle::Handle;
 use crate::held::Held;
 use crate::refusal::Refusal;
+use crate::seed::seed_of;
 use md_core::World;
-use md_dirs::IndexDirs;
+use md_dirs::{HashSeed, IndexDirs};
 use md_indexing::load;
 use md_script::{PlayError, PlayKind, Setup, image};
 use std::alloc::Global;
 
-// The store that lines load.
+// The store that lines load, which hashes names by a seed.
 #[tactic(auto, unfolding(crate::specs::Loads::loaded))]
-fn world_of(alloc: Global, lines: &[u8]) -> Result<World<IndexDirs>, PlayError>
+fn world_of(alloc: Global, seed: HashSeed, lines: &[u8]) -> Result<World<IndexDirs>, PlayError>
     ensures { MatchResult result
         (λ world. loaded lines.now ≡ Ok world)
         (λ e. (e ≡ at_no_line NoMemory) ⊎ (loaded lines.now ≡ Err e)) }
@@ -26,19 +27,19 @@ fn world_of(alloc: Global, lines: &[u8]) -> Result<World<IndexDirs>, PlayError>
         files,
         calls: _,
     } = image(alloc, lines, false)?;
-    match load(alloc, &folders, files) {
+    match load(alloc, seed, &folders, files) {
         Ok(world) => Ok(world),
         Err(kind) => Err(PlayError::from(kind)),
     }
 }
 
 // The same in a box.
-fn held_of(alloc: Global, lines: &[u8]) -> Result<Box<Held>, PlayError>
+fn held_of(alloc: Global, seed: HashSeed, lines: &[u8]) -> Result<Box<Held>, PlayError>
     ensures { MatchResult result
         (λ held. loaded lines.now ≡ Ok held.value.world)
         (λ e. (e ≡ at_no_line NoMemory) ⊎ (loaded lines.now ≡ Err e)) }
 {
-    let world = world_of(alloc, lines)?;
+    let world = world_of(alloc, seed, lines)?;
     match Box::new(alloc, Held { world }) {
         Ok(held) => Ok(held),
         Err(_) => Err(PlayError::from(PlayKind::NoMemory)),
@@ -47,18 +48,20 @@ fn held_of(alloc: Global, lines: &[u8]) -> Result<Box<Held>, PlayError>
 
 /// Opens a handle over the folders and files of `folder` and `file` lines, and sets `line` to 0. What the handle held is let go first.
 ///
-/// A refused line is named by its number, from 1; what no line is to blame for has the line 0. The handle is closed then.
+/// Names are hashed by 16 random bytes, or the same way in each run where there are fewer. A refused line is named by its number, from 1; what
+/// no line is to blame for has the line 0. The handle is closed then.
 #[unsafe(no_mangle)]
 pub extern "C" fn md_ffi_load(
     alloc: Global,
     lines: &[u8],
+    random: &[u8],
     handle: &mut Handle,
     line: &mut u64,
 ) -> u32
     ensures { GivesWorld lines.now handle.new.slot.held result line.new }
 {
     let _old = handle.take(alloc);
-    match held_of(alloc, lines) {
+    match held_of(alloc, seed_of(random), lines) {
         Ok(held) => {
             handle.hold(held);
             *line = 0;

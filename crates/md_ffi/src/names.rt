@@ -10,10 +10,12 @@ ghost use Rattle.md_ffi.specs.Numbers.{status_number};
 
 use crate::refusal::{NO_MEMORY, Refusal, status};
 use crate::room::lay;
+use crate::seed::seed_of;
 use crate::shown::flag_bits;
+use md_dirs::{HashSeed, IndexDirs};
 use md_head::summary;
 use md_name::{Info, UniqueParts, make_unique, split};
-use md_script::{PlayKind, push_summary, transcript};
+use md_script::{PlayKind, push_summary, transcript_over};
 use std::alloc::Global;
 
 #[tactic(auto, unfolding(crate::specs::Naming::made))]
@@ -48,12 +50,19 @@ fn summarize(
     lay(&text, out, length)
 }
 
-fn play(alloc: Global, script: &[u8], out: &mut [u8], length: &mut usize, line: &mut u64) -> u32
+fn play(
+    alloc: Global,
+    script: &[u8],
+    seed: HashSeed,
+    out: &mut [u8],
+    length: &mut usize,
+    line: &mut u64,
+) -> u32
     ensures { Plays (transcript script.now).text (transcript script.now).refusal out.old out.new length.new line.new result }
 {
     *length = 0;
     *line = 0;
-    let Ok(printed) = transcript(alloc, script) else {
+    let Ok(printed) = transcript_over::<IndexDirs>(alloc, seed, script) else {
         return NO_MEMORY.number();
     };
     let number = match printed.refusal {
@@ -132,16 +141,18 @@ pub extern "C" fn md_ffi_summary(
 }
 
 /// Lays the transcript of a script into `out`, and sets `length` to its length and `line` to the number of the line that was refused, or
-/// 0. The status is that line's refusal, unless there was no room: `Room`. Refused out of memory, with `line` and `length` 0.
+/// 0. The status is that line's refusal, unless there was no room: `Room`. Refused out of memory, with `line` and `length` 0. Names are hashed as
+/// those of `md_ffi_load`.
 #[unsafe(no_mangle)]
 pub extern "C" fn md_ffi_transcript(
     alloc: Global,
     script: &[u8],
+    random: &[u8],
     out: &mut [u8],
     length: &mut usize,
     line: &mut u64,
 ) -> u32
     ensures { Plays (transcript script.now).text (transcript script.now).refusal out.old out.new length.new line.new result }
 {
-    play(alloc, script, out, length, line)
+    play(alloc, script, seed_of(random), out, length, line)
 }

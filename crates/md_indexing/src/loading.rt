@@ -7,13 +7,14 @@ ghost use Rattle.md_script.specs.Words.{Gives};
 ghost use Rattle.md_script.specs.declared.error.PlayKind.TheVariants.{NoMemory};
 
 use md_core::World;
-use md_dirs::{ImageFile, IndexDirs};
+use md_dirs::{HashSeed, ImageFile, IndexDirs};
 use md_script::{PlayError, PlayKind, open_store};
 use std::alloc::Global;
 
-/// The store over folders, as many as there are names, and files. Refused as `open_store` is.
+/// The store over folders, as many as there are names, and files, whose names are hashed by a seed. Refused as `open_store` is.
 pub fn load(
     alloc: Global,
+    seed: HashSeed,
     names: &[Vec<u8>],
     files: Vec<ImageFile>,
 ) -> Result<World<IndexDirs>, PlayKind>
@@ -23,7 +24,7 @@ pub fn load(
     let Ok(count) = u32::try_from(names.len()) else {
         return Err(PlayKind::NoMemory);
     };
-    open_store(alloc, count, files)
+    open_store(alloc, seed, count, files)
 }
 
 /// What no single line is to blame for is refused at the script's last line, which has the number of its lines, and out of memory at none.

@@ -10,17 +10,18 @@ ghost use Rattle.md_indexing.specs.Indexing.{index_from, index_of_script, index_
 use crate::indexer::Indexer;
 use crate::loading::{load, refused};
 use md_core::World;
-use md_dirs::{ImageFile, IndexDirs};
+use md_dirs::{HashSeed, ImageFile, IndexDirs};
 use md_script::{PlayError, PlayKind, Setup, count_lines, image};
 use std::alloc::{AllocError, Global};
 
 /// The index of a script of `folder` and `file` lines: for each folder, in the order of their lines, and each of its messages, in order of
-/// unique name, the lines that `push_indexed` appends.
+/// unique name, the lines that `push_indexed` appends. Names are hashed by a seed.
 ///
 /// Refused at the first line that is: `NotInThisRun` where it has another command, else as its words are. Where the files make no store it
 /// is refused at the last line, as `open_store` is. `NoMemory`, at line 0, may come in place of either.
 pub fn index_text<I: Indexer>(
     alloc: Global,
+    seed: HashSeed,
     indexer: &I,
     script: &[u8],
 ) -> Result<Vec<u8>, PlayError>
@@ -33,7 +34,7 @@ pub fn index_text<I: Indexer>(
         files,
         calls: _,
     } = image(alloc, script, false)?;
-    match text_over(alloc, indexer, &folders, files) {
+    match text_over(alloc, seed, indexer, &folders, files) {
         Ok(text) => Ok(text),
         Err(kind) => Err(refused(count_lines(script), kind)),
     }
@@ -43,6 +44,7 @@ pub fn index_text<I: Indexer>(
 #[tactic(auto, unfolding(crate::specs::Indexing::index_over))]
 fn text_over<I: Indexer>(
     alloc: Global,
+    seed: HashSeed,
     indexer: &I,
     names: &[Vec<u8>],
     files: Vec<ImageFile>,
@@ -51,7 +53,7 @@ fn text_over<I: Indexer>(
         (λ text. index_over (names_of names.now) files.items ≡ Ok text.items)
         (λ kind. kind ≢ NoMemory → index_over (names_of names.now) files.items ≡ Err kind) }
 {
-    let world = load(alloc, names, files)?;
+    let world = load(alloc, seed, names, files)?;
     Ok(folders_text(alloc, indexer, &world, names)?)
 }
 

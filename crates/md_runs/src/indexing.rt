@@ -12,7 +12,7 @@ ghost use Rattle.md_runs.specs.Indexes.{Indexes};
 mod workers;
 
 use md_core::World;
-use md_dirs::{Dirs, ImageFile};
+use md_dirs::{Dirs, HashSeed, ImageFile};
 use md_indexing::{load, refused};
 use md_script::{PlayError, PlayKind, ReadSetup, Setup, Sink, Source, read_image, write_whole};
 use std::alloc::{AllocError, Global};
@@ -30,7 +30,7 @@ use workers::push_folder;
 /// store can't be opened, which has the number of the last line; nor at the refusals of line 0: `ReadFault`, `TooLong`, `TooManyReads`
 /// and `NoMemory`. After `WriteFault`, at line 0 too, nothing is known of what was written.
 ///
-/// It is the last thing that a process does: the memory of the store isn't given back.
+/// It is the last thing that a process does: the memory of the store isn't given back. Names are hashed by the fixed seed.
 pub fn run_index<R: Threads + Wait + Sync, S: Source, T: Sink>(
     rt: &R,
     alloc: Global,
@@ -41,8 +41,23 @@ pub fn run_index<R: Threads + Wait + Sync, S: Source, T: Sink>(
     requires { (1 ≤ workers) × (workers ≤ 64) }
     ensures { Indexes (S.state source.old) (S.state source.new) (T.state sink.old) (T.state sink.new) result }
 {
+    run_index_with_seed(rt, alloc, HashSeed::fixed(), workers, source, sink)
+}
+
+/// The same with a seed that names are hashed by.
+pub fn run_index_with_seed<R: Threads + Wait + Sync, S: Source, T: Sink>(
+    rt: &R,
+    alloc: Global,
+    seed: HashSeed,
+    workers: usize,
+    source: &mut S,
+    sink: &mut T,
+) -> Result<(), PlayError>
+    requires { (1 ≤ workers) × (workers ≤ 64) }
+    ensures { Indexes (S.state source.old) (S.state source.new) (T.state sink.old) (T.state sink.new) result }
+{
     let read = read_image(alloc, source, false)?;
-    let text = index_text(rt, alloc, workers, read)?;
+    let text = index_text(rt, alloc, seed, workers, read)?;
     write_whole(sink, &text)?;
     Ok(())
 }
@@ -51,6 +66,7 @@ pub fn run_index<R: Threads + Wait + Sync, S: Source, T: Sink>(
 fn index_text<R: Threads + Wait + Sync>(
     rt: &R,
     alloc: Global,
+    seed: HashSeed,
     workers: usize,
     read: ReadSetup,
 ) -> Result<Vec<u8>, PlayError>
@@ -64,7 +80,7 @@ fn index_text<R: Threads + Wait + Sync>(
         files,
         calls: _,
     } = setup;
-    match text_over(rt, alloc, workers, &folders, files) {
+    match text_over(rt, alloc, seed, workers, &folders, files) {
         Ok(text) => Ok(text),
         Err(kind) => Err(refused(lines, kind)),
     }
@@ -75,6 +91,7 @@ fn index_text<R: Threads + Wait + Sync>(
 fn text_over<R: Threads + Wait + Sync>(
     rt: &R,
     alloc: Global,
+    seed: HashSeed,
     workers: usize,
     names: &[Vec<u8>],
     files: Vec<ImageFile>,
@@ -83,7 +100,7 @@ fn text_over<R: Threads + Wait + Sync>(
         (λ text. index_over (names_of names.now) files.items ≡ Ok text.items)
         (λ kind. kind ≢ NoMemory → index_over (names_of names.now) files.items ≡ Err kind) }
 {
-    let world = load(alloc, names, files)?;
+    let world = load(alloc, seed, names, files)?;
     let text = folders_text(rt, alloc, workers, &world, names);
     // The process ends soon, and the system takes its memory at once.
     forget(world);

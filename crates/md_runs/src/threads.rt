@@ -11,6 +11,7 @@ mod share;
 mod sharing;
 
 use crate::fault::RunFault;
+use md_dirs::HashSeed;
 use md_script::{ReadSetup, Sink, Source, read_image, write_whole};
 use report::ended;
 use setting_up::{Made, set_up};
@@ -30,7 +31,7 @@ use std::thread::Threads;
 /// answered, or at the refusals of line 0: `ReadFault`, `TooLong`, `TooManyReads` and `NoMemory`. After `WriteFault`, at line 0 too,
 /// nothing is known of what was written.
 ///
-/// It is the last thing that a process does: the memory of the store isn't given back.
+/// It is the last thing that a process does: the memory of the store isn't given back. Names are hashed by the fixed seed.
 pub fn run_threads<R: Threads + Wait + Sync, S: Source, T: Sink>(
     rt: &R,
     alloc: Global,
@@ -41,8 +42,23 @@ pub fn run_threads<R: Threads + Wait + Sync, S: Source, T: Sink>(
     requires { (1 ≤ threads) × (threads ≤ 16) }
     ensures { RunsThreads (S.state source.old) (S.state source.new) (T.state sink.old) (T.state sink.new) result }
 {
+    run_threads_with_seed(rt, alloc, HashSeed::fixed(), threads, source, sink)
+}
+
+/// The same with a seed that names are hashed by.
+pub fn run_threads_with_seed<R: Threads + Wait + Sync, S: Source, T: Sink>(
+    rt: &R,
+    alloc: Global,
+    seed: HashSeed,
+    threads: usize,
+    source: &mut S,
+    sink: &mut T,
+) -> Result<(), RunFault>
+    requires { (1 ≤ threads) × (threads ≤ 16) }
+    ensures { RunsThreads (S.state source.old) (S.state source.new) (T.state sink.old) (T.state sink.new) result }
+{
     let read = read_image(alloc, source, true)?;
-    let text = threads_text(rt, alloc, threads, read)?;
+    let text = threads_text(rt, alloc, seed, threads, read)?;
     write_whole(sink, &text)?;
     Ok(())
 }
@@ -54,12 +70,13 @@ pub fn run_threads<R: Threads + Wait + Sync, S: Source, T: Sink>(
 fn threads_text<R: Threads + Wait + Sync>(
     rt: &R,
     alloc: Global,
+    seed: HashSeed,
     threads: usize,
     read: ReadSetup,
 ) -> Result<Vec<u8>, RunFault>
     ensures { (script : List ℕ) → SetsUp true script read → MatchResult result (λ text. Reports script text.items) (IsUnreported script) }
 {
-    let made = set_up(alloc, read)?;
+    let made = set_up(alloc, seed, read)?;
     let Made { names, world } = made;
     let jobs = world.jobs();
     let shared = share(rt, alloc, threads, &names, world)?;

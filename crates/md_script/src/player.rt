@@ -12,7 +12,7 @@ use crate::sink::{Put, Sink};
 use crate::source::Source;
 use crate::storage::Storage;
 use crate::store::StoreSession;
-use md_dirs::IndexDirs;
+use md_dirs::{HashSeed, IndexDirs};
 use std::alloc::{AllocError, Global};
 use std::mem::forget;
 
@@ -30,21 +30,22 @@ pub fn play<S: Source, T: Sink>(
     ensures play { Plays (S.state source.old) (S.state source.new) (T.state sink.old) (T.state sink.new) result }
     ensures reads { (S.state source.new).reads ≤ (S.state source.old).reads + most_reads }
 {
-    let mut session = StoreSession::<IndexDirs>::new(alloc);
+    let mut session = StoreSession::<IndexDirs>::new(alloc, HashSeed::fixed());
     play_in(&mut session, alloc, source, sink)
 }
 
-/// The same, as the last thing that a process does: its store is left as it is, and not given back name by name and body by body, since the
-/// system takes all memory of a process at its end. That is a tenth of the work of some scripts.
+/// The same with a seed that names are hashed by, as the last thing that a process does: its store is left as it is, and not given back name
+/// by name and body by body, since the system takes all memory of a process at its end. That is a tenth of the work of some scripts.
 pub fn play_last<S: Source, T: Sink>(
     alloc: Global,
+    seed: HashSeed,
     source: &mut S,
     sink: &mut T,
 ) -> Result<(), PlayError>
     ensures play { Plays (S.state source.old) (S.state source.new) (T.state sink.old) (T.state sink.new) result }
     ensures reads { (S.state source.new).reads ≤ (S.state source.old).reads + most_reads }
 {
-    let mut session = StoreSession::<IndexDirs>::new(alloc);
+    let mut session = StoreSession::<IndexDirs>::new(alloc, seed);
     let played = play_in(&mut session, alloc, source, sink);
     forget(session);
     played
@@ -73,14 +74,18 @@ fn play_in<S: Source, T: Sink>(
 pub fn transcript(alloc: Global, script: &[u8]) -> Result<Printed, AllocError>
     ensures { IfOk result (Prints (transcript script.now)) }
 {
-    transcript_over::<IndexDirs>(alloc, script)
+    transcript_over::<IndexDirs>(alloc, HashSeed::fixed(), script)
 }
 
-/// The transcript of a script whose store is on such directories. It is the same over all.
-pub fn transcript_over<D: Storage>(alloc: Global, script: &[u8]) -> Result<Printed, AllocError>
+/// The transcript of a script whose store is on such directories, and hashes names by a seed. It is the same over all.
+pub fn transcript_over<D: Storage>(
+    alloc: Global,
+    seed: HashSeed,
+    script: &[u8],
+) -> Result<Printed, AllocError>
     ensures { IfOk result (Prints (transcript script.now)) }
 {
-    run(alloc, &mut StoreSession::<D>::new(alloc), script)
+    run(alloc, &mut StoreSession::<D>::new(alloc, seed), script)
 }
 
 /// Writes a text whole. Refused `WriteFault`, after which nothing is known of what was written, or `NoMemory`, after which nothing was.

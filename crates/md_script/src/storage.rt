@@ -4,14 +4,19 @@ ghost use Rattle.md_dirs.specs.Calls.{fresh};
 ghost use Rattle.md_dirs.specs.Image.{image_state, image_refusal};
 ghost use Rattle.md_dirs.specs.declared.calls.DirError.TheVariants.{NoMemory};
 
-use md_dirs::{DirError, Dirs, ImageFile, IndexDirs, PlainDirs};
+use md_dirs::{DirError, Dirs, HashSeed, ImageFile, IndexDirs, PlainDirs};
 use std::alloc::Global;
 
 /// Directories that can begin with files, and that never fail.
 pub trait Storage: Dirs + Drop {
-    /// The directories that files are, made in their order: `NotFound` or `Exists` at the first that can't be made. `NoMemory` may come
+    /// The directories that files are, made in their order, whose names are hashed by a seed: `NotFound` or `Exists` at the first that can't be made. `NoMemory` may come
     /// in place of either.
-    fn holding(alloc: Global, folders: u32, files: Vec<ImageFile>) -> Result<Self, DirError>
+    fn holding(
+        alloc: Global,
+        seed: HashSeed,
+        folders: u32,
+        files: Vec<ImageFile>,
+    ) -> Result<Self, DirError>
         ensures accepted { IfOk result (λ _. image_refusal folders files.items ≡ None) }
         ensures made { IfOk result (λ dirs. Self.device dirs ≡ fresh (image_state folders files.items)) }
         ensures refused { IfErr result (λ e. (e ≡ NoMemory) ⊎ (image_refusal folders files.items ≡ Some e)) };
@@ -23,15 +28,26 @@ pub trait Storage: Dirs + Drop {
 impl Storage for IndexDirs {
     ghost never_fails = { λ _. refl };
 
-    fn holding(alloc: Global, folders: u32, files: Vec<ImageFile>) -> Result<Self, DirError> {
-        IndexDirs::from_image(alloc, folders, files)
+    fn holding(
+        alloc: Global,
+        seed: HashSeed,
+        folders: u32,
+        files: Vec<ImageFile>,
+    ) -> Result<Self, DirError> {
+        IndexDirs::from_image_with_seed(alloc, seed, folders, files)
     }
 }
 
 impl Storage for PlainDirs {
     ghost never_fails = { λ _. refl };
 
-    fn holding(alloc: Global, folders: u32, files: Vec<ImageFile>) -> Result<Self, DirError> {
+    // They hash no name.
+    fn holding(
+        alloc: Global,
+        _seed: HashSeed,
+        folders: u32,
+        files: Vec<ImageFile>,
+    ) -> Result<Self, DirError> {
         PlainDirs::from_image(alloc, folders, files)
     }
 }

@@ -21,7 +21,7 @@ use crate::storage::Storage;
 use crate::summary::{push_summary, push_unique};
 use crate::verb::Mode;
 use md_core::{Call, Event};
-use md_dirs::ImageFile;
+use md_dirs::{HashSeed, ImageFile};
 use md_head::summary;
 use md_name::{UniqueParts, make_unique};
 use open::OpenStore;
@@ -36,6 +36,7 @@ use std::mem;
 #[derive(Drop)]
 pub(crate) struct StoreSession<D: Storage> {
     alloc: Global,
+    seed: HashSeed,
     folders: Folders,
     files: Vec<ImageFile>,
     store: Option<OpenStore<D>>,
@@ -56,12 +57,13 @@ impl<D: Storage> Model for StoreSession<D> {
 }
 
 impl<D: Storage> StoreSession<D> {
-    /// A session without a folder.
-    pub fn new(alloc: Global) -> Self
+    /// A session without a folder, whose store will hash names by a seed.
+    pub fn new(alloc: Global, seed: HashSeed) -> Self
         ensures { result ≡ new_session }
     {
         StoreSession {
             alloc,
+            seed,
             folders: Folders::new(alloc),
             files: Vec::new(alloc),
             store: None,
@@ -115,7 +117,7 @@ impl<D: Storage> StoreSession<D> {
         ensures { Opens self.old self.new result }
     {
         let files = mem::replace(&mut self.files, Vec::new(self.alloc));
-        let world = open_store(self.alloc, self.folders.count(), files)?;
+        let world = open_store(self.alloc, self.seed, self.folders.count(), files)?;
         self.store = Some(OpenStore::new(self.alloc, world));
         Ok(())
     }

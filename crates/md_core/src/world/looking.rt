@@ -15,7 +15,7 @@ pub(crate) mod names;
 pub(crate) mod quick;
 
 use crate::used::{NameSet, UsedNames};
-use md_dirs::{Dirs, Place, RowRef};
+use md_dirs::{Dirs, HashSeed, Place, RowRef};
 use md_jobs::CoreError;
 use md_name::{holds_separator, is_message};
 use std::alloc::{AllocError, Global};
@@ -43,13 +43,18 @@ struct Seen {
 }
 
 impl Seen {
-    // Nothing was seen, and there is room for so many names.
-    fn with_room(alloc: Global, messages: usize, tmp: usize) -> Result<Seen, AllocError>
+    // Nothing was seen, and there is room for so many names, which are hashed by a seed.
+    fn with_room(
+        alloc: Global,
+        seed: HashSeed,
+        messages: usize,
+        tmp: usize,
+    ) -> Result<Seen, AllocError>
         ensures { IfOk result (λ seen. (seen.messages ≡ []) × (seen.tmp ≡ []) × (seen.clock ≡ 0)) }
     {
         Ok(Seen {
-            messages: NameSet::with_room(alloc, messages)?,
-            tmp: NameSet::with_room(alloc, tmp)?,
+            messages: NameSet::with_room(alloc, seed, messages)?,
+            tmp: NameSet::with_room(alloc, seed, tmp)?,
             clock: 0,
         })
     }
@@ -66,7 +71,7 @@ impl Seen {
             messages = messages.saturating_add(new).saturating_add(cur);
             tmp = tmp.saturating_add(dirs.count(folder, Place::Tmp));
         }
-        Seen::with_room(alloc, messages, tmp)
+        Seen::with_room(alloc, dirs.hash_seed(), messages, tmp)
     }
 
     // Looks at one more name, and refuses it where it has a fault. Of the two that call it, one does so at each name of a world that begins.

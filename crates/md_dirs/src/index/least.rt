@@ -6,10 +6,8 @@ ghost use Rattle.std.specs.FinMap.{from_entries};
 ghost use Rattle.md_dirs.specs.Index.{name_cmp};
 ghost use Rattle.md_dirs.specs.Least.{lent_row, takes, lesser as lesser_of};
 
-use crate::index::named::Named;
-use crate::name_key::NameKey;
+use crate::index::tables::{Others, Table};
 use crate::rows::is_named;
-use indexmap::{IndexMap, IndexSet};
 
 /// Which names are looked for.
 #[derive(Clone, Copy)]
@@ -65,8 +63,8 @@ fn looked<'a>(
 
 /// The least of the names that are wanted, and the number of its file. It looks at each name, and takes no memory.
 pub fn least<'a>(
-    table: &'a IndexSet<Named<'static>>,
-    others: &'a IndexMap<NameKey<'static>, usize>,
+    table: &'a Table<'static>,
+    others: &'a Others,
     wanted: Wanted<'_>,
 ) -> Option<(&'a [u8], usize)>
     ensures { option_map lent_row result ≡ first_with (λ e. takes wanted.entry e.0)
@@ -86,8 +84,8 @@ pub fn least<'a>(
 /// The name at a position in order, and the number of its file. It looks at each name once for each position up to that, and takes no
 /// memory.
 pub fn nth<'a>(
-    table: &'a IndexSet<Named<'static>>,
-    others: &'a IndexMap<NameKey<'static>, usize>,
+    table: &'a Table<'static>,
+    others: &'a Others,
     at: usize,
 ) -> Option<(&'a [u8], usize)>
     ensures { option_map lent_row result

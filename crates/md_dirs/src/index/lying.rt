@@ -5,17 +5,15 @@ ghost use Rattle.md_dirs.specs.Files.{files_of, name_row};
 ghost use Rattle.md_dirs.specs.Slots.{slots_of};
 
 use crate::files::shown_row;
-use crate::index::named::Named;
-use crate::name_key::NameKey;
+use crate::index::tables::{Others, Table};
 use crate::rows::RowRef;
 use crate::slots::Slots;
-use indexmap::{IndexMap, IndexSet};
 use std::alloc::AllocError;
 
 /// Lent rows, and behind them those of a table. It is refused only when out of memory.
 pub fn with_rows<'a>(
     mut lent: Vec<RowRef<'a>>,
-    table: &'a IndexSet<Named<'static>>,
+    table: &'a Table<'static>,
     slots: &'a Slots,
 ) -> Result<Vec<RowRef<'a>>, AllocError>
     requires { All (λ e. IsSome (file_by (files_of (slots_of slots.now)) e.1)) table.now.keys }
@@ -32,7 +30,7 @@ pub fn with_rows<'a>(
 /// Lent rows, and behind them those that stand beside a table. It is refused only when out of memory.
 pub fn with_others<'a>(
     mut lent: Vec<RowRef<'a>>,
-    others: &'a IndexMap<NameKey<'static>, usize>,
+    others: &'a Others,
     slots: &'a Slots,
 ) -> Result<Vec<RowRef<'a>>, AllocError>
     requires { All (λ e. IsSome (file_by (files_of (slots_of slots.now)) e.1)) others.now.entries }

@@ -16,14 +16,15 @@ ghost use Rattle.md_dirs.specs.Named.{is_alike, GoesLast};
 ghost use Rattle.md_dirs.specs.Index.{name_cmp, rows_at, get_name, IsOrderOf};
 
 use crate::files::shown_row;
+use crate::hashing::HashSeed;
 use crate::index::least::{Wanted, least, nth};
 use crate::index::lying::{with_others, with_rows};
 use crate::index::named::Named;
 use crate::index::sorting::{all_rows, sorted_order};
+use crate::index::tables::{Others, Table};
 use crate::name_key::NameKey;
 use crate::rows::{Row, RowRef};
 use crate::slots::Slots;
-use indexmap::{IndexMap, IndexSet};
 use md_name::unique_part;
 use std::alloc::{AllocError, Global};
 use std::marker::Model;
@@ -40,8 +41,8 @@ const LENT: usize = 256;
 /// all others or change their info: so names that nobody lists, as those in tmp, have no order to be kept.
 #[derive(Drop)]
 pub struct Names {
-    table: IndexSet<Named<'static>>,
-    others: IndexMap<NameKey<'static>, usize>,
+    table: Table<'static>,
+    others: Others,
     order: Vec<usize>,
     // The position of the row that is looked at first: the one that was last found, added or renamed, or the one after the last that was
     // taken away. It may be past the end.
@@ -64,7 +65,7 @@ impl Model for Names {
 }
 
 // The number of the file of a name that stands beside the table.
-fn file_beside(others: &IndexMap<NameKey<'static>, usize>, name: &[u8]) -> Option<usize>
+fn file_beside(others: &Others, name: &[u8]) -> Option<usize>
     ensures { result ≡ get_name others.now.entries name.now }
 {
     if others.is_empty() {
@@ -76,7 +77,7 @@ fn file_beside(others: &IndexMap<NameKey<'static>, usize>, name: &[u8]) -> Optio
 
 // Gives a name that stands beside the table to a file.
 fn put_beside(
-    others: &mut IndexMap<NameKey<'static>, usize>,
+    others: &mut Others,
     alloc: Global,
     name: &[u8],
     file: usize,
@@ -91,7 +92,7 @@ fn put_beside(
 }
 
 // Takes a name away that stands beside the table, and gives the number of its file.
-fn take_beside(others: &mut IndexMap<NameKey<'static>, usize>, name: &[u8]) -> Option<usize>
+fn take_beside(others: &mut Others, name: &[u8]) -> Option<usize>
     ensures file { result ≡ get_name others.old.entries name.now }
     ensures names { (q : _) → get_name others.new.entries q ≡ if bytes_eq name.now q then None else get_name others.old.entries q }
 {
@@ -105,10 +106,7 @@ fn take_beside(others: &mut IndexMap<NameKey<'static>, usize>, name: &[u8]) -> O
 }
 
 // Where the row of the table is that is alike to one, and that row. To count the rows says that no two are alike.
-fn row_like<'a>(
-    table: &'a IndexSet<Named<'a>>,
-    row: &'a Named<'a>,
-) -> Option<(usize, &'a Named<'a>)>
+fn row_like<'a>(table: &'a Table<'a>, row: &'a Named<'a>) -> Option<(usize, &'a Named<'a>)>
     ensures there { IfSome result (λ r. slice_get table.now.keys r.0 ≡ Some r.1.now) }
     ensures found { option_map (λ r. r.1.now) result ≡ first_with (is_alike row.now) table.now.keys }
     ensures apart { IsDistinct is_alike table.now.keys }
@@ -120,7 +118,7 @@ fn row_like<'a>(
 }
 
 // Where a name is in the table, and the number of its file.
-fn place_in(table: &IndexSet<Named<'static>>, name: &[u8]) -> Option<(usize, usize)>
+fn place_in(table: &Table<'static>, name: &[u8]) -> Option<(usize, usize)>
     ensures there { IfSome result (λ r. slice_get table.now.keys r.0 ≡ Some (name.now, r.1)) }
     ensures file { option_map (λ r. r.1) result ≡ get_name table.now.keys name.now }
     ensures apart { IsDistinct is_alike table.now.keys }
@@ -135,11 +133,7 @@ fn place_in(table: &IndexSet<Named<'static>>, name: &[u8]) -> Option<(usize, usi
 }
 
 // The row of a name, where it is at a position. To count the rows says that no two are alike.
-fn row_of<'a>(
-    table: &'a IndexSet<Named<'static>>,
-    at: usize,
-    name: &[u8],
-) -> Option<&'a Named<'static>>
+fn row_of<'a>(table: &'a Table<'static>, at: usize, name: &[u8]) -> Option<&'a Named<'static>>
     ensures there { IfSome result (λ row. slice_get table.now.keys at ≡ Some (name.now, row.now.1)) }
     ensures name { IfSome result (λ row. row.now.0 ≡ name.now) }
     ensures apart { IsDistinct is_alike table.now.keys }
@@ -152,7 +146,7 @@ fn row_of<'a>(
 }
 
 // Where a name is in the table, and the number of its file. It is looked for at a position first.
-fn place_near(table: &IndexSet<Named<'static>>, name: &[u8], near: usize) -> Option<(usize, usize)>
+fn place_near(table: &Table<'static>, name: &[u8], near: usize) -> Option<(usize, usize)>
     ensures there { IfSome result (λ r. slice_get table.now.keys r.0 ≡ Some (name.now, r.1)) }
     ensures file { option_map (λ r. r.1) result ≡ get_name table.now.keys name.now }
     ensures apart { IsDistinct is_alike table.now.keys }
@@ -164,7 +158,7 @@ fn place_near(table: &IndexSet<Named<'static>>, name: &[u8], near: usize) -> Opt
 }
 
 // Whether a name goes behind all rows of a table whose order is made. Names mostly come in the order of time.
-fn goes_last(table: &IndexSet<Named<'static>>, order: &[usize], name: &[u8]) -> bool
+fn goes_last(table: &Table<'static>, order: &[usize], name: &[u8]) -> bool
     requires { (order.now ≡ []) ⊎ IsOrderOf table.now.keys order.now }
     ensures { IsTrue result → GoesLast table.now.keys order.now name.now }
 {
@@ -179,7 +173,7 @@ fn goes_last(table: &IndexSet<Named<'static>>, order: &[usize], name: &[u8]) -> 
 
 // Adds a row to a table where none has its unique part, and says where the row is that has it else.
 fn add_row(
-    table: &mut IndexSet<Named<'static>>,
+    table: &mut Table<'static>,
     order: &mut Vec<usize>,
     row: Named<'static>,
 ) -> Result<Option<usize>, AllocError>
@@ -209,7 +203,7 @@ fn add_row(
 // Gives the row at a position another name of the same unique part, where it is the row of a name: whether it did. Where both names have
 // info, the order stays as it is.
 fn rename_row(
-    table: &mut IndexSet<Named<'static>>,
+    table: &mut Table<'static>,
     order: &mut Vec<usize>,
     alloc: Global,
     at: usize,
@@ -243,11 +237,7 @@ fn rename_row(
 }
 
 // Whether the order shows all names.
-fn is_arranged(
-    table: &IndexSet<Named<'static>>,
-    others: &IndexMap<NameKey<'static>, usize>,
-    order: &[usize],
-) -> bool
+fn is_arranged(table: &Table<'static>, others: &Others, order: &[usize]) -> bool
     requires { (order.now ≡ []) ⊎ IsOrderOf table.now.keys order.now }
     ensures { IsTrue result → (others.now.entries ≡ []) × IsOrderOf table.now.keys order.now }
 {
@@ -267,7 +257,7 @@ fn next_of(order: &[usize], from: usize) -> &[usize]
 // The rows at positions of the table, lent.
 fn lent_rows<'a>(
     alloc: Global,
-    table: &'a IndexSet<Named<'static>>,
+    table: &'a Table<'static>,
     positions: &[usize],
     slots: &'a Slots,
 ) -> Result<Vec<RowRef<'a>>, AllocError>
@@ -326,13 +316,13 @@ fn push_copies(shown: &mut Vec<Row>, alloc: Global, rows: &[RowRef<'_>]) -> Resu
 }
 
 impl Names {
-    /// No name. It takes no memory.
-    pub fn new(alloc: Global) -> Self
+    /// No name, and the seed that names are hashed by. It takes no memory.
+    pub fn new(alloc: Global, seed: HashSeed) -> Self
         ensures { result ≡ finmap.empty }
     {
         Names {
-            table: IndexSet::new(alloc),
-            others: IndexMap::new(alloc),
+            table: Table::with_hasher(alloc, seed),
+            others: Others::with_hasher(alloc, seed),
             order: Vec::new(alloc),
             near: 0,
         }

@@ -9,17 +9,15 @@ ghost use Rattle.md_dirs.specs.Named.{is_alike};
 ghost use Rattle.md_dirs.specs.Sortable.{AreSortable, key_and_name, row_number};
 
 use crate::index::key::key_of;
-use crate::index::named::Named;
-use crate::name_key::NameKey;
-use indexmap::{IndexMap, IndexSet};
+use crate::index::tables::{Others, Table};
 use std::alloc::{AllocError, Global};
 use std::cmp::Ordering;
 
 /// All rows of a directory, lent, in no order: those of its table, and then the others.
 pub fn all_rows<'a>(
     alloc: Global,
-    table: &'a IndexSet<Named<'static>>,
-    others: &'a IndexMap<NameKey<'static>, usize>,
+    table: &'a Table<'static>,
+    others: &'a Others,
 ) -> Result<Vec<(&'a [u8], usize)>, AllocError>
     ensures rows { IfOk result (λ rows. map lent_row rows.items ≡ table.now.keys ++ others.now.entries) }
     ensures unique { IsDistinct is_alike table.now.keys × IsDistinct bytes_eq (keys_of others.now.entries) }

@@ -12,6 +12,7 @@ ghost use Rattle.md_dirs.specs.Files.{files_of, name_row};
 ghost use Rattle.md_dirs.specs.Slots.{slots_of};
 
 use crate::changes::Paths;
+use crate::hashing::HashSeed;
 use crate::index::names::Names;
 use crate::paths::{Path, Place, number_of};
 use crate::rows::{Row, RowRef};
@@ -22,6 +23,7 @@ use std::marker::Model;
 /// The directories of all folders, by their numbers, up to the last that had a name.
 #[derive(Drop)]
 pub struct Tree {
+    seed: HashSeed,
     pub(crate) directories: Vec<Names>,
 }
 
@@ -41,6 +43,7 @@ impl Model for Tree {
 fn make_directories(
     directories: &mut Vec<Names>,
     alloc: Global,
+    seed: HashSeed,
     number: usize,
 ) -> Result<(), AllocError>
     requires small { number < 2 ^ 40 }
@@ -50,7 +53,7 @@ fn make_directories(
 {
     directories.reserve(number - directories.len() + 1)?;
     while directories.len() <= number {
-        directories.push(Names::new(alloc))?;
+        directories.push(Names::new(alloc, seed))?;
     }
     Ok(())
 }
@@ -60,6 +63,7 @@ fn make_directories(
 fn make_directory(
     directories: &mut Vec<Names>,
     alloc: Global,
+    seed: HashSeed,
     number: usize,
 ) -> Result<(), AllocError>
     requires { number < 2 ^ 40 }
@@ -69,17 +73,23 @@ fn make_directory(
     if number < directories.len() {
         return Ok(());
     }
-    make_directories(directories, alloc, number)
+    make_directories(directories, alloc, seed, number)
 }
 
 impl Tree {
-    /// No directory has a name. It takes no memory.
-    pub fn new(alloc: Global) -> Self
+    /// No directory has a name, and names are hashed by a seed. It takes no memory.
+    pub fn new(alloc: Global, seed: HashSeed) -> Self
         ensures { result ≡ finmap.empty }
     {
         Tree {
+            seed,
             directories: Vec::new(alloc),
         }
+    }
+
+    /// The seed that names are hashed by.
+    pub fn seed(&self) -> HashSeed {
+        self.seed
     }
 
     /// The number of the file of a name in a directory.
@@ -287,7 +297,7 @@ impl Tree {
         ensures err { OnErr result (self.new ≡ self.old) }
     {
         let number = number_of(path.folder, path.place);
-        make_directory(&mut self.directories, alloc, number)?;
+        make_directory(&mut self.directories, alloc, self.seed, number)?;
         let directory = &mut self.directories[number];
         directory.put(alloc, path.name.as_slice(), file)?;
         Ok(())
@@ -315,7 +325,7 @@ impl Paths for Tree {
 
     fn add(&mut self, alloc: Global, path: &Path, file: usize) -> Result<bool, AllocError> {
         let number = number_of(path.folder, path.place);
-        make_directory(&mut self.directories, alloc, number)?;
+        make_directory(&mut self.directories, alloc, self.seed, number)?;
         let directory = &mut self.directories[number];
         let is_new = directory.add(alloc, path.name.as_slice(), file)?;
         Ok(is_new)

@@ -1,4 +1,5 @@
 // Each case over plain directories, hashed ones, and both behind a call that may fail.
+use super::hashing::seed_from;
 use super::lent::lend_all;
 use super::many;
 use super::model::Model;
@@ -54,7 +55,7 @@ fn play_on_each(rt: &impl Abort, case: Case, alloc: Global, due: u64) {
     play(rt, alloc, &mut IndexDirs::new(alloc, 2), case, 0);
     let mut plain = FailAt::new(PlainDirs::new(alloc, 2), due);
     play(rt, alloc, &mut plain, case, due);
-    let mut hashed = FailAt::new(IndexDirs::new(alloc, 2), due);
+    let mut hashed = FailAt::new(IndexDirs::with_seed(alloc, seed_from(1), 2), due);
     play(rt, alloc, &mut hashed, case, due);
 }
 

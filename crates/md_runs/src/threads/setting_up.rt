@@ -9,7 +9,7 @@ ghost use Rattle.md_script.specs.ReadSetups.{SetsUp};
 ghost use Rattle.md_runs.specs.Begun.{submitted_all, begun_over, begun_of, IsBegun};
 
 use md_core::{Call, World};
-use md_dirs::{Dirs, ImageFile, IndexDirs};
+use md_dirs::{Dirs, HashSeed, ImageFile, IndexDirs};
 use md_indexing::{load, refused};
 use md_script::{PlayError, PlayKind, ReadSetup, Setup};
 use std::alloc::Global;
@@ -21,8 +21,8 @@ pub(super) struct Made {
     pub world: World<IndexDirs>,
 }
 
-/// What a script that was read sets up.
-pub(super) fn set_up(alloc: Global, read: ReadSetup) -> Result<Made, PlayError>
+/// What a script that was read sets up. Its store hashes names by a seed.
+pub(super) fn set_up(alloc: Global, seed: HashSeed, read: ReadSetup) -> Result<Made, PlayError>
     ensures made { (script : List ℕ) → SetsUp true script read
         → MatchResult result (IsBegun script) (λ e. (e ≡ at_no_line NoMemory) ⊎ (begun_of script ≡ Err e)) }
     ensures fresh { IfOk result (λ made. IsFresh made.world) }
@@ -33,7 +33,7 @@ pub(super) fn set_up(alloc: Global, read: ReadSetup) -> Result<Made, PlayError>
         files,
         calls,
     } = setup;
-    match world_of(alloc, &folders, files, calls) {
+    match world_of(alloc, seed, &folders, files, calls) {
         Ok(world) => Ok(Made {
             names: folders,
             world,
@@ -46,6 +46,7 @@ pub(super) fn set_up(alloc: Global, read: ReadSetup) -> Result<Made, PlayError>
 #[tactic(auto, unfolding(crate::specs::Begun::begun_over), using(crate::proofs::Submitting::opened_fresh))]
 fn world_of(
     alloc: Global,
+    seed: HashSeed,
     names: &[Vec<u8>],
     files: Vec<ImageFile>,
     calls: Vec<Call>,
@@ -55,7 +56,7 @@ fn world_of(
         (λ kind. kind ≢ NoMemory → begun_over (names_of names.now) files.items calls.items ≡ Err kind) }
     ensures fresh { IfOk result (λ world. IsFresh world) }
 {
-    let mut world = load(alloc, names, files)?;
+    let mut world = load(alloc, seed, names, files)?;
     submit_all(&mut world, calls)?;
     Ok(world)
 }

@@ -6,20 +6,21 @@ ghost use Rattle.md_script.specs.Sessions.{image_of, run_over};
 use crate::error::PlayKind;
 use crate::storage::Storage;
 use md_core::World;
-use md_dirs::{DirError, ImageFile};
+use md_dirs::{DirError, HashSeed, ImageFile};
 use std::alloc::Global;
 
-/// A store over folders and files. Refused `SamePath` where two files have one path, or where the folder of one isn't there, which no
+/// A store over folders and files, whose names are hashed by a seed. Refused `SamePath` where two files have one path, or where the folder of one isn't there, which no
 /// script can name; else `Core` of `BadName`, `LongUnique` or `DuplicateUnique`. `NoMemory` may come in place of any of these.
 #[tactic(auto, unfolding(crate::specs::Sessions::run_over))]
 pub fn open_store<D: Storage>(
     alloc: Global,
+    seed: HashSeed,
     folders: u32,
     files: Vec<ImageFile>,
 ) -> Result<World<D>, PlayKind>
     ensures { Gives (λ world. world) result (run_over folders files.items) }
 {
-    let dirs = directories::<D>(alloc, folders, files)?;
+    let dirs = directories::<D>(alloc, seed, folders, files)?;
     match World::load(alloc, dirs) {
         Ok(world) => Ok(world),
         Err(refused) => Err(PlayKind::from(refused.error)),
@@ -30,13 +31,14 @@ pub fn open_store<D: Storage>(
 #[tactic(auto, unfolding(crate::specs::Sessions::image_of))]
 fn directories<D: Storage>(
     alloc: Global,
+    seed: HashSeed,
     folders: u32,
     files: Vec<ImageFile>,
 ) -> Result<D, PlayKind>
     ensures image { Gives (λ dirs. (D.device dirs).state) result (image_of folders files.items) }
     ensures fresh { IfOk result (λ dirs. (D.device dirs).calls ≡ 0) }
 {
-    match D::holding(alloc, folders, files) {
+    match D::holding(alloc, seed, folders, files) {
         Ok(dirs) => Ok(dirs),
         Err(DirError::NoMemory) => Err(PlayKind::NoMemory),
         Err(_) => Err(PlayKind::SamePath),

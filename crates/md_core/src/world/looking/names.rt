@@ -119,7 +119,7 @@ pub(crate) fn is_for_few<D: Dirs>(dirs: &D, folder: u32, leaving: usize) -> bool
 fn names_in<D: Dirs>(alloc: Global, dirs: &D) -> Result<UsedNames, AllocError>
     ensures { IfOk result (λ used. AreOf (finmap.entries (D.device dirs.now).state.names) used) }
 {
-    let mut used = UsedNames::with_room(alloc, count_all(dirs))?;
+    let mut used = UsedNames::with_room(alloc, dirs.hash_seed(), count_all(dirs))?;
     for folder in 0..dirs.folders() {
         use_directory(alloc, dirs, folder, Place::Tmp, &mut used)?;
         use_directory(alloc, dirs, folder, Place::New, &mut used)?;

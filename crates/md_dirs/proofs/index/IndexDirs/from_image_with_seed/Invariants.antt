@@ -1,6 +1,6 @@
 use Rattle.std.proofs.Common.{◌≡◌, None}
 use Rattle.md_dirs.specs.Image.{image_state, image_refusal}
-use Rattle.md_dirs.proofs.index.IndexDirs.from_image.Given as goal
+use Rattle.md_dirs.proofs.index.IndexDirs.from_image_with_seed.Given as goal
 
 abbrev pub invariant-loop-file : goal.invariant-loop-file
 invariant-loop-file l =

@@ -4,7 +4,7 @@ use Rattle.std.proofs.lemmas.Iterator.Adapters.{YieldsList-from_vec}
 use Rattle.std.proofs.lemmas.Iterator.Consumers.{YieldsList-turn, YieldsList-so_far}
 use Rattle.md_dirs.specs.State.{bare}
 use Rattle.md_dirs.proofs.Filled.{one-more, one-accepted, refused-at}
-use Rattle.md_dirs.proofs.index.IndexDirs.from_image.Goals as goal
+use Rattle.md_dirs.proofs.index.IndexDirs.from_image_with_seed.Goals as goal
 
 pub loop-file-preserved : goal.loop-file-preserved
 loop-file-preserved c = record {
