@@ -17,6 +17,11 @@ MOST_JOBS = 10_000
 MOST_FOLDERS = 64
 MOST_FOLDER_NAME = 100
 
+# The second word that names are hashed by where none is drawn, as it lies in memory.
+_FIXED_WORD = bytes.fromhex("157c4a7fb979379e")
+# So many names that collide take minutes, and so many others a second.
+_COLLIDING = 150_000
+
 # A line that prints, and one that is refused.
 _REFUSED = b"unique 1 2 3 4 a\nx\n"
 _NAME = b"unique 1.M2P3Q4.a\n"
@@ -71,6 +76,21 @@ def _index(count: int) -> bytes:
     return b"".join(sorted(b"i %d.host\nsubject=letter %d\nend\n" % (number, number) for number in range(count)))
 
 
+def _colliding_names() -> list[bytes]:
+    """Names that collide where none of the words is drawn: the eight bytes in front have no part in a hash then."""
+    return [b"%08d%s.M1P1.host" % (number, _FIXED_WORD) for number in range(_COLLIDING)]
+
+
+def _colliding_cases() -> Iterator[tuple[list[str], bytes, bytes]]:
+    """The words of each run, its script, and what it prints."""
+    names = _colliding_names()
+    files = b"folder i\n" + b"".join(b"file i cur %s 0 x\n" % name for name in names)
+    listing = b"".join(b"cur %s - 1\n" % name for name in names)
+    yield ["play"], files + b"list i\n", listing
+    yield ["threads", "1"], files, b"folder i\n" + listing
+    yield ["index", "1"], files, b"".join(b"i %s\nend\n" % name for name in names)
+
+
 def refused(line: int, text: bytes, printed: bytes = b"") -> Ended:
     return Ended(1, printed, b"line %d: %s\n" % (line, text))
 
@@ -105,6 +125,10 @@ def wrong_cases(command: Sequence[str]) -> Iterator[str]:
         ended = run(command, ["index", str(workers)], _messages(count))
         if ended != Ended(0, _index(count), b""):
             yield f"index {workers} over {count} messages: {_brief(ended)}"
+    for words, script, printed in _colliding_cases():
+        ended = run(command, words, script)
+        if ended != Ended(0, printed, b""):
+            yield f"{' '.join(words)} over names that were chosen to collide: {_brief(ended)}"
     for size in _LONG_PIECES:
         ended = run_in_pieces(command, _LONG_LINES, size)
         if ended != Ended(0, _LONG_LINES_PRINT, b""):

@@ -73,6 +73,35 @@ static void test_loads(void) {
     CHECK(deolmutt_free(NULL) == DEOLMUTT_NULL);
 }
 
+/* Stands for the system's own, and counts how often random bytes are asked for. */
+static unsigned long draws;
+static int is_without_random;
+
+int getentropy(void *buffer, size_t length);
+int getentropy(void *buffer, size_t length) {
+    draws++;
+    memset(buffer, 7, length);
+    return is_without_random ? -1 : 0;
+}
+
+/* Each call that hashes the names of strangers draws what it hashes them by, and does without where there is nothing to be drawn. */
+static void test_draws(void) {
+    static const char lines[] = "folder i\nfile i new u 1 x\n";
+    static const char script[] = "folder i\nfile i new u 1 x\nlist i\n";
+    uint8_t out[64];
+    size_t length = 0;
+    uint64_t line = 7;
+    for (is_without_random = 0; is_without_random < 2; is_without_random++) {
+        draws = 0;
+        CHECK(deolmutt_free(loaded(lines)) == DEOLMUTT_OK && draws == 1);
+        CHECK(deolmutt_transcript(TEXT(script), out, sizeof out, &length, &line) == DEOLMUTT_OK && draws == 2);
+        CHECK(length == 10 && memcmp(out, "new u - 1\n", 10) == 0);
+        CHECK(deolmutt_index(TEXT(lines), out, sizeof out, &length, &line) == DEOLMUTT_OK && draws == 3);
+        CHECK(length == 8 && memcmp(out, "i u\nend\n", 8) == 0);
+    }
+    is_without_random = 0;
+}
+
 static void test_submits(void) {
     deolmutt_world *world = loaded("folder a\nfolder b\nfile a cur old:2,F 5 body\n");
     uint64_t job = 99;
@@ -510,6 +539,7 @@ int main(void) {
     test_texts();
     test_loads();
     test_names_of_files();
+    test_draws();
     test_submits();
     test_steps();
     test_answers();
