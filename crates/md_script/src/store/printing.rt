@@ -54,10 +54,7 @@ fn push_done(out: &mut Vec<u8>, job: JobId, call: DirCall) -> Result<(), AllocEr
 {
     match call {
         DirCall::Create => push_line(out, job, *b"00000000000000000000 create ok\n"),
-        DirCall::Append(count) => {
-            push_line(out, job, *b"00000000000000000000 append ")?;
-            push_line(out, count, *b"00000000000000000000 ok\n")
-        }
+        DirCall::Append(count) => push_appended(out, job, count),
         DirCall::Link => push_line(out, job, *b"00000000000000000000 link ok\n"),
         DirCall::Rename => push_line(out, job, *b"00000000000000000000 rename ok\n"),
         DirCall::Unlink => push_line(out, job, *b"00000000000000000000 unlink ok\n"),
@@ -65,6 +62,20 @@ fn push_done(out: &mut Vec<u8>, job: JobId, call: DirCall) -> Result<(), AllocEr
         DirCall::List(Place::New) => push_line(out, job, *b"00000000000000000000 list new ok\n"),
         DirCall::List(Place::Cur) => push_line(out, job, *b"00000000000000000000 list cur ok\n"),
     }
+}
+
+/// `J append COUNT ok`. A count of one digit, as of pieces of a byte, stands in the line, which is appended at once then.
+#[tactic(auto, using(crate::proofs::Decimals::short_decimal))]
+fn push_appended(out: &mut Vec<u8>, job: JobId, count: u64) -> Result<(), AllocError>
+    ensures { OnOk result (out.new.items ≡ out.old.items ++ decimal job ++ codes " append " ++ decimal count ++ codes " ok" ++ line_end) }
+{
+    if count < 10 {
+        let mut line = *b"00000000000000000000 append 0 ok\n";
+        line[28] = b'0' + count as u8;
+        return push_line(out, job, line);
+    }
+    push_line(out, job, *b"00000000000000000000 append ")?;
+    push_line(out, count, *b"00000000000000000000 ok\n")
 }
 
 /// Appends `J answer A`, the line of a job's answer. Where memory runs out, some of it may have been appended.
