@@ -17,8 +17,9 @@ const BEGIN: &[u8] = b"maildir_log 1\nallow NotFlushed\n";
 /// Plays a script and writes the log of its directory calls: reads it whole, runs its lines up to the first that is refused, and writes
 /// what they did.
 ///
-/// Names are hashed by a seed. With `with_states` there are comments after the beginning and after each step that show each name of each directory. The errors are
-/// those of `md_script::play`. A moment or a stamp of more than 19 digits, which no log has, is refused `BadNumber`.
+/// With `with_states` there are comments after the beginning and after each step that show each name of each directory. The errors are
+/// those of `md_script::play`. A moment or a stamp of more than 19 digits, which no log has, is refused `BadNumber`. Names are hashed by the
+/// seed.
 pub(crate) fn trace<S: Source, T: Sink>(
     alloc: Global,
     seed: HashSeed,

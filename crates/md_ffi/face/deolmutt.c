@@ -6,16 +6,14 @@
  */
 
 /* getentropy is no part of C99. */
+#ifndef _DEFAULT_SOURCE
 #define _DEFAULT_SOURCE
+#endif
 
 #include "deolmutt.h"
 
 #include <stdlib.h>
-#ifdef __APPLE__
-#include <sys/random.h>
-#else
 #include <unistd.h>
-#endif
 
 struct deolmutt_world {
     uint8_t is_open;
@@ -39,7 +37,7 @@ struct own {
 
 uint32_t md_ffi_abi(void);
 size_t md_ffi_text(uint32_t refusal, uint8_t *out, size_t room);
-uint32_t md_ffi_load(const uint8_t *lines, size_t length, const uint8_t *random, size_t drawn, struct deolmutt_world *handle,
+uint32_t md_ffi_load(const uint8_t *lines, size_t length, const uint8_t *seed, size_t drawn, struct deolmutt_world *handle,
                      uint64_t *line);
 uint32_t md_ffi_free(struct deolmutt_world *handle);
 uint32_t md_ffi_submit(struct deolmutt_world *handle, const struct asked *asked, const uint8_t *unique, size_t unique_length,
@@ -57,9 +55,9 @@ uint32_t md_ffi_names(struct deolmutt_world *handle, uint32_t folder, uint32_t p
                       size_t *length);
 uint32_t md_ffi_calls(struct deolmutt_world *handle, const uint8_t *records, size_t length, uint64_t now, deolmutt_answer *answers,
                       size_t room, size_t *done);
-uint32_t md_ffi_transcript(const uint8_t *script, size_t length, const uint8_t *random, size_t drawn, uint8_t *out, size_t room,
+uint32_t md_ffi_transcript(const uint8_t *script, size_t length, const uint8_t *seed, size_t drawn, uint8_t *out, size_t room,
                            size_t *out_length, uint64_t *line);
-uint32_t md_ffi_index(const uint8_t *lines, size_t length, const uint8_t *random, size_t drawn, uint8_t *out, size_t room,
+uint32_t md_ffi_index(const uint8_t *lines, size_t length, const uint8_t *seed, size_t drawn, uint8_t *out, size_t room,
                       size_t *out_length, uint64_t *line);
 uint32_t md_ffi_unique(uint64_t sec, uint64_t micro, uint64_t pid, uint64_t count, const uint8_t *host, size_t host_length, uint8_t *out,
                        size_t room, size_t *length);
@@ -75,11 +73,11 @@ static uint8_t no_room[1];
 #define BYTES(bytes, length) ((length) == 0 ? no_bytes : (bytes)), (length)
 #define ROOM(out, room) ((room) == 0 ? no_room : (out)), (room)
 
-/* The bytes by which a world hashes names, so that nobody can choose names that collide. */
-#define RANDOM 16
+/* How many random bytes names are hashed by, so that nobody can choose names that all collide. */
+#define SEED 16
 
-/* Draws so many random bytes, and says how many: none where the system has none. */
-static size_t draw(uint8_t *random) { return getentropy(random, RANDOM) == 0 ? RANDOM : 0; }
+/* Draws so many random bytes, and says how many: none where the system gives none. */
+static size_t draw(uint8_t *seed) { return getentropy(seed, SEED) == 0 ? SEED : 0; }
 
 static struct own own_of(const uint64_t *own) {
     struct own given = {0, 0};
@@ -110,7 +108,7 @@ size_t deolmutt_text(uint32_t refusal, uint8_t *out, size_t room) {
 
 uint32_t deolmutt_load(const uint8_t *lines, size_t length, deolmutt_world **world, uint64_t *line) {
     struct deolmutt_world *made;
-    uint8_t random[RANDOM];
+    uint8_t seed[SEED];
     uint32_t status;
     if (IS_NULL(lines, length) || world == NULL || line == NULL)
         return DEOLMUTT_NULL;
@@ -121,7 +119,7 @@ uint32_t deolmutt_load(const uint8_t *lines, size_t length, deolmutt_world **wor
     made = calloc(1, sizeof *made);
     if (made == NULL)
         return DEOLMUTT_NO_MEMORY;
-    status = md_ffi_load(BYTES(lines, length), random, draw(random), made, line);
+    status = md_ffi_load(BYTES(lines, length), seed, draw(seed), made, line);
     if (status == DEOLMUTT_OK)
         *world = made;
     else
@@ -217,21 +215,21 @@ uint32_t deolmutt_calls(deolmutt_world *world, const uint8_t *records, size_t le
 }
 
 uint32_t deolmutt_transcript(const uint8_t *script, size_t length, uint8_t *out, size_t room, size_t *out_length, uint64_t *line) {
-    uint8_t random[RANDOM];
+    uint8_t seed[SEED];
     if (out_length == NULL || line == NULL || IS_NULL(script, length) || IS_NULL(out, room))
         return DEOLMUTT_NULL;
     if (IS_LONG(length) || IS_LONG(room))
         return DEOLMUTT_LENGTH;
-    return md_ffi_transcript(BYTES(script, length), random, draw(random), ROOM(out, room), out_length, line);
+    return md_ffi_transcript(BYTES(script, length), seed, draw(seed), ROOM(out, room), out_length, line);
 }
 
 uint32_t deolmutt_index(const uint8_t *lines, size_t length, uint8_t *out, size_t room, size_t *out_length, uint64_t *line) {
-    uint8_t random[RANDOM];
+    uint8_t seed[SEED];
     if (out_length == NULL || line == NULL || IS_NULL(lines, length) || IS_NULL(out, room))
         return DEOLMUTT_NULL;
     if (IS_LONG(length) || IS_LONG(room))
         return DEOLMUTT_LENGTH;
-    return md_ffi_index(BYTES(lines, length), random, draw(random), ROOM(out, room), out_length, line);
+    return md_ffi_index(BYTES(lines, length), seed, draw(seed), ROOM(out, room), out_length, line);
 }
 
 uint32_t deolmutt_unique(uint64_t sec, uint64_t micro, uint64_t pid, uint64_t count, const uint8_t *host, size_t host_length, uint8_t *out,

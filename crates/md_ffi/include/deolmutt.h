@@ -28,8 +28,9 @@
  * Moments are seconds since 1970-01-01 00:00:00 UTC. Folders are numbered from 0, in the order in which they were loaded; jobs from 1.
  * Memory comes from malloc, realloc and free; where there is none left, a call is refused as DEOLMUTT_NO_MEMORY.
  *
- * Names are kept in hash tables. So that nobody can choose names that collide there, deolmutt_load, deolmutt_transcript and deolmutt_index
- * draw 16 random bytes by getentropy, and hash by them. Where there are none, they hash as in each run without. No answer hangs on it.
+ * Names are kept in hash tables. So that nobody can choose names that all collide there, deolmutt_load, deolmutt_transcript and
+ * deolmutt_index draw 16 random bytes from the system by getentropy (of glibc 2.25 and later), and hash by them. Where the system gives
+ * none, they go on, and hash the same way in every process. No answer hangs on these bytes.
  */
 #ifndef DEOLMUTT_H
 #define DEOLMUTT_H

@@ -48,8 +48,8 @@ fn held_of(alloc: Global, seed: HashSeed, lines: &[u8]) -> Result<Box<Held>, Pla
 
 /// Opens a handle over the folders and files of `folder` and `file` lines, and sets `line` to 0. What the handle held is let go first.
 ///
-/// Names are hashed by 16 random bytes, or the same way in each run where there are fewer. A refused line is named by its number, from 1; what
-/// no line is to blame for has the line 0. The handle is closed then.
+/// A refused line is named by its number, from 1; what no line is to blame for has the line 0. The handle is closed then. Names are hashed by
+/// the first 16 random bytes, or the same way in each run where there are fewer.
 #[unsafe(no_mangle)]
 pub extern "C" fn md_ffi_load(
     alloc: Global,

@@ -141,8 +141,8 @@ pub extern "C" fn md_ffi_summary(
 }
 
 /// Lays the transcript of a script into `out`, and sets `length` to its length and `line` to the number of the line that was refused, or
-/// 0. The status is that line's refusal, unless there was no room: `Room`. Refused out of memory, with `line` and `length` 0. Names are hashed as
-/// those of `md_ffi_load`.
+/// 0. The status is that line's refusal, unless there was no room: `Room`. Refused out of memory, with `line` and `length` 0. Names are
+/// hashed as those of `md_ffi_load`.
 #[unsafe(no_mangle)]
 pub extern "C" fn md_ffi_transcript(
     alloc: Global,

@@ -20,7 +20,7 @@ impl<'a> RandomSource for Drawn<'a> {
     }
 }
 
-/// The seed of 16 random bytes, and the fixed one where there are fewer.
+/// The seed of the first 16 random bytes, and the fixed one where there are fewer.
 pub(crate) fn seed_of(random: &[u8]) -> HashSeed {
     let drawn = Drawn { bytes: random };
     HashSeed::drawn(&drawn).unwrap_or(HashSeed::fixed())

@@ -45,7 +45,7 @@ pub fn run_threads<R: Threads + Wait + Sync, S: Source, T: Sink>(
     run_threads_with_seed(rt, alloc, HashSeed::fixed(), threads, source, sink)
 }
 
-/// The same with a seed that names are hashed by.
+/// The same, with the same refusals, where names are hashed by a seed. It is the last thing that a process does too.
 pub fn run_threads_with_seed<R: Threads + Wait + Sync, S: Source, T: Sink>(
     rt: &R,
     alloc: Global,

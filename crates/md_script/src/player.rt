@@ -34,8 +34,9 @@ pub fn play<S: Source, T: Sink>(
     play_in(&mut session, alloc, source, sink)
 }
 
-/// The same with a seed that names are hashed by, as the last thing that a process does: its store is left as it is, and not given back name
-/// by name and body by body, since the system takes all memory of a process at its end. That is a tenth of the work of some scripts.
+/// The same, with the same refusals, where names are hashed by a seed, as the last thing that a process does: its store is left as it is,
+/// and not given back name by name and body by body, since the system takes all memory of a process at its end. That is a tenth of the work
+/// of some scripts.
 pub fn play_last<S: Source, T: Sink>(
     alloc: Global,
     seed: HashSeed,
@@ -77,7 +78,8 @@ pub fn transcript(alloc: Global, script: &[u8]) -> Result<Printed, AllocError>
     transcript_over::<IndexDirs>(alloc, HashSeed::fixed(), script)
 }
 
-/// The transcript of a script whose store is on such directories, and hashes names by a seed. It is the same over all.
+/// The transcript of a script whose store is on such directories, which hash names by the seed where they hash any. It is the same over
+/// all.
 pub fn transcript_over<D: Storage>(
     alloc: Global,
     seed: HashSeed,

@@ -9,8 +9,8 @@ use std::alloc::Global;
 
 /// Directories that can begin with files, and that never fail.
 pub trait Storage: Dirs + Drop {
-    /// The directories that files are, made in their order, whose names are hashed by a seed: `NotFound` or `Exists` at the first that can't be made. `NoMemory` may come
-    /// in place of either.
+    /// The directories that files are, made in their order: `NotFound` or `Exists` at the first that can't be made. `NoMemory` may come
+    /// in place of either. Where they hash names, they do so by the seed.
     fn holding(
         alloc: Global,
         seed: HashSeed,

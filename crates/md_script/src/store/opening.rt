@@ -9,8 +9,9 @@ use md_core::World;
 use md_dirs::{DirError, HashSeed, ImageFile};
 use std::alloc::Global;
 
-/// A store over folders and files, whose names are hashed by a seed. Refused `SamePath` where two files have one path, or where the folder of one isn't there, which no
-/// script can name; else `Core` of `BadName`, `LongUnique` or `DuplicateUnique`. `NoMemory` may come in place of any of these.
+/// A store over folders and files. Refused `SamePath` where two files have one path, or where the folder of one isn't there, which no
+/// script can name; else `Core` of `BadName`, `LongUnique` or `DuplicateUnique`. `NoMemory` may come in place of any of these. Where its
+/// directories hash names, they do so by the seed.
 #[tactic(auto, unfolding(crate::specs::Sessions::run_over))]
 pub fn open_store<D: Storage>(
     alloc: Global,
