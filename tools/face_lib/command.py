@@ -16,9 +16,9 @@ from .streams import FACES, wrong_streams
 
 ABOUT = f"""Holds a built program to what the rows of its crate have, crates/NAME/rows: its status, what it prints and what it says, for words and an
 input. Then come streams that a process alone has: closed ones, a full disk, a folder to read, a reader that has gone, a connection that is reset; and for
-maildir_cli scripts at each limit and past it, scripts that come in pieces, and one that is cut short at each byte; and, by gcc or the compiler that CC
-names, reads and writes that are interrupted or fail amid a stream, a million reads, and memory that is refused. It prints each that is not so, and
-ends with status 1 where there are any. It knows {', '.join(FACES)}."""
+maildir_cli scripts at each limit and past it, names that were chosen to collide, scripts that come in pieces, and one that is cut short at each byte;
+and, by gcc or the compiler that CC names, reads and writes that are interrupted or fail amid a stream, a million reads, and memory that is refused. It
+prints each that is not so, and ends with status 1 where there are any. It knows {', '.join(FACES)}."""
 
 PLANTED_ABOUT = """checks the rows of maildir_cli themselves. The program is run through a shell that makes of it what each of four wrong mains would
 be: status 0 for refusals, status 1 for wrong words, refusals on standard output, an `index` that runs `threads`. The rows must fail for each"""

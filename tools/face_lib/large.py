@@ -19,8 +19,8 @@ MOST_FOLDER_NAME = 100
 
 # The second word that names are hashed by where none is drawn, as it lies in memory.
 _FIXED_WORD = bytes.fromhex("157c4a7fb979379e")
-# So many names that collide take minutes, and so many others a second.
-_COLLIDING = 150_000
+# So many names that collide take minutes, and so many others less than a second.
+_COLLIDING = 300_000
 
 # A line that prints, and one that is refused.
 _REFUSED = b"unique 1 2 3 4 a\nx\n"
@@ -77,18 +77,18 @@ def _index(count: int) -> bytes:
 
 
 def _colliding_names() -> list[bytes]:
-    """Names that collide where none of the words is drawn: the eight bytes in front have no part in a hash then."""
+    """Names that collide by that word: it makes the factor beside the first eight bytes 0, so that these have no part in a hash."""
     return [b"%08d%s.M1P1.host" % (number, _FIXED_WORD) for number in range(_COLLIDING)]
 
 
 def _colliding_cases() -> Iterator[tuple[list[str], bytes, bytes]]:
-    """The words of each run, its script, and what it prints."""
+    """The words of each run, its script, and what it prints. A store of two folders looks its used names up by their hashes too."""
     names = _colliding_names()
-    files = b"folder i\n" + b"".join(b"file i cur %s 0 x\n" % name for name in names)
+    files = b"folder i\nfolder j\nfile j cur u 0 x\n" + b"".join(b"file i cur %s 0 x\n" % name for name in names)
     listing = b"".join(b"cur %s - 1\n" % name for name in names)
     yield ["play"], files + b"list i\n", listing
-    yield ["threads", "1"], files, b"folder i\n" + listing
-    yield ["index", "1"], files, b"".join(b"i %s\nend\n" % name for name in names)
+    yield ["threads", "1"], files, b"folder i\n" + listing + b"folder j\ncur u - 1\n"
+    yield ["index", "1"], files, b"".join(b"i %s\nend\n" % name for name in names) + b"j u\nend\n"
 
 
 def refused(line: int, text: bytes, printed: bytes = b"") -> Ended:

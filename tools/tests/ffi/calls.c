@@ -2,6 +2,8 @@
 #include "checks.h"
 #include "worlds.h"
 
+#include <time.h>
+
 static void test_texts(void) {
     static const uint32_t numbers[] = {1,  2,  3,  4,  5,  6,  7,  8,  9,  10, 11, 20, 21, 22, 23, 24, 25, 26, 27, 28, 29, 30,
                                        31, 32, 40, 41, 42, 50, 51, 52, 53, 54, 55, 56, 57, 58, 59, 60, 61, 62, 63};
@@ -84,7 +86,7 @@ int getentropy(void *buffer, size_t length) {
     return is_without_random ? -1 : 0;
 }
 
-/* Each call that hashes the names of strangers draws what it hashes them by, and does without where there is nothing to be drawn. */
+/* Each call that makes a store draws what it hashes names by, and does without where there is nothing to be drawn. */
 static void test_draws(void) {
     static const char lines[] = "folder i\nfile i new u 1 x\n";
     static const char script[] = "folder i\nfile i new u 1 x\nlist i\n";
@@ -100,6 +102,20 @@ static void test_draws(void) {
         CHECK(length == 8 && memcmp(out, "i u\nend\n", 8) == 0);
     }
     is_without_random = 0;
+}
+
+#define COLLIDING 60000
+
+/* Names whose first eight bytes have no part in a hash, unless it is by bytes that were drawn. So many take ten seconds and more then. */
+static void test_colliding_names(void) {
+    static char lines[COLLIDING * 48 + 16];
+    clock_t began = clock();
+    size_t at = (size_t)sprintf(lines, "folder i\n");
+    int number;
+    for (number = 0; number < COLLIDING; number++)
+        at += (size_t)sprintf(lines + at, "file i cur %08d\x15\x7c\x4a\x7f\xb9\x79\x37\x9e.M1.host 0 x\n", number);
+    CHECK(deolmutt_free(loaded(lines)) == DEOLMUTT_OK);
+    CHECK((clock() - began) / CLOCKS_PER_SEC < 5);
 }
 
 static void test_submits(void) {
@@ -540,6 +556,7 @@ int main(void) {
     test_loads();
     test_names_of_files();
     test_draws();
+    test_colliding_names();
     test_submits();
     test_steps();
     test_answers();
