@@ -29,4 +29,4 @@ pub mod Slotted
 pub mod Sorting
 pub mod Arranged
 pub mod Lying
-pub mod InBlocks
+pub mod OldNames

@@ -1,7 +1,7 @@
 -- How names are hashed.
 use Rattle.std.specs.Prelude.{ℕ, zero, suc, ◌+◌, ◌-◌, ◌*◌, ◌/◌, ◌%◌, ◌^◌, List, [], ◌∷◌, length, if◌then◌else◌, nat_le, slice_index, bit_and, bit_or, bit_xor}
 use Rattle.std.specs.List.{fold}
-use Rattle.std.specs.Int.{w64, from_le_bytes}
+use Rattle.std.specs.Int.{w64, from_le_bytes, rotate_left}
 use Rattle.md_dirs.specs.declared.hashing.NameHasher.{NameHasher}
 use Rattle.md_dirs.specs.declared.hashing.HashSeed.{HashSeed}
 
@@ -30,7 +30,7 @@ short_word bs = fold with_byte 0 bs
 abbrev pub folded : ℕ → ℕ
 folded product = bit_xor (bit_and product (2 ^ 64 - 1)) (product / 2 ^ 64)
 
--- the hasher after two words: each of them hides a word of the seed, and their product is folded
+-- the hasher after two words: a word of the seed is added to each by xor, and their product is folded
 unfoldable pub mix : NameHasher → ℕ → ℕ → NameHasher
 mix h first second = record { state = folded (bit_xor first h.state * bit_xor second h.multiplier); multiplier = h.multiplier }
 
@@ -39,9 +39,9 @@ unfoldable pub mix_blocks : List ℕ → NameHasher → ℕ → NameHasher
 mix_blocks bs h zero = h
 mix_blocks bs h (suc n) = mix (mix_blocks bs h n) (word_at bs (16 * n)) (word_at bs (16 * n + 8))
 
--- the hasher of which the length is known
+-- the hasher of which the length is known: its first word is turned by it
 abbrev pub with_length : NameHasher → ℕ → NameHasher
-with_length h n = record { state = (h.state + n) % 2 ^ 64; multiplier = h.multiplier }
+with_length h n = record { state = rotate_left w64 h.state (n % 64); multiplier = h.multiplier }
 
 -- the hasher after `write(bs)`: the last block of more than eight bytes ends where they end, and may share bytes with the one before
 unfoldable pub write : NameHasher → List ℕ → NameHasher

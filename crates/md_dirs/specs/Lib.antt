@@ -2,7 +2,6 @@ pub mod Path
 pub mod State
 pub mod Calls
 pub mod Rows
-pub mod Packed
 pub mod Lent
 pub mod Once
 pub mod Image

@@ -44,7 +44,6 @@ row_named unique rows = find (λ row. is_named unique row.name) rows
 abbrev pub is_old : ℕ → ℕ → Row → Bool
 is_old now seconds row = nat_le seconds (now - row.stamp)
 
--- the name of the first row, and no byte where there is none
-abbrev pub first_name : List Row → List ℕ
-first_name [] = []
-first_name (row ∷ rows) = row.name
+-- the names of the rows whose files have not been used for so many seconds
+abbrev pub old_names : ℕ → ℕ → List Row → List (List ℕ)
+old_names now seconds rows = map (λ row. row.name) (filter (is_old now seconds) rows)

@@ -1,20 +1,21 @@
 // The directory calls and looks.
-ghost use Rattle.std.specs.Prelude.{◌≡◌, ◌+◌, ◌^◌, ◌<◌, IsErrOf, IfOk, OnErr, IfSome, IsTrue, length, filter, slice_get, IsPermutation};
+ghost use Rattle.std.specs.Prelude.{◌≡◌, ◌+◌, ◌^◌, ◌<◌, IsErrOf, IfOk, OnErr, IfSome, IsTrue, length, slice_get, IsPermutation};
 ghost use Rattle.std.specs.Option.{option_map};
 ghost use Rattle.md_dirs.specs.Path.{path_of};
 ghost use Rattle.md_dirs.specs.State.{IsSound, bytes_at_path};
 ghost use Rattle.md_dirs.specs.Calls.{Device, Obeys, create, append, link, rename, unlink, list};
-ghost use Rattle.md_dirs.specs.Rows.{rows_of, row_named, is_old};
+ghost use Rattle.md_dirs.specs.Rows.{rows_of, row_named, old_names};
 ghost use Rattle.md_dirs.specs.Lent.{AreNext};
 ghost use Rattle.md_dirs.specs.Once.{HoldsEachOnce};
 ghost use Rattle.md_dirs.specs.declared.calls.DirError.TheVariants.{NoMemory};
 
 use crate::hashing::HashSeed;
-use crate::packed::PackedRows;
+use crate::old::push_old;
 use crate::paths::{Path, Place};
 use crate::rows::{Row, RowRef, first_named, is_below, is_below_info, is_named};
-use md_name::Bytes;
+use md_name::{Bytes, FileName};
 use std::alloc::{AllocError, AllocFailed, Global};
+use std::collections::VecDeque;
 use thiserror::Error;
 
 /// Why a directory call was refused, or an image. After a refused call the directories are as they were; a refused image is
@@ -114,9 +115,9 @@ pub trait Dirs {
         }
     }
 
-    /// Lists the rows of a directory whose files have not been used for so many seconds at the moment `now`, by their stamps, packed. It is the
-    /// listing of that directory, with its refusals, of which these rows are kept. By itself it copies them by looks, and makes the call as a
-    /// `find`, so that memory which is wanting comes before the call.
+    /// Lists the names of a directory whose files have not been used for so many seconds at the moment `now`, by their stamps. It is the listing
+    /// of that directory, with its refusals, of which these names are kept, in its order. By itself it copies them by looks, and makes the call
+    /// as a `find`, so that memory which is wanting comes before the call.
     fn list_old(
         &mut self,
         alloc: Global,
@@ -124,25 +125,25 @@ pub trait Dirs {
         place: Place,
         now: u64,
         seconds: u64,
-    ) -> Result<PackedRows, DirError>
+    ) -> Result<VecDeque<FileName>, DirError>
         ensures meets { Obeys (list folder place) (device self.old) result (device self.new) }
-        ensures rows { IfOk result (λ rows. rows ≡ filter (is_old now seconds) (rows_of (device self.old).state folder place)) }
+        ensures names { IfOk result (λ names. names.items ≡ old_names now seconds (rows_of (device self.old).state folder place)) }
     {
-        let mut old = PackedRows::new(alloc);
+        let mut names = VecDeque::new(alloc);
         if folder >= self.folders() {
             self.find(folder, place, &[])?;
-            return Ok(old);
+            return Ok(names);
         }
         self.arrange(folder, place)?;
         let count = self.count(folder, place);
         let mut from = 0;
         while from < count {
             let rows = self.rows_from(alloc, folder, place, from)?;
-            old.push_old(alloc, &rows, now, seconds)?;
+            push_old(alloc, &mut names, &rows, now, seconds)?;
             from += rows.len();
         }
         self.find(folder, place, &[])?;
-        Ok(old)
+        Ok(names)
     }
 
     /// The number of folders.

@@ -1,16 +1,16 @@
 // Directories of which one call fails.
-ghost use Rattle.std.specs.Prelude.{◌≡◌, ◌+◌, ◌-◌, IsTrue, ◌↔◌, IsErrOf, IfOk, OnErr, filter, if◌then◌else◌};
+ghost use Rattle.std.specs.Prelude.{◌≡◌, ◌+◌, ◌-◌, IsTrue, ◌↔◌, IsErrOf, IfOk, OnErr, if◌then◌else◌};
 ghost use Rattle.md_dirs.specs.Calls.{Obeys, create, append, link, rename, unlink, list};
-ghost use Rattle.md_dirs.specs.Rows.{rows_of, row_named, is_old};
+ghost use Rattle.md_dirs.specs.Rows.{rows_of, row_named, old_names};
 
 use crate::calls::{DirError, Dirs};
 use crate::count::Count;
 use crate::hashing::HashSeed;
-use crate::packed::PackedRows;
 use crate::paths::{Path, Place};
 use crate::rows::{Row, RowRef};
-use md_name::Bytes;
+use md_name::{Bytes, FileName};
 use std::alloc::{AllocError, Global};
+use std::collections::VecDeque;
 
 /// Other directories, of which one call fails.
 ///
@@ -149,10 +149,10 @@ impl<D: Dirs> Dirs for FailAt<D> {
         place: Place,
         now: u64,
         seconds: u64,
-    ) -> Result<PackedRows, DirError>
+    ) -> Result<VecDeque<FileName>, DirError>
         ensures meets { Obeys (list folder place) (and_own D.device self.old) result (and_own D.device self.new) }
         ensures turn { IsTurn (list folder place) (failing D.device self.old) result (failing D.device self.new) }
-        ensures rows { IfOk result (λ rows. rows ≡ filter (is_old now seconds) (rows_of (D.device self.old.dirs).state folder place)) }
+        ensures names { IfOk result (λ names. names.items ≡ old_names now seconds (rows_of (D.device self.old.dirs).state folder place)) }
     {
         if self.is_due() {
             return Err(DirError::Fault);
@@ -191,7 +191,11 @@ impl<D: Dirs> Dirs for FailAt<D> {
         self.dirs.rows_unordered(alloc, folder, place)
     }
 
-    fn arrange(&mut self, folder: u32, place: Place) -> Result<(), AllocError> {
+    // It is no call, so it doesn't count.
+    fn arrange(&mut self, folder: u32, place: Place) -> Result<(), AllocError>
+        ensures device { and_own D.device self.new ≡ and_own D.device self.old }
+        ensures same { failing D.device self.new ≡ failing D.device self.old }
+    {
         self.dirs.arrange(folder, place)
     }
 

@@ -53,8 +53,9 @@ impl BuildHasher for HashSeed {
 
 /// The hasher of names: the library's `FoldHasher` with both of its words drawn.
 ///
-/// It multiplies 16 bytes at a time to 128 bits, and joins the halves by xor. Each factor hides a word of the seed. Where only one did, a name
-/// could be chosen whose other factor is 0, whatever the seed is.
+/// It multiplies 16 bytes at a time to 128 bits, and joins the halves by xor. A word of the seed is added to each factor by xor. Where that was
+/// done to only one, a name could be chosen whose other factor is 0, whatever the seed is. The first word is turned by the length, and not added
+/// to it: else names of several lengths could be chosen whose first bytes make up for it.
 #[derive(Clone, Copy)]
 pub struct NameHasher {
     state: u64,
@@ -114,7 +115,7 @@ impl Hasher for NameHasher {
             self.mix(short_word(bytes), len as u64);
             return;
         }
-        self.state = self.state.wrapping_add(len as u64);
+        self.state = self.state.rotate_left((len % 64) as u32);
         let mut at = 0;
         while len - at > 16 {
             self.mix(word_at(bytes, at), word_at(bytes, at + 8));

@@ -3,3 +3,4 @@ pub mod Deeds
 pub mod Sets
 pub mod NoMemory
 pub mod Turns
+pub mod Replies

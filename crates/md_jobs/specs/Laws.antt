@@ -1,11 +1,24 @@
 -- What the laws of the machines say of one turn.
-use Rattle.std.specs.Prelude.{◌≡◌, Some, IfSome}
+use Rattle.std.specs.Prelude.{ℕ, ◌≡◌, ◌≤◌, ◌++◌, List, [], length, drop, None, Some, IfSome}
 use Rattle.md_dirs.specs.Path.{path_of as path}
 use Rattle.md_dirs.specs.declared.paths.Path.{Path}
 use Rattle.md_dirs.specs.declared.paths.Place.TheVariants.{New}
 use Rattle.md_name.specs.declared.info.Info.{Info}
 use Rattle.md_jobs.specs.Asked.{Asked, create, append, link, unlink}
-use Rattle.md_jobs.specs.Machines.Purposes.{answer_by}
+use Rattle.md_dirs.specs.Rows.{row_named}
+use Rattle.md_dirs.specs.declared.rows.Row.{Row}
+use Rattle.md_jobs.specs.Asked.{rename}
+use Rattle.md_jobs.specs.Machines.Purposes.{answer_by, decide, info_in}
+use Rattle.md_jobs.specs.Machines.Refusals.{refused_by}
+use Rattle.md_jobs.specs.Tasks.Decision as decision
+use Rattle.md_jobs.specs.Tasks.Delivery.{Delivery}
+use Rattle.md_jobs.specs.Tasks.Delivery as delivery
+use Rattle.md_jobs.specs.Tasks.Errand as errand
+use Rattle.md_jobs.specs.Tasks.Refusal.{Refusal}
+use Rattle.md_jobs.specs.declared.answer.Answer.{Answer}
+use Rattle.md_jobs.specs.declared.answer.Answer.TheVariants as answer
+use Rattle.md_jobs.specs.declared.step.DirReply.{DirReply}
+use Rattle.md_jobs.specs.declared.step.DirReply.TheVariants as reply
 use Rattle.md_jobs.specs.Tasks.Errand.{Errand}
 use Rattle.md_jobs.specs.Tasks.Purpose.{Purpose}
 use Rattle.md_jobs.specs.Turn.{After}
@@ -21,3 +34,61 @@ IsOn p (append q bytes) = q ≡ p
 IsOn p (link old new) = (old ≡ p) × (new ≡ path p.folder New p.name)
 IsOn p (unlink q) = q ≡ p
 IsOn p asked = ⊥
+
+-- an effect only where the call was done; and an answer that is no effect is a refusal
+pub record IsDoneOrRefused {T : Type 0} (r : DirReply) (after : After T) : Type 0 where
+  pub done : IfSome after.effect (λ x. r ≡ reply.Ok)
+  pub refused : after.effect ≡ None → IfSome after.answer (λ a. (refusal : Refusal) × (a ≡ refused_by refusal))
+
+-- an errand that is to act, acts on the row of this reading that has its unique name, since its purpose decided so of that name
+abbrev pub IsRead : errand.Errand → DirReply → List Row → errand.Stage → Type 0
+IsRead e r rows (errand.Look place tries) = Unit {0}
+IsRead e r rows (errand.Act place row tries) =
+    (r ≡ reply.Ok) × ((row_named e.unique rows ≡ Some row) × (decide e.purpose (info_in row.name) ≡ decision.Act))
+
+-- the directory call renames this path, links it or takes it away
+abbrev pub IsAt : Path → Asked → Type 0
+IsAt p (rename old new) = old ≡ p
+IsAt p (link old new) = old ≡ p
+IsAt p (unlink q) = q ≡ p
+IsAt p asked = ⊥
+
+-- an errand that acts calls on the path of its row alone
+abbrev pub IsOnRow : errand.Errand → Asked → errand.Stage → Type 0
+IsOnRow e asked (errand.Look place tries) = Unit {0}
+IsOnRow e asked (errand.Act place row tries) = IsAt (path e.folder place row.name) asked
+
+-- what the appends that were done wrote to the file of a delivery, after one more call
+abbrev pub file_after : List ℕ → DirReply → Asked → List ℕ
+file_after file reply.Ok (create p) = []
+file_after file reply.Ok (append p bytes) = file ++ bytes
+file_after file r asked = file
+
+-- what a delivery still has to write is what its file lacks of the body, and a file that was linked has all of it
+abbrev pub IsHeld : List ℕ → List ℕ → delivery.Stage → Type 0
+IsHeld body file delivery.Start = Unit {0}
+IsHeld body file (delivery.Writing start k) = file ++ drop k body ≡ body
+IsHeld body file delivery.Linked = file ≡ body
+IsHeld body file (delivery.Undo refusal) = Unit {0}
+
+-- a link is asked for only of a file that has all bytes of the body
+abbrev pub LinksWhole : List ℕ → List ℕ → Asked → Type 0
+LinksWhole body file (link old new) = file ≡ body
+LinksWhole body file asked = Unit {0}
+
+-- one step of a delivery whose file has these bytes: its link is of the whole body, and so it stays
+pub record KeepsWhole (d : Delivery) (file : List ℕ) (asked : Asked) (r : DirReply) (after : After Delivery) : Type 0 where
+  pub whole : LinksWhole d.body file asked
+  pub body : after.task.body ≡ d.body
+  pub held : IsHeld d.body (file_after file r asked) after.task.stage
+
+-- a delivery has linked its file, if it is at this stage
+abbrev pub IsLinked : delivery.Stage → Type 0
+IsLinked delivery.Linked = Unit {0}
+IsLinked stage = ⊥
+
+-- a step of a delivery answers that it is delivered only once it is linked, and is linked only by a link that was done
+pub record IsDeliveredByLink (d : Delivery) (asked : Asked) (r : DirReply) (after : After Delivery) : Type 0 where
+  pub answered : after.answer ≡ Some answer.Delivered → IsLinked d.stage
+  pub linked : after.answer ≡ None → IsLinked after.task.stage → (r ≡ reply.Ok) × (asked ≡ link d.tmp (path d.tmp.folder New d.tmp.name))
+  pub effect : IfSome after.effect (λ x. (r ≡ reply.Ok) × (asked ≡ link d.tmp (path d.tmp.folder New d.tmp.name)))

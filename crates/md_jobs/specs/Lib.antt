@@ -4,4 +4,5 @@ pub mod Asked
 pub mod Turn
 pub mod Tasks
 pub mod Machines
+pub mod Requests
 pub mod Laws

@@ -1,16 +1,21 @@
 //! A clean: files of tmp that have not been used for 36 hours go.
-ghost use Rattle.std.specs.Prelude.{◌≡◌, IfOk, IfErr, OnErr, None};
+ghost use Rattle.std.specs.Prelude.{◌≡◌, List, IfOk, IfErr, OnErr, None};
+ghost use Rattle.md_dirs.specs.declared.rows.Row.{Row as RowView};
+ghost use Rattle.md_jobs.specs.Requests.{request_view};
 ghost use Rattle.md_jobs.specs.Tasks.Cleaning.{Remove};
+ghost use Rattle.md_jobs.specs.Tasks.Views.Stages.{next_of};
 ghost use Rattle.md_jobs.specs.Turn.{Takes, IsUntouched};
-ghost use Rattle.md_jobs.specs.Machines.Clean.{new_cleaning, cleaning_turn, look_turn, unlink_turn, after_old, after_unlink, tmp as tmp_of};
+ghost use Rattle.md_jobs.specs.Machines.Clean.{new_cleaning, old_names, cleaning_turn, look_turn, unlink_turn, after_old, after_unlink, tmp as tmp_of};
 
 use crate::answer::Answer;
 use crate::error::CoreError;
 use crate::refusal::Refusal;
+use crate::request::{PathRef, Request};
 use crate::step::{DirCall, DirReply, Moment};
 use crate::turn::{Turned, reply_of};
-use md_dirs::{Dirs, FileName, PackedRows, Path, Place};
+use md_dirs::{Dirs, FileName, Path, Place};
 use std::alloc::{AllocError, Global};
+use std::collections::VecDeque;
 use std::marker::Model;
 
 /// A file of tmp that was not used for 36 hours, in seconds, is old (maildir(5)).
@@ -23,8 +28,8 @@ const LIST: DirCall = DirCall::List(Place::Tmp);
 pub enum Stage {
     /// The directory is listed.
     Look,
-    /// The names of these rows are taken away, one after another. So many files will be removed by then, if none is gone before.
-    Remove { old: PackedRows, files: u64 },
+    /// These names are taken away, one after another. So many files will be removed by then, if none is gone before.
+    Remove { old: VecDeque<FileName>, files: u64 },
 }
 
 /// A clean of a folder.
@@ -73,6 +78,42 @@ impl Cleaning {
         match &self.stage {
             Stage::Look => self.look(alloc, dirs, at),
             Stage::Remove { .. } => self.unlink(alloc, dirs, at),
+        }
+    }
+
+    /// The directory call that is next, with its paths.
+    pub fn request(&self) -> Request<'_>
+        ensures { (own : _) → request_view result ≡ (cleaning_turn self.now own).asked }
+    {
+        match &self.stage {
+            Stage::Look => Request::List {
+                folder: self.folder,
+                place: Place::Tmp,
+            },
+            Stage::Remove { old, .. } => Request::Unlink {
+                path: PathRef::new(self.folder, Place::Tmp, next_name(old)),
+            },
+        }
+    }
+
+    /// Goes on by what the directories replied, whatever it is: of a reading that was done, the names of the old files.
+    pub fn take(&mut self, reply: DirReply, old: VecDeque<FileName>) -> Turned
+        ensures follows { (own : _) → (rows : List RowView) → old.items ≡ old_names own rows → (cleaning_turn self.old own).follows reply rows ≡
+            record { task = self.new; answer = result.out.answer; effect = result.effect.value } }
+        ensures plain { result.effect.value ≡ None }
+    {
+        match &self.stage {
+            Stage::Look => {
+                if reply != DirReply::Ok {
+                    return Turned::plain(LIST, reply, Some(Refusal::Fault.answer()));
+                }
+                let said = self.listed(old);
+                Turned::plain(LIST, reply, said)
+            }
+            Stage::Remove { .. } => {
+                let answer = self.unlinked(reply);
+                Turned::plain(DirCall::Unlink, reply, answer)
+            }
         }
     }
 
@@ -132,7 +173,7 @@ impl Cleaning {
     {
         let name = match &self.stage {
             Stage::Look => b"".as_slice(),
-            Stage::Remove { old, .. } => old.first_name(),
+            Stage::Remove { old, .. } => next_name(old),
         };
         Ok(Path {
             folder: self.folder,
@@ -141,9 +182,9 @@ impl Cleaning {
         })
     }
 
-    // A listing was made, and these rows are of old files.
-    fn listed(&mut self, old: PackedRows) -> Option<Answer>
-        ensures { after_old self.old old ≡ record { task = self.new; answer = result; effect = None } }
+    // A listing was made, and these are the names of old files.
+    fn listed(&mut self, old: VecDeque<FileName>) -> Option<Answer>
+        ensures { after_old self.old old.items ≡ record { task = self.new; answer = result; effect = None } }
     {
         let files = old.len() as u64;
         if old.is_empty() {
@@ -169,8 +210,18 @@ impl Cleaning {
         if old.len() <= 1 {
             return Some(Answer::Cleaned(left));
         }
-        old.drop_first();
+        let _gone = old.pop_front();
         *files = left;
         None
+    }
+}
+
+// The name that is next, and no byte where none is left.
+fn next_name(old: &VecDeque<FileName>) -> &[u8]
+    ensures { result.now ≡ next_of old.now.items }
+{
+    match old.front() {
+        Some(name) => name.as_slice(),
+        None => &[],
     }
 }

@@ -1,6 +1,8 @@
 //! A delivery: "Using maildir format", steps 3 to 6.
 ghost use Rattle.std.specs.Prelude.{◌≡◌, ◌+◌, ◌-◌, ◌^◌, ◌<◌, ◌≤◌, ◌++◌, length, take, drop, min, vec_len, vec_capacity, None, IfOk, IfErr, OnErr, is_some};
 ghost use Rattle.std.specs.Option.{option_to_list};
+ghost use Rattle.md_jobs.specs.Asked.{shown_call};
+ghost use Rattle.md_jobs.specs.Requests.{request_view, ready_turn, IsDeliveryReady};
 ghost use Rattle.md_jobs.specs.Turn.{Takes, IsUntouched};
 ghost use Rattle.md_jobs.specs.Machines.Deliver.{new_delivery, at_stage, after_create, after_append, after_link, create_turn, append_turn, link_turn, unlink_turn, delivery_turn, delivery_effect, piece_len, target as target_of, is_in_time as is_in_time_by};
 ghost use Rattle.md_jobs.specs.Tasks.Delivery.{Delivery as DeliveryView, Start, Writing};
@@ -12,6 +14,7 @@ use crate::effect::{Change, Effect};
 use crate::error::CoreError;
 use crate::image::Image;
 use crate::refusal::Refusal;
+use crate::request::{PathRef, Request};
 use crate::step::{DirCall, DirReply, Moment};
 use crate::turn::{Turned, reply_of};
 use md_dirs::{Bytes, Dirs, FileName, Path, Place};
@@ -29,6 +32,19 @@ pub enum Stage {
     Linked,
     /// The file in tmp goes, and then the job is refused so.
     Undo(Refusal),
+}
+
+/// What a delivery has made ready for its next directory call.
+#[derive(Drop)]
+pub enum DeliveryReady {
+    /// Its file is made, at this moment of its own clock.
+    Create { own: u64 },
+    /// The next piece is written.
+    Append { start: u64, written: u64 },
+    /// The file is linked; this is a copy of its name, for the effect.
+    Link { name: Bytes },
+    /// The file's name in tmp goes, and then the job has this answer.
+    Unlink { answer: Answer },
 }
 
 /// A delivery is given up after 24 hours, in seconds.
@@ -155,6 +171,98 @@ impl Delivery {
             }
             Stage::Linked => self.unlink(dirs, at, Answer::Delivered),
             Stage::Undo(refusal) => self.unlink(dirs, at, refusal.answer()),
+        }
+    }
+
+    /// Makes the next directory call ready, so that it needs no memory, nor what follows it. Nothing has changed.
+    pub fn ask(&self, alloc: Global, at: Moment) -> Result<DeliveryReady, CoreError>
+        ensures ready { IfOk result (λ ready. IsDeliveryReady self.now ready) }
+        ensures turn { IfOk result (λ ready. (job : _) → ready_turn job self.now ready ≡ delivery_turn job self.now at) }
+        ensures memory { IfErr result (λ e. e ≡ CoreError.NoMemory) }
+    {
+        match self.stage {
+            Stage::Start => Ok(DeliveryReady::Create { own: at.own }),
+            Stage::Writing { start, written } => {
+                if !is_in_time(start, at.own) {
+                    return Ok(DeliveryReady::Unlink {
+                        answer: Refusal::TimedOut.answer(),
+                    });
+                }
+                if self.size > written {
+                    return Ok(DeliveryReady::Append { start, written });
+                }
+                Ok(DeliveryReady::Link {
+                    name: Bytes::copied(alloc, self.tmp.name.as_slice())?,
+                })
+            }
+            Stage::Linked => Ok(DeliveryReady::Unlink {
+                answer: Answer::Delivered,
+            }),
+            Stage::Undo(refusal) => Ok(DeliveryReady::Unlink {
+                answer: refusal.answer(),
+            }),
+        }
+    }
+
+    /// The directory call that is next, with its paths.
+    pub fn request<'a>(&'a self, ready: &'a DeliveryReady) -> Request<'a>
+        requires { IsDeliveryReady self.now ready.now }
+        ensures { (job : _) → request_view result ≡ (ready_turn job self.now ready.now).asked }
+    {
+        let Path {
+            folder,
+            place,
+            name,
+        } = &self.tmp;
+        let name = name.as_slice();
+        let path = PathRef::new(*folder, *place, name);
+        match ready {
+            DeliveryReady::Create { .. } => Request::Create { path },
+            DeliveryReady::Append { written, .. } => Request::Append {
+                path,
+                bytes: piece(self.body.as_slice(), self.chunk, *written),
+            },
+            DeliveryReady::Link { .. } => Request::Link {
+                old: path,
+                new: PathRef::new(*folder, Place::New, name),
+            },
+            DeliveryReady::Unlink { .. } => Request::Unlink { path },
+        }
+    }
+
+    /// Goes on by what the directories replied, whatever it is. Adds the effect, where this is one.
+    pub fn take(
+        &mut self,
+        job: JobId,
+        ready: DeliveryReady,
+        reply: DirReply,
+        effects: &mut Vec<Effect>,
+    ) -> Turned
+        requires ready { IsDeliveryReady self.old ready }
+        requires room { vec_len effects.old < vec_capacity effects.old }
+        ensures follows { (rows : _) → (ready_turn job self.old ready).follows reply rows ≡
+            record { task = self.new; answer = result.out.answer; effect = result.effect.value } }
+        ensures shown { (result.out.call ≡ shown_call (ready_turn job self.old ready).asked) × (result.out.reply ≡ reply) }
+        ensures effect { result.out.effect ≡ is_some result.effect.value }
+        ensures pushed { effects.new.items ≡ effects.old.items ++ option_to_list result.effect.value }
+    {
+        match ready {
+            DeliveryReady::Create { own } => {
+                let answer = self.created(own, reply);
+                Turned::plain(DirCall::Create, reply, answer)
+            }
+            DeliveryReady::Append { start, written } => {
+                let len = piece(self.body.as_slice(), self.chunk, written).len() as u64;
+                let answer = appended(&mut self.stage, start, written + len, reply);
+                Turned::plain(DirCall::Append(len), reply, answer)
+            }
+            DeliveryReady::Link { name } => {
+                let effect = self.effect(job, name);
+                self.linked(reply, effect, effects)
+            }
+            DeliveryReady::Unlink { answer } => {
+                Turned::plain(DirCall::Unlink, reply, Some(answer))
+            }
         }
     }
 

@@ -1,6 +1,9 @@
 //! An errand: it looks for a message in one place after the other, decides what to do with it, and does that. Seen, Flag, Move, Copy and
 //! Expunge are errands, each a row of the table in `purpose.rt`.
-ghost use Rattle.std.specs.Prelude.{◌≡◌, ◌<◌, ◌++◌, vec_len, vec_capacity, IfOk, IfErr, OnErr, is_some};
+ghost use Rattle.std.specs.Prelude.{◌≡◌, ◌<◌, ◌++◌, List, vec_len, vec_capacity, IfOk, IfErr, OnErr, is_some};
+ghost use Rattle.md_dirs.specs.Rows.{row_named};
+ghost use Rattle.md_dirs.specs.declared.rows.Row.{Row as RowView};
+ghost use Rattle.md_jobs.specs.Requests.{request_view, IsErrandReady};
 ghost use Rattle.std.specs.Option.{option_to_list};
 ghost use Rattle.md_jobs.specs.Turn.{Takes, TakesOrEnds, FollowsOrEnds, IsUntouched};
 ghost use Rattle.md_jobs.specs.Asked.{shown_call};
@@ -15,6 +18,7 @@ use crate::effect::{Change, Effect};
 use crate::error::CoreError;
 use crate::purpose::{Decision, Deed, Purpose};
 use crate::refusal::Refusal;
+use crate::request::Request;
 use crate::step::{DirCall, DirReply, Moment};
 use crate::target::Target;
 use crate::turn::{Turned, look, reply_of};
@@ -28,6 +32,15 @@ pub enum Stage {
     Look { tries: u64 },
     /// The message was found by the path, with its file's stamp and size, and its name is acted on.
     Act { stamp: u64, size: u64, tries: u64 },
+}
+
+/// What an errand has made ready for its next directory call.
+#[derive(Drop)]
+pub enum ErrandReady {
+    /// The directory is read.
+    Look,
+    /// This is done with the message that was found, and is answered so.
+    Act { deed: Deed, answer: Answer },
 }
 
 /// An errand on the message of a unique name. The directory calls borrow its path, and a change that is done takes its name.
@@ -81,6 +94,71 @@ impl Errand {
                 let made = deed.make(alloc, dirs, self.path.path())?;
                 let reply = reply_of(made)?;
                 Ok(self.acted(alloc, job, deed, answer, size, tries, reply, effects))
+            }
+        }
+    }
+
+    /// Makes the next directory call ready, so that it needs no memory, nor what follows it. Nothing has changed.
+    pub fn ask(&self, alloc: Global) -> Result<ErrandReady, CoreError>
+        ensures ready { IfOk result (λ ready. IsErrandReady (errand_view self.now) (errand_view self.now).stage ready) }
+        ensures memory { IfErr result (λ e. e ≡ CoreError.NoMemory) }
+    {
+        match self.stage {
+            Stage::Look { .. } => Ok(ErrandReady::Look),
+            Stage::Act { .. } => {
+                let (deed, answer) = self.purpose.deed(alloc, &self.unique, &self.path)?;
+                Ok(ErrandReady::Act { deed, answer })
+            }
+        }
+    }
+
+    /// The directory call that is next, with its paths.
+    pub fn request<'a>(&'a self, ready: &'a ErrandReady) -> Request<'a>
+        requires { IsErrandReady (errand_view self.now) (errand_view self.now).stage ready.now }
+        ensures { (job : _) → request_view result ≡ (errand_turn job (errand_view self.now)).asked }
+    {
+        let path = self.path.path();
+        match ready {
+            ErrandReady::Look => Request::List {
+                folder: path.folder,
+                place: path.place,
+            },
+            ErrandReady::Act { deed, .. } => deed.request(path),
+        }
+    }
+
+    /// Goes on by what the directories replied, whatever it is: of a reading that was done, the row of the message. Adds the effect, where
+    /// this is one.
+    pub fn take(
+        &mut self,
+        alloc: Global,
+        job: JobId,
+        ready: ErrandReady,
+        reply: DirReply,
+        row: Option<Row>,
+        effects: &mut Vec<Effect>,
+    ) -> Turned
+        requires ready { IsErrandReady (errand_view self.old) (errand_view self.old).stage ready }
+        requires room { vec_len effects.old < vec_capacity effects.old }
+        ensures follows { (rows : List RowView) → row ≡ row_named self.old.unique rows →
+            FollowsOrEnds ((errand_turn job (errand_view self.old)).follows reply rows)
+            (errand_view self.new) result.out.answer result.effect.value }
+        ensures shown { (result.out.call ≡ shown_call (errand_turn job (errand_view self.old)).asked) × (result.out.reply ≡ reply) }
+        ensures effect { result.out.effect ≡ is_some result.effect.value }
+        ensures pushed { effects.new.items ≡ effects.old.items ++ option_to_list result.effect.value }
+    {
+        match ready {
+            ErrandReady::Look => {
+                let Stage::Look { tries } = self.stage else {
+                    unreachable!()
+                };
+                self.looked(job, reply, row, tries, effects)
+            }
+            ErrandReady::Act { deed, answer } => {
+                let Stage::Act { size, tries, .. } = self.stage else {
+                    unreachable!()
+                };
+                self.acted(alloc, job, deed, answer, size, tries, reply, effects)
             }
         }
     }

@@ -1,14 +1,15 @@
 //! Laws of the machines, whatever the directories answer. Each function does nothing: its contract is the law. They state hours and places
 //! themselves, so that a machine that is wrong in its definition and in its code alike does not meet them.
-ghost use Rattle.std.specs.Prelude.{ℕ, ◌≤◌, ◌-◌, List};
+ghost use Rattle.std.specs.Prelude.{ℕ, ◌≡◌, ◌<◌, ◌≤◌, ◌-◌, List, None};
 ghost use Rattle.std.specs.List.{All};
 ghost use Rattle.md_dirs.specs.declared.rows.Row.{Row};
 ghost use Rattle.md_jobs.specs.declared.step.DirReply.{DirReply as Reply};
 ghost use Rattle.md_jobs.specs.declared.step.Moment.{Moment};
-ghost use Rattle.md_jobs.specs.Laws.{IsLast, IsOn};
+ghost use Rattle.md_jobs.specs.Laws.{IsLast, IsOn, IsDoneOrRefused, IsRead, IsOnRow, IsHeld, KeepsWhole, IsDeliveredByLink};
 ghost use Rattle.md_jobs.specs.Machines.Clean.{old_rows};
 ghost use Rattle.md_jobs.specs.Machines.Deliver.{delivery_turn};
-ghost use Rattle.md_jobs.specs.Machines.Errand.{errand_turn};
+ghost use Rattle.md_jobs.specs.Machines.Errand.{errand_turn, steps_left};
+ghost use Rattle.md_jobs.specs.Machines.Purposes.{searches};
 ghost use Rattle.md_jobs.specs.Tasks.Delivery.{Delivery};
 ghost use Rattle.md_jobs.specs.Tasks.Errand.{Errand};
 
@@ -25,4 +26,38 @@ pub fn a_delivery_keeps_to_its_path()
 /// What a clean takes for old was not used for 36 hours, in seconds, by the clock of the job.
 pub fn old_files_are_unused_for_36_hours()
     ensures { (own : ℕ) → (rows : List Row) → All (λ row. 129600 ≤ own - row.stamp) (old_rows own rows) }
+{}
+
+/// An errand has its effect at a call that was done, and any answer without it is a refusal.
+pub fn an_errand_succeeds_by_a_call_that_was_done()
+    ensures { (job : ℕ) → (e : Errand) → (reply : Reply) → (rows : List Row) → IsDoneOrRefused reply ((errand_turn job e).follows reply rows) }
+{}
+
+/// An errand that goes on to act does so on a row of this very reading, by its unique name, whose name its purpose decides on.
+pub fn an_errand_acts_on_what_it_read()
+    ensures { (job : ℕ) → (e : Errand) → (reply : Reply) → (rows : List Row) → ((errand_turn job e).follows reply rows).answer ≡ None →
+        IsRead e reply rows ((errand_turn job e).follows reply rows).task.stage }
+{}
+
+/// An errand that acts renames, links or takes away the path of its row, and no other.
+pub fn an_errand_keeps_to_its_row()
+    ensures { (job : ℕ) → (e : Errand) → IsOnRow e (errand_turn job e).asked e.stage }
+{}
+
+/// A delivery asks for its link only once all bytes of its body were written by appends that were done.
+pub fn a_delivery_links_what_it_wrote()
+    ensures { (job : ℕ) → (d : Delivery) → (at : Moment) → (file : List ℕ) → IsHeld d.body file d.stage → (reply : Reply) → (rows : List Row) →
+        KeepsWhole d file (delivery_turn job d at).asked reply ((delivery_turn job d at).follows reply rows) }
+{}
+
+/// A delivery answers that it is delivered only after its link was done.
+pub fn a_delivery_is_delivered_by_its_link()
+    ensures { (job : ℕ) → (d : Delivery) → (at : Moment) → (reply : Reply) → (rows : List Row) →
+        IsDeliveredByLink d (delivery_turn job d at).asked reply ((delivery_turn job d at).follows reply rows) }
+{}
+
+/// Each call leaves an errand fewer to make: at the beginning at most three for each try.
+pub fn an_errand_makes_fewer_calls_each_time()
+    ensures { (job : ℕ) → (e : Errand) → (reply : Reply) → (rows : List Row) → ((errand_turn job e).follows reply rows).answer ≡ None →
+        steps_left (searches e.purpose) ((errand_turn job e).follows reply rows).task.stage < steps_left (searches e.purpose) e.stage }
 {}

@@ -5,6 +5,7 @@ ghost use Rattle.md_dirs.specs.Path.{path_of};
 ghost use Rattle.md_dirs.specs.Calls.{Obeys};
 ghost use Rattle.md_jobs.specs.Tasks.Views.Purposes.{purpose_view, decision_view, deed_view, refusal_view};
 ghost use Rattle.md_name.specs.Names.{flags_of, flagged};
+ghost use Rattle.md_jobs.specs.Requests.{request_view};
 ghost use Rattle.md_jobs.specs.Sets.{is_same_set};
 ghost use Rattle.md_jobs.specs.Turn.{IsUntouched};
 ghost use Rattle.md_jobs.specs.Asked.{ask_of, shown_call};
@@ -15,6 +16,7 @@ use crate::answer::Answer;
 use crate::effect::Change;
 use crate::error::CoreError;
 use crate::refusal::Refusal;
+use crate::request::Request;
 use crate::spot::Spot;
 use crate::step::DirCall;
 use crate::target::Target;
@@ -298,6 +300,24 @@ impl Deed {
             Deed::Rename { new } => Ok(dirs.rename(&old, &new.path(alloc)?)),
             Deed::Link { new } => Ok(dirs.link(&old, &new.path(alloc)?)),
             Deed::Unlink => Ok(dirs.unlink(&old)),
+        }
+    }
+
+    /// The directory call on this path, with its paths.
+    pub(crate) fn request<'a>(&'a self, old: &'a Spot) -> Request<'a>
+        ensures { request_view result ≡ asked_of (deed_view old.now self.now) }
+    {
+        let old = old.lent();
+        match self {
+            Deed::Rename { new } => Request::Rename {
+                old,
+                new: new.lent(),
+            },
+            Deed::Link { new } => Request::Link {
+                old,
+                new: new.lent(),
+            },
+            Deed::Unlink => Request::Unlink { path: old },
         }
     }
 

@@ -2,6 +2,7 @@
 ghost use Rattle.std.specs.Prelude.{◌≡◌, [], IfOk};
 ghost use Rattle.md_dirs.specs.Path.{path_of};
 
+use crate::request::PathRef;
 use md_dirs::{Bytes, FileName, Path, Place};
 use std::alloc::{AllocError, Global};
 use std::marker::Model;
@@ -46,5 +47,12 @@ impl Spot {
             place: self.place,
             name: FileName::copied(alloc, self.name.as_slice())?,
         })
+    }
+
+    /// The path, lent.
+    pub(crate) fn lent(&self) -> PathRef<'_>
+        ensures { result ≡ self.now }
+    {
+        PathRef::new(self.folder, self.place, self.name.as_slice())
     }
 }

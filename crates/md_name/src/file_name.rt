@@ -1,5 +1,5 @@
 // The name of a file, in place where it is short.
-ghost use Rattle.std.specs.Prelude.{◌≡◌, IfOk};
+ghost use Rattle.std.specs.Prelude.{◌≡◌, ◌≤◌, IfOk, IsOk, length};
 
 use crate::bytes::Bytes;
 use crate::short::Short;
@@ -42,9 +42,10 @@ impl FileName {
         FileName { room }
     }
 
-    /// A name of copied bytes. It is refused only when out of memory.
+    /// A name of copied bytes. It is refused only when out of memory, and a name of at most 53 bytes never is.
     pub fn copied(alloc: Global, name: &[u8]) -> Result<Self, AllocError>
-        ensures { IfOk result (λ copy. copy ≡ name.now) }
+        ensures copy { IfOk result (λ copy. copy ≡ name.now) }
+        ensures short { length name.now ≤ 53 → IsOk result }
     {
         let room = match Short::copied(name) {
             Some(short) => Room::Short(short),
@@ -53,9 +54,10 @@ impl FileName {
         Ok(FileName { room })
     }
 
-    /// A copy of this name. It is refused only when out of memory.
+    /// A copy of this name. It is refused only when out of memory, and that of a name of at most 53 bytes never is.
     pub fn again(&self, alloc: Global) -> Result<Self, AllocError>
-        ensures { IfOk result (λ copy. copy ≡ self.now) }
+        ensures copy { IfOk result (λ copy. copy ≡ self.now) }
+        ensures short { length self.now ≤ 53 → IsOk result }
     {
         FileName::copied(alloc, self.as_slice())
     }

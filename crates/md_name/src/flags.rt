@@ -4,7 +4,7 @@ ghost use Rattle.std.specs.List.{list_all};
 ghost use Rattle.std.specs.FinSet as set;
 ghost use Rattle.md_name.specs.declared.error.NameError.TheVariants.{NoMemory, BadFlag};
 ghost use Rattle.md_name.specs.Letters.{is_letter, letters, IsOfLetters, spelling};
-ghost use Rattle.md_name.specs.Words.{place_of};
+ghost use Rattle.md_name.specs.Words.{place_of, word_of};
 
 use crate::error::NameError;
 use std::alloc::{AllocError, Global};
@@ -126,10 +126,10 @@ impl Flags {
     }
 
     /// Appends the letters of the flags in ASCII order, each once. It takes memory only where the text has no room for them. Where memory
-    /// runs out, the text is as it was, or has some of the letters more.
+    /// runs out, the text has the first of the letters more, or none.
     pub fn write_onto(self, text: &mut Vec<u8>) -> Result<(), AllocError>
         ensures ok { OnOk result (text.new.items ≡ text.old.items ++ spelling self) }
-        ensures err { OnErr result (take (length text.old.items) text.new.items ≡ text.old.items) }
+        ensures err { OnErr result ((n : ℕ) × (text.new.items ≡ text.old.items ++ take n (spelling self))) }
     {
         let mut place = 0usize;
         loop {
@@ -142,6 +142,13 @@ impl Flags {
             text.push(LETTERS[next])?;
             place = next + 1;
         }
+    }
+
+    /// The set as a word: a bit for each letter, A's the lowest, a's the 27th.
+    pub fn bits(self) -> u64
+        ensures { result ≡ word_of self }
+    {
+        self.word
     }
 
     /// How many flags there are.

@@ -35,6 +35,7 @@ impl BegunListing {
     ) -> Result<BegunListing, ViewError>
         ensures begun { IfOk result (λ listing. HasBegun world.now listing) }
         ensures folder { IfOk result (λ listing. listing.folder ≡ folder) }
+        ensures there { IfOk result (λ _. folder < (dirs_of world.now).folders) }
         ensures moment { IfOk result (λ listing. listing.begun ≡ length world.now.events) }
         ensures refusal { IfErr result (λ error. error ≡ reading_refusal (dirs_of world.now) folder) }
     {
@@ -50,6 +51,7 @@ impl BegunListing {
     pub fn finish<D: Dirs>(&self, alloc: Global, world: &World<D>) -> Result<Vec<Entry>, ViewError>
         requires { HasBegun world.now self.now }
         ensures entries { IfOk result (λ all. all.items ≡ listing_of (names_at world.now) self.now.folder self.now.begun (length world.now.events)) }
+        ensures folder { IfOk result (λ _. self.now.folder < (dirs_of world.now).folders) }
         ensures law { IfOk result (λ all. IsGoodListing (names_at world.now) self.now.folder self.now.begun (length world.now.events) all.items) }
         ensures refusal { IfErr result (λ error. error ≡ reading_refusal (dirs_of world.now) self.now.folder) }
     {
@@ -82,6 +84,7 @@ impl BegunListing {
 /// `reading` is.
 pub fn list<D: Dirs>(alloc: Global, world: &World<D>, folder: u32) -> Result<Vec<Entry>, ViewError>
     ensures entries { IfOk result (λ all. all.items ≡ listing_of (names_at world.now) folder (length world.now.events) (length world.now.events)) }
+    ensures folder { IfOk result (λ _. folder < (dirs_of world.now).folders) }
     ensures refusal { IfErr result (λ error. error ≡ reading_refusal (dirs_of world.now) folder) }
 {
     let all = list_lent(alloc, world, folder)?.into_vec(alloc)?;

@@ -72,11 +72,8 @@ fn lists_old<D: Dirs>(
             continue;
         };
         if now.saturating_sub(row.stamp()) >= seconds {
-            assert!(rt;
-                !old.is_empty() && old.first_name() == row.name(),
-                "row {at}"
-            );
-            old.drop_first();
+            let name = old.pop_front();
+            assert!(rt; name.is_some_and(|name| name.as_slice() == row.name()), "row {at}");
         }
     }
     assert!(rt; old.is_empty(), "old at {now}");

@@ -1,6 +1,6 @@
 -- The machine of a clean: it lists tmp of its folder, and takes away each name whose file has not been used for 36 hours, one at a turn, in
 -- their order.
-use Rattle.std.specs.Prelude.{ℕ, ◌+◌, ◌-◌, List, [], ◌∷◌, Bool, nat_le, filter, length}
+use Rattle.std.specs.Prelude.{ℕ, ◌+◌, ◌-◌, List, [], ◌∷◌, Bool, nat_le, map, filter, length}
 use Rattle.md_dirs.specs.Path.{path_of as path}
 use Rattle.md_dirs.specs.Rows.{rows_of}
 use Rattle.md_dirs.specs.State.{State}
@@ -40,24 +40,28 @@ is_old own row = nat_le least_seconds (own - row.stamp)
 abbrev pub old_rows : ℕ → List Row → List Row
 old_rows own rows = filter (is_old own) rows
 
--- The names that are left are taken away one by one. So many files will be removed by then, if none of those that are left is gone before.
-abbrev pub after_next : Cleaning → List Row → ℕ → After Cleaning
-after_next c [] files = ends c (answer.Cleaned files)
-after_next c (row ∷ rest) files = goes_on (at_stage c (Remove row.name rest files))
+-- the names of the rows whose files are old
+abbrev pub old_names : ℕ → List Row → List (List ℕ)
+old_names own rows = map (λ row. row.name) (old_rows own rows)
 
--- how it goes on from the old rows of the listing; so many files will be removed
-abbrev pub after_old : Cleaning → List Row → After Cleaning
+-- The names that are left are taken away one by one. So many files will be removed by then, if none of those that are left is gone before.
+abbrev pub after_next : Cleaning → List (List ℕ) → ℕ → After Cleaning
+after_next c [] files = ends c (answer.Cleaned files)
+after_next c (name ∷ rest) files = goes_on (at_stage c (Remove name rest files))
+
+-- how it goes on from the names of old files in the listing; so many files will be removed
+abbrev pub after_old : Cleaning → List (List ℕ) → After Cleaning
 after_old c old = after_next c old (length old)
 
 -- how it goes on after the listing; directories that can't be listed end it with Fault
 abbrev pub after_look : Cleaning → ℕ → DirReply → List Row → After Cleaning
-after_look c own reply.Ok rows = after_old c (old_rows own rows)
+after_look c own reply.Ok rows = after_old c (old_names own rows)
 after_look c own reply.Exists rows = refuses c Fault
 after_look c own reply.NotFound rows = refuses c Fault
 after_look c own reply.Fault rows = refuses c Fault
 
 -- a name that is gone was not removed by this job
-abbrev pub after_unlink : Cleaning → List Row → ℕ → DirReply → After Cleaning
+abbrev pub after_unlink : Cleaning → List (List ℕ) → ℕ → DirReply → After Cleaning
 after_unlink c rest files reply.Ok = after_next c rest files
 after_unlink c rest files reply.Exists = refuses c Fault
 after_unlink c rest files reply.NotFound = after_next c rest (files - 1)
@@ -68,7 +72,7 @@ abbrev pub look_turn : Cleaning → ℕ → Turn Cleaning
 look_turn c own = record { asked = list c.folder Tmp; follows = λ r rows. after_look c own r rows }
 
 -- the unlink of a name of tmp
-abbrev pub unlink_turn : Cleaning → List ℕ → List Row → ℕ → Turn Cleaning
+abbrev pub unlink_turn : Cleaning → List ℕ → List (List ℕ) → ℕ → Turn Cleaning
 unlink_turn c name rest files = record { asked = unlink (tmp c name); follows = λ r rows. after_unlink c rest files r }
 
 -- the turn at a stage

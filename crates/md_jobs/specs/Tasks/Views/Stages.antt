@@ -1,6 +1,5 @@
 -- What the definitions see of how far the code's tasks have come.
-use Rattle.std.specs.Prelude.{drop}
-use Rattle.md_dirs.specs.Rows.{first_name}
+use Rattle.std.specs.Prelude.{ℕ, List, [], ◌∷◌, drop}
 use Rattle.md_dirs.specs.declared.paths.Path.{Path}
 use Rattle.md_jobs.specs.Tasks.Errand as errand
 use Rattle.md_jobs.specs.Tasks.Delivery as delivery
@@ -25,7 +24,12 @@ delivery_stage (delivery_at.Writing start written) = delivery.Writing start writ
 delivery_stage delivery_at.Linked = delivery.Linked
 delivery_stage (delivery_at.Undo refusal) = delivery.Undo (refusal_view refusal)
 
--- how far a clean has come, as the definitions see it: the name that is next is that of the first row that is left
+-- the name that is next, and no byte where none is left
+abbrev pub next_of : List (List ℕ) → List ℕ
+next_of [] = []
+next_of (name ∷ rest) = name
+
+-- how far a clean has come, as the definitions see it
 abbrev pub cleaning_stage : CleaningStage → cleaning.Stage
 cleaning_stage cleaning_at.Look = cleaning.Look
-cleaning_stage (cleaning_at.Remove old files) = cleaning.Remove (first_name old) (drop 1 old) files
+cleaning_stage (cleaning_at.Remove old files) = cleaning.Remove (next_of old.items) (drop 1 old.items) files

@@ -1,5 +1,5 @@
-use Rattle.std.proofs.Common.{[], ◌∷◌, ◌≡◌, ◌≤◌, ◌∙◌, IsPermutation, Some, refl, sym, ap, subst, length, map, slice_get, arith}
-use Rattle.std.proofs.lemmas.List.{length-map, map_push, take_all}
+use Rattle.std.proofs.Common.{[], ◌∷◌, ◌≡◌, ◌≤◌, ◌∙◌, IsPermutation, Some, refl, sym, ap, subst, length, slice_get, arith}
+use Rattle.std.proofs.lemmas.List.{take_all}
 use Rattle.std.proofs.lemmas.List.Sorted.{IsPermutation-refl}
 use Rattle.md_dirs.specs.Rows.{rows_of}
 use Rattle.md_dirs.proofs.Lent.{one-next, past, gathered}

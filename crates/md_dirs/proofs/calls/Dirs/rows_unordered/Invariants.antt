@@ -1,4 +1,4 @@
-use Rattle.std.proofs.Common.{◌≡◌, ◌-◌, length, map, take}
+use Rattle.std.proofs.Common.{◌≡◌, ◌-◌, length, take}
 use Rattle.md_dirs.specs.Rows.{rows_of}
 use Rattle.md_dirs.proofs.calls.Dirs.rows_unordered.Given as goal
 

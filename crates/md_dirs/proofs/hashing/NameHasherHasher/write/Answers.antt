@@ -10,7 +10,7 @@ returns-then-len-le8 c = rw (c.mix.ensures, c.short_word.ensures, le-leb (length
 
 pub loop-at-init : goal.loop-at-init
 unfolding mix_blocks
-loop-at-init c = (refl, omega arith, refl)
+loop-at-init c = (refl, omega arith, rw c.rotate_left-self.ensures refl)
 
 pub loop-at-preserved : goal.loop-at-preserved
 unfolding mix_blocks

@@ -1,6 +1,6 @@
-use Rattle.std.proofs.Common.{◌∙◌, filter, is_some, sym, ap, subst}
+use Rattle.std.proofs.Common.{◌∙◌, is_some, sym, ap, subst}
 use Rattle.md_dirs.specs.Calls.{Obeys, list}
-use Rattle.md_dirs.specs.Rows.{rows_of, is_old}
+use Rattle.md_dirs.specs.Rows.{rows_of, old_names}
 use Rattle.md_dirs.specs.declared.paths.Place.TheVariants.{Tmp}
 use Rattle.md_jobs.specs.Machines.Clean.{look_turn, after_old}
 use Rattle.md_jobs.specs.Tasks.Cleaning.{Cleaning}
@@ -15,7 +15,7 @@ returns-in-Ok-clause-ok g c =
     let after = g.D.Dirs.device c.list_old.new.self in
     let folder = ap (λ (t : Cleaning). t.folder) c.self.view_is in
     let meets = subst (λ f. Obeys (list f Tmp) before c.list_old.result after) folder c.list_old.ensures.meets in
-    let old = c.in-Ok.ensures.rows ∙ ap (λ f. filter (is_old c.args.at.own 129600) (rows_of before.state f Tmp)) folder in
+    let old = c.in-Ok.ensures.names ∙ ap (λ f. old_names c.args.at.own 129600 (rows_of before.state f Tmp)) folder in
     let shown = c.plain.ensures.out in
     let none = c.plain.ensures.effect in
     takes (look_turn c.args.self.now c.args.at.own) c.args.at before c.list_old.result after reply.Ok c.plain.result.out c.plain.result.effect.value

@@ -1,5 +1,4 @@
-use Rattle.std.proofs.Common.{◌≡◌, ◌∙◌, sym, ap, nat_lt, length}
-use Rattle.md_dirs.specs.Named.{Row}
+use Rattle.std.proofs.Common.{◌∙◌, nat_lt, length}
 use Rattle.md_dirs.proofs.Uniques.{told}
 use Rattle.md_dirs.proofs.index.named.Named.has_info.Goals as goal
 

@@ -1,5 +1,4 @@
-use Rattle.std.proofs.Common.{◌≡◌, ◌∙◌, sym, ap, take, length}
-use Rattle.md_dirs.specs.Named.{Row}
+use Rattle.std.proofs.Common.{◌∙◌, sym, ap, take, length}
 use Rattle.md_dirs.proofs.Uniques.{take-unique}
 use Rattle.md_dirs.proofs.index.named.Named.unique.Goals as goal
 

@@ -1,11 +1,10 @@
-use Rattle.std.proofs.Common.{◌≡◌, ◌++◌, ◌∙◌, IsPermutation, IsSome, List, sym, ap, subst, map}
+use Rattle.std.proofs.Common.{◌≡◌, ◌++◌, ◌∙◌, IsPermutation, IsSome, sym, ap, subst, map}
 use Rattle.std.proofs.lemmas.List.{map-append}
 use Rattle.std.proofs.lemmas.List.Sorted.{IsPermutation-map}
 use Rattle.std.specs.FinMap as finmap
 use Rattle.md_dirs.specs.State.{file_by}
 use Rattle.md_dirs.specs.Files.{files_of, name_row}
 use Rattle.md_dirs.specs.Slots.{slots_of}
-use Rattle.md_dirs.specs.declared.rows.RowRef.{RowRef}
 use Rattle.md_dirs.proofs.Lent.{if-ok}
 use Rattle.md_dirs.proofs.Lying.{lying, of-rows, of-others}
 use Rattle.md_dirs.proofs.NameRows.{Row}
