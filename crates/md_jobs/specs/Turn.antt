@@ -64,13 +64,16 @@ reply_from (Err NotFound) = Some reply.NotFound
 reply_from (Err Fault) = Some reply.Fault
 reply_from (Err NoMemory) = None
 
--- A look-up was made: one directory was listed, and where the listing was done, the row of the unique name was kept.
-pub record Looks (folder : ℕ) (place : Place) (unique : List ℕ) (old : Device)
-    (r : DirReply) (row : Option Row) (new : Device) : Type 0 where
-  pub replied : r ≡ reply_of (dirs.list folder place) old.state (is_fault r)
-  pub state : new.state ≡ old.state
+-- A directory call was made, with this reply and what it leaves. A fault is a new failure, and nothing else is.
+pub record Replies (ask : Ask) (old : Device) (r : DirReply) (new : Device) : Type 0 where
+  pub replied : r ≡ reply_of ask old.state (is_fault r)
+  pub state : new.state ≡ state_by ask old.state r
   pub failed : new.failures ≡ (if is_fault r then old.failures + 1 else old.failures)
   pub called : new.calls ≡ old.calls + 1
+
+-- A look-up was made: one directory was listed, and where the listing was done, the row of the unique name was kept.
+pub record Looks (folder : ℕ) (place : Place) (unique : List ℕ) (old : Device) (r : DirReply) (row : Option Row) (new : Device) : Type 0 where
+  pub made : Replies (dirs.list folder place) old r new
   pub found : r ≡ reply.Ok → row ≡ row_named unique (rows_of old.state folder place)
 
 -- directories that are as they were, and of which no call was made

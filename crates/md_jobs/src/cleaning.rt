@@ -1,11 +1,12 @@
 //! A clean: files of tmp that have not been used for 36 hours go.
-ghost use Rattle.std.specs.Prelude.{◌≡◌, List, IfOk, IfErr, OnErr, None};
+ghost use Rattle.std.specs.Prelude.{◌≡◌, List, IfOk, IfErr, OnErr, None, is_some};
 ghost use Rattle.md_dirs.specs.declared.rows.Row.{Row as RowView};
 ghost use Rattle.md_jobs.specs.Requests.{request_view};
 ghost use Rattle.md_jobs.specs.Tasks.Cleaning.{Remove};
 ghost use Rattle.md_jobs.specs.Tasks.Views.Stages.{next_of};
-ghost use Rattle.md_jobs.specs.Turn.{Takes, IsUntouched};
-ghost use Rattle.md_jobs.specs.Machines.Clean.{new_cleaning, old_names, cleaning_turn, look_turn, unlink_turn, after_old, after_unlink, tmp as tmp_of};
+ghost use Rattle.md_jobs.specs.Asked.{ask_of, shown_call};
+ghost use Rattle.md_jobs.specs.Turn.{Replies, Takes, IsUntouched, rows_for};
+ghost use Rattle.md_jobs.specs.Machines.Clean.{new_cleaning, old_names, cleaning_turn, after_old, after_unlink};
 
 use crate::answer::Answer;
 use crate::error::CoreError;
@@ -14,7 +15,7 @@ use crate::request::{PathRef, Request};
 use crate::step::{DirCall, DirReply, Moment};
 use crate::turn::{Turned, reply_of};
 use md_dirs::{Dirs, FileName, Path, Place};
-use std::alloc::{AllocError, Global};
+use std::alloc::Global;
 use std::collections::VecDeque;
 use std::marker::Model;
 
@@ -59,7 +60,7 @@ impl Cleaning {
         }
     }
 
-    /// Takes the next turn. After a refusal nothing has changed.
+    /// Takes the next turn: it makes the call that it asks for, and takes the reply. After a refusal nothing has changed.
     pub fn turn<D: Dirs>(
         &mut self,
         alloc: Global,
@@ -75,9 +76,40 @@ impl Cleaning {
         ensures dirs { OnErr result (IsUntouched (D.device dirs.old)
             (D.device dirs.new)) }
     {
+        let (reply, old) = self.call(alloc, dirs, at)?;
+        Ok(self.take(reply, old))
+    }
+
+    // Makes the call that is next: of a listing the names of old files. Where there was no memory for it, no call was made.
+    fn call<D: Dirs>(
+        &self,
+        alloc: Global,
+        dirs: &mut D,
+        at: Moment,
+    ) -> Result<(DirReply, VecDeque<FileName>), CoreError>
+        ensures made { IfOk result (λ made.
+            Replies (ask_of (cleaning_turn self.now at.own).asked at.clock) (D.device dirs.old) made.0 (D.device dirs.new)) }
+        ensures old { IfOk result (λ made. made.0 ≡ DirReply.Ok →
+            made.1.items ≡ old_names at.own (rows_for (cleaning_turn self.now at.own).asked (D.device dirs.old).state)) }
+        ensures memory { IfErr result (λ e. e ≡ CoreError.NoMemory) }
+        ensures dirs { OnErr result (IsUntouched (D.device dirs.old)
+            (D.device dirs.new)) }
+    {
         match &self.stage {
-            Stage::Look => self.look(alloc, dirs, at),
-            Stage::Remove { .. } => self.unlink(alloc, dirs, at),
+            Stage::Look => {
+                match dirs.list_old(alloc, self.folder, Place::Tmp, at.own, LEAST_SECONDS) {
+                    Ok(old) => Ok((DirReply::Ok, old)),
+                    Err(error) => Ok((reply_of(Err(error))?, VecDeque::new(alloc))),
+                }
+            }
+            Stage::Remove { old, .. } => {
+                let path = Path {
+                    folder: self.folder,
+                    place: Place::Tmp,
+                    name: FileName::copied(alloc, next_name(old))?,
+                };
+                Ok((reply_of(dirs.unlink(&path))?, VecDeque::new(alloc)))
+            }
         }
     }
 
@@ -98,8 +130,11 @@ impl Cleaning {
 
     /// Goes on by what the directories replied, whatever it is: of a reading that was done, the names of the old files.
     pub fn take(&mut self, reply: DirReply, old: VecDeque<FileName>) -> Turned
-        ensures follows { (own : _) → (rows : List RowView) → old.items ≡ old_names own rows → (cleaning_turn self.old own).follows reply rows ≡
+        ensures follows { (own : _) → (rows : List RowView) → (reply ≡ DirReply.Ok → old.items ≡ old_names own rows) →
+            (cleaning_turn self.old own).follows reply rows ≡
             record { task = self.new; answer = result.out.answer; effect = result.effect.value } }
+        ensures shown { (own : _) → (result.out.call ≡ shown_call (cleaning_turn self.old own).asked) × (result.out.reply ≡ reply) }
+        ensures effect { result.out.effect ≡ is_some result.effect.value }
         ensures plain { result.effect.value ≡ None }
     {
         match &self.stage {
@@ -115,71 +150,6 @@ impl Cleaning {
                 Turned::plain(DirCall::Unlink, reply, answer)
             }
         }
-    }
-
-    fn look<D: Dirs>(
-        &mut self,
-        alloc: Global,
-        dirs: &mut D,
-        at: Moment,
-    ) -> Result<Turned, CoreError>
-        ensures ok { IfOk result (λ t.
-            Takes (look_turn self.old at.own) at (D.device dirs.old) t.out t.effect.value
-            self.new (D.device dirs.new)) }
-        ensures plain { IfOk result (λ t. t.effect.value ≡ None) }
-        ensures memory { IfErr result (λ e. e ≡ CoreError.NoMemory) }
-        ensures task { OnErr result (self.new ≡ self.old) }
-        ensures dirs { OnErr result (IsUntouched (D.device dirs.old)
-            (D.device dirs.new)) }
-    {
-        match dirs.list_old(alloc, self.folder, Place::Tmp, at.own, LEAST_SECONDS) {
-            Ok(old) => {
-                let answer = self.listed(old);
-                Ok(Turned::plain(LIST, DirReply::Ok, answer))
-            }
-            Err(error) => {
-                let reply = reply_of(Err(error))?;
-                Ok(Turned::plain(LIST, reply, Some(Refusal::Fault.answer())))
-            }
-        }
-    }
-
-    fn unlink<D: Dirs>(
-        &mut self,
-        alloc: Global,
-        dirs: &mut D,
-        at: Moment,
-    ) -> Result<Turned, CoreError>
-        ensures ok { (name : _) (rest : _) (files : _) → self.old.stage ≡ Remove name rest files
-            → IfOk result (λ t. Takes (unlink_turn self.old name rest files) at
-            (D.device dirs.old) t.out t.effect.value self.new
-            (D.device dirs.new)) }
-        ensures plain { IfOk result (λ t. t.effect.value ≡ None) }
-        ensures memory { IfErr result (λ e. e ≡ CoreError.NoMemory) }
-        ensures task { OnErr result (self.new ≡ self.old) }
-        ensures dirs { OnErr result (IsUntouched (D.device dirs.old)
-            (D.device dirs.new)) }
-    {
-        let path = self.next_path(alloc)?;
-        let reply = reply_of(dirs.unlink(&path))?;
-        let answer = self.unlinked(reply);
-        Ok(Turned::plain(DirCall::Unlink, reply, answer))
-    }
-
-    // The path of the name that is next. It is refused only when out of memory.
-    fn next_path(&self, alloc: Global) -> Result<Path, AllocError>
-        ensures { (name : _) (rest : _) (files : _) → self.now.stage ≡ Remove name rest files
-            → IfOk result (λ path. path ≡ tmp_of self.now name) }
-    {
-        let name = match &self.stage {
-            Stage::Look => b"".as_slice(),
-            Stage::Remove { old, .. } => next_name(old),
-        };
-        Ok(Path {
-            folder: self.folder,
-            place: Place::Tmp,
-            name: FileName::copied(alloc, name)?,
-        })
     }
 
     // A listing was made, and these are the names of old files.

@@ -1,10 +1,10 @@
 //! A delivery: "Using maildir format", steps 3 to 6.
 ghost use Rattle.std.specs.Prelude.{◌≡◌, ◌+◌, ◌-◌, ◌^◌, ◌<◌, ◌≤◌, ◌++◌, length, take, drop, min, vec_len, vec_capacity, None, IfOk, IfErr, OnErr, is_some};
 ghost use Rattle.std.specs.Option.{option_to_list};
-ghost use Rattle.md_jobs.specs.Asked.{shown_call};
+ghost use Rattle.md_jobs.specs.Asked.{ask_of, shown_call};
 ghost use Rattle.md_jobs.specs.Requests.{request_view, ready_turn, IsDeliveryReady};
-ghost use Rattle.md_jobs.specs.Turn.{Takes, IsUntouched};
-ghost use Rattle.md_jobs.specs.Machines.Deliver.{new_delivery, at_stage, after_create, after_append, after_link, create_turn, append_turn, link_turn, unlink_turn, delivery_turn, delivery_effect, piece_len, target as target_of, is_in_time as is_in_time_by};
+ghost use Rattle.md_jobs.specs.Turn.{Replies, Takes, IsUntouched};
+ghost use Rattle.md_jobs.specs.Machines.Deliver.{new_delivery, at_stage, after_create, after_append, after_link, append_turn, delivery_turn, delivery_effect, piece_len, target as target_of, is_in_time as is_in_time_by};
 ghost use Rattle.md_jobs.specs.Tasks.Delivery.{Delivery as DeliveryView, Start, Writing};
 ghost use Rattle.md_jobs.specs.Tasks.Views.Stages.{delivery_stage};
 
@@ -137,7 +137,7 @@ impl Delivery {
         }
     }
 
-    /// Takes the next turn, and adds its effect, where it is one. After a refusal nothing has changed.
+    /// Takes the next turn: it asks, makes the call, and takes the reply. It adds its effect, where it is one. After a refusal nothing has changed.
     pub fn turn<D: Dirs>(
         &mut self,
         alloc: Global,
@@ -158,20 +158,14 @@ impl Delivery {
     {
         // Room is made before the call, as one that was made can't be refused any more.
         effects.reserve(1)?;
-        match self.stage {
-            Stage::Start => self.create(dirs, at),
-            Stage::Writing { start, written } => {
-                if !is_in_time(start, at.own) {
-                    self.unlink(dirs, at, Refusal::TimedOut.answer())
-                } else if written < self.size {
-                    self.append(dirs, at, start, written)
-                } else {
-                    self.link(alloc, dirs, job, at, effects)
-                }
+        let ready = self.ask(alloc, at)?;
+        if let DeliveryReady::Append { start, written: 0 } = ready {
+            if self.size <= self.chunk {
+                return self.append_whole(dirs, at, start);
             }
-            Stage::Linked => self.unlink(dirs, at, Answer::Delivered),
-            Stage::Undo(refusal) => self.unlink(dirs, at, refusal.answer()),
         }
+        let reply = self.call(alloc, dirs, &ready, at)?;
+        Ok(self.take(job, ready, reply, effects))
     }
 
     /// Makes the next directory call ready, so that it needs no memory, nor what follows it. Nothing has changed.
@@ -266,48 +260,33 @@ impl Delivery {
         }
     }
 
-    fn create<D: Dirs>(&mut self, dirs: &mut D, at: Moment) -> Result<Turned, CoreError>
-        requires { self.old.stage ≡ Start }
-        ensures ok { IfOk result (λ t.
-            Takes (create_turn self.old at.own) at (D.device dirs.old) t.out t.effect.value
-            self.new (D.device dirs.new)) }
-        ensures plain { IfOk result (λ t. t.effect.value ≡ None) }
-        ensures memory { IfErr result (λ e. e ≡ CoreError.NoMemory) }
-        ensures task { OnErr result (self.new ≡ self.old) }
-        ensures dirs { OnErr result (IsUntouched (D.device dirs.old)
-            (D.device dirs.new)) }
-    {
-        let reply = reply_of(dirs.create(&self.tmp, at.clock))?;
-        let answer = self.created(at.own, reply);
-        Ok(Turned::plain(DirCall::Create, reply, answer))
-    }
-
-    fn append<D: Dirs>(
-        &mut self,
+    // Makes the call that is ready. Where there was no memory for its paths, no call was made.
+    fn call<D: Dirs>(
+        &self,
+        alloc: Global,
         dirs: &mut D,
+        ready: &DeliveryReady,
         at: Moment,
-        start: u64,
-        written: u64,
-    ) -> Result<Turned, CoreError>
-        requires stage { self.old.stage ≡ Writing start written }
-        requires more { written < length self.old.body }
-        ensures ok { IfOk result (λ t.
-            Takes (append_turn self.old start written) at (D.device dirs.old) t.out t.effect.value
-            self.new (D.device dirs.new)) }
-        ensures plain { IfOk result (λ t. t.effect.value ≡ None) }
+    ) -> Result<DirReply, CoreError>
+        requires { IsDeliveryReady self.now ready.now }
+        ensures made { IfOk result (λ reply. (job : _) →
+            Replies (ask_of (ready_turn job self.now ready.now).asked at.clock) (D.device dirs.old) reply (D.device dirs.new)) }
         ensures memory { IfErr result (λ e. e ≡ CoreError.NoMemory) }
-        ensures task { OnErr result (self.new ≡ self.old) }
         ensures dirs { OnErr result (IsUntouched (D.device dirs.old)
             (D.device dirs.new)) }
     {
-        if written == 0 && self.size <= self.chunk {
-            self.append_whole(dirs, at, start)
-        } else {
-            self.append_piece(dirs, at, start, written)
-        }
+        reply_of(match ready {
+            DeliveryReady::Create { .. } => dirs.create(&self.tmp, at.clock),
+            DeliveryReady::Append { written, .. } => {
+                let piece = piece(self.body.as_slice(), self.chunk, *written);
+                dirs.append(&self.tmp, piece, at.clock)
+            }
+            DeliveryReady::Link { .. } => dirs.link(&self.tmp, &self.target(alloc)?),
+            DeliveryReady::Unlink { .. } => dirs.unlink(&self.tmp),
+        })
     }
 
-    // Writes the whole body, whose bytes the directories may keep.
+    // Writes the whole body, whose bytes the directories may keep: so here the call takes what `take` would read, and the two are one step.
     fn append_whole<D: Dirs>(
         &mut self,
         dirs: &mut D,
@@ -329,79 +308,6 @@ impl Delivery {
         let reply = reply_of(dirs.append_body(&self.tmp, &mut self.body, at.clock))?;
         let answer = appended(&mut self.stage, start, self.size, reply);
         Ok(Turned::plain(DirCall::Append(self.size), reply, answer))
-    }
-
-    fn append_piece<D: Dirs>(
-        &mut self,
-        dirs: &mut D,
-        at: Moment,
-        start: u64,
-        written: u64,
-    ) -> Result<Turned, CoreError>
-        requires stage { self.old.stage ≡ Writing start written }
-        requires more { written < length self.old.body }
-        ensures ok { IfOk result (λ t.
-            Takes (append_turn self.old start written) at (D.device dirs.old) t.out t.effect.value
-            self.new (D.device dirs.new)) }
-        ensures plain { IfOk result (λ t. t.effect.value ≡ None) }
-        ensures memory { IfErr result (λ e. e ≡ CoreError.NoMemory) }
-        ensures task { OnErr result (self.new ≡ self.old) }
-        ensures dirs { OnErr result (IsUntouched (D.device dirs.old)
-            (D.device dirs.new)) }
-    {
-        let piece = piece(self.body.as_slice(), self.chunk, written);
-        let len = piece.len() as u64;
-        let reply = reply_of(dirs.append(&self.tmp, piece, at.clock))?;
-        let answer = appended(&mut self.stage, start, written + len, reply);
-        Ok(Turned::plain(DirCall::Append(len), reply, answer))
-    }
-
-    // The name is copied before the call, since a link that was made can't be refused any more.
-    fn link<D: Dirs>(
-        &mut self,
-        alloc: Global,
-        dirs: &mut D,
-        job: JobId,
-        at: Moment,
-        effects: &mut Vec<Effect>,
-    ) -> Result<Turned, CoreError>
-        requires room { vec_len effects.old < vec_capacity effects.old }
-        ensures ok { IfOk result (λ t.
-            Takes (link_turn job self.old) at (D.device dirs.old) t.out t.effect.value
-            self.new (D.device dirs.new)) }
-        ensures pushed { IfOk result (λ t. effects.new.items ≡ effects.old.items ++ option_to_list t.effect.value) }
-        ensures memory { IfErr result (λ e. e ≡ CoreError.NoMemory) }
-        ensures kept { OnErr result (effects.new.items ≡ effects.old.items) }
-        ensures task { OnErr result (self.new ≡ self.old) }
-        ensures dirs { OnErr result (IsUntouched (D.device dirs.old)
-            (D.device dirs.new)) }
-    {
-        let target = self.target(alloc)?;
-        let name = Bytes::copied(alloc, self.tmp.name.as_slice())?;
-        let reply = reply_of(dirs.link(&self.tmp, &target))?;
-        let effect = self.effect(job, name);
-        // At the link the message is delivered. Whatever comes now, it stays so.
-        Ok(self.linked(reply, effect, effects))
-    }
-
-    // Takes the name in tmp away, whatever the reply is.
-    fn unlink<D: Dirs>(
-        &mut self,
-        dirs: &mut D,
-        at: Moment,
-        answer: Answer,
-    ) -> Result<Turned, CoreError>
-        ensures ok { IfOk result (λ t.
-            Takes (unlink_turn self.old answer) at (D.device dirs.old) t.out t.effect.value
-            self.new (D.device dirs.new)) }
-        ensures plain { IfOk result (λ t. t.effect.value ≡ None) }
-        ensures memory { IfErr result (λ e. e ≡ CoreError.NoMemory) }
-        ensures task { self.new ≡ self.old }
-        ensures dirs { OnErr result (IsUntouched (D.device dirs.old)
-            (D.device dirs.new)) }
-    {
-        let reply = reply_of(dirs.unlink(&self.tmp))?;
-        Ok(Turned::plain(DirCall::Unlink, reply, Some(answer)))
     }
 
     // Where the message is delivered.
@@ -458,6 +364,7 @@ impl Delivery {
         ensures pushed { effects.new.items ≡ effects.old.items ++ option_to_list result.effect.value }
     {
         match reply {
+            // At the link the message is delivered. Whatever comes now, it stays so.
             DirReply::Ok => {
                 self.stage = Stage::Linked;
                 Turned::acted(DirCall::Link, reply, None, effect, effects)

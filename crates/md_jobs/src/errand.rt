@@ -5,12 +5,12 @@ ghost use Rattle.md_dirs.specs.Rows.{row_named};
 ghost use Rattle.md_dirs.specs.declared.rows.Row.{Row as RowView};
 ghost use Rattle.md_jobs.specs.Requests.{request_view, IsErrandReady};
 ghost use Rattle.std.specs.Option.{option_to_list};
-ghost use Rattle.md_jobs.specs.Turn.{Takes, TakesOrEnds, FollowsOrEnds, IsUntouched};
-ghost use Rattle.md_jobs.specs.Asked.{shown_call};
+ghost use Rattle.md_jobs.specs.Turn.{Replies, TakesOrEnds, FollowsOrEnds, IsUntouched, rows_for};
+ghost use Rattle.md_jobs.specs.Asked.{ask_of, shown_call};
 ghost use Rattle.md_jobs.specs.Tasks.Views.Purposes.{purpose_view, deed_view};
 ghost use Rattle.md_jobs.specs.Tasks.Views.Errands.{errand_view};
 ghost use Rattle.md_jobs.specs.Machines.Purposes.{searches, place_after, decide, info_in};
-ghost use Rattle.md_jobs.specs.Machines.Errand.{new_errand, asked_of, after_none, after_decision, after_look, lost_or_again, after_act, look_turn, errand_turn};
+ghost use Rattle.md_jobs.specs.Machines.Errand.{new_errand, asked_of, after_none, after_decision, after_look, lost_or_again, after_act, errand_turn};
 
 use crate::answer::Answer;
 use crate::call::JobId;
@@ -65,7 +65,7 @@ impl Errand {
         }
     }
 
-    /// Takes the next turn, and adds its effect, where it is one. After a refusal nothing has changed.
+    /// Takes the next turn: it asks, makes the call, and takes the reply. It adds its effect, where it is one. After a refusal nothing has changed.
     pub fn turn<D: Dirs>(
         &mut self,
         alloc: Global,
@@ -86,16 +86,9 @@ impl Errand {
     {
         // Room is made before the call, as one that was made can't be refused any more.
         effects.reserve(1)?;
-        match self.stage {
-            Stage::Look { tries } => self.look(dirs, job, at, tries, effects),
-            // The deed is made ready before its call, since a call that was made can't be refused any more.
-            Stage::Act { size, tries, .. } => {
-                let (deed, answer) = self.purpose.deed(alloc, &self.unique, &self.path)?;
-                let made = deed.make(alloc, dirs, self.path.path())?;
-                let reply = reply_of(made)?;
-                Ok(self.acted(alloc, job, deed, answer, size, tries, reply, effects))
-            }
-        }
+        let ready = self.ask(alloc)?;
+        let (reply, row) = self.call(alloc, dirs, &ready)?;
+        Ok(self.take(alloc, job, ready, reply, row, effects))
     }
 
     /// Makes the next directory call ready, so that it needs no memory, nor what follows it. Nothing has changed.
@@ -127,6 +120,32 @@ impl Errand {
         }
     }
 
+    // Makes the call that is ready. Where there was no memory for its paths, no call was made.
+    fn call<D: Dirs>(
+        &self,
+        alloc: Global,
+        dirs: &mut D,
+        ready: &ErrandReady,
+    ) -> Result<(DirReply, Option<Row>), CoreError>
+        requires { IsErrandReady (errand_view self.now) (errand_view self.now).stage ready.now }
+        ensures made { IfOk result (λ made. (job clock : _) →
+            Replies (ask_of (errand_turn job (errand_view self.now)).asked clock) (D.device dirs.old) made.0 (D.device dirs.new)) }
+        ensures row { IfOk result (λ made. (job : _) → made.0 ≡ DirReply.Ok →
+            made.1 ≡ row_named self.now.unique (rows_for (errand_turn job (errand_view self.now)).asked (D.device dirs.old).state)) }
+        ensures memory { IfErr result (λ e. e ≡ CoreError.NoMemory) }
+        ensures dirs { OnErr result (IsUntouched (D.device dirs.old)
+            (D.device dirs.new)) }
+    {
+        let path = self.path.path();
+        match ready {
+            ErrandReady::Look => { look(dirs, path.folder, path.place, self.unique.as_slice()) }
+            ErrandReady::Act { deed, .. } => {
+                let made = deed.make(alloc, dirs, path)?;
+                Ok((reply_of(made)?, None))
+            }
+        }
+    }
+
     /// Goes on by what the directories replied, whatever it is: of a reading that was done, the row of the message. Adds the effect, where
     /// this is one.
     pub fn take(
@@ -140,7 +159,7 @@ impl Errand {
     ) -> Turned
         requires ready { IsErrandReady (errand_view self.old) (errand_view self.old).stage ready }
         requires room { vec_len effects.old < vec_capacity effects.old }
-        ensures follows { (rows : List RowView) → row ≡ row_named self.old.unique rows →
+        ensures follows { (rows : List RowView) → (reply ≡ DirReply.Ok → row ≡ row_named self.old.unique rows) →
             FollowsOrEnds ((errand_turn job (errand_view self.old)).follows reply rows)
             (errand_view self.new) result.out.answer result.effect.value }
         ensures shown { (result.out.call ≡ shown_call (errand_turn job (errand_view self.old)).asked) × (result.out.reply ≡ reply) }
@@ -161,30 +180,6 @@ impl Errand {
                 self.acted(alloc, job, deed, answer, size, tries, reply, effects)
             }
         }
-    }
-
-    fn look<D: Dirs>(
-        &mut self,
-        dirs: &mut D,
-        job: JobId,
-        at: Moment,
-        tries: u64,
-        effects: &mut Vec<Effect>,
-    ) -> Result<Turned, CoreError>
-        requires room { vec_len effects.old < vec_capacity effects.old }
-        ensures ok { IfOk result (λ t.
-            Takes (look_turn job (errand_view self.old) self.old.path.place tries) at (D.device dirs.old) t.out t.effect.value
-            (errand_view self.new) (D.device dirs.new)) }
-        ensures pushed { IfOk result (λ t. effects.new.items ≡ effects.old.items ++ option_to_list t.effect.value) }
-        ensures memory { IfErr result (λ e. e ≡ CoreError.NoMemory) }
-        ensures kept { OnErr result (effects.new.items ≡ effects.old.items) }
-        ensures task { OnErr result (self.new ≡ self.old) }
-        ensures dirs { OnErr result (IsUntouched (D.device dirs.old)
-            (D.device dirs.new)) }
-    {
-        let path = self.path.path();
-        let (reply, row) = look(dirs, path.folder, path.place, self.unique.as_slice())?;
-        Ok(self.looked(job, reply, row, tries, effects))
     }
 
     fn looked(
