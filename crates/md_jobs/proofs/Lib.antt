@@ -3,3 +3,7 @@ pub mod Sets
 pub mod NoMemory
 pub mod Turns
 pub mod Replies
+pub mod Pieces
+pub mod Calls
+pub mod AllCalls
+pub mod Cleans

@@ -1,5 +1,5 @@
 -- The laws of the machines that hold whatever the directories reply.
-use Rattle.std.proofs.Common.{ℕ, ◌≡◌, ◌<◌, ◌≤◌, ◌+◌, ◌-◌, ◌++◌, List, [], Option, Some, None, Bool, true, false, cond, nat_le, nat_lt, length, take, drop, min, refl, sym, ap, subst, ◌∙◌, arith}
+use Rattle.std.proofs.Common.{ℕ, ◌≡◌, ◌<◌, ◌≤◌, ◌+◌, ◌-◌, ◌++◌, List, Option, Some, None, Bool, true, false, cond, nat_le, nat_lt, length, take, drop, min, refl, sym, ap, subst, ◌∙◌, arith, inl, inr}
 use Rattle.std.proofs.lemmas.Bool.Decides.{nat_tests}
 use Rattle.std.proofs.lemmas.List.{append_assoc, append-nil, take-append-drop, drop-drop, drop_all}
 use Rattle.md_dirs.specs.Rows.{row_named}
@@ -20,7 +20,6 @@ use Rattle.md_jobs.specs.Machines.Refusals.{refused_by, refuses}
 use Rattle.md_jobs.specs.Tasks.Decision.{Decision}
 use Rattle.md_jobs.specs.Tasks.Decision as decision
 use Rattle.md_jobs.specs.Tasks.Deed.{Deed}
-use Rattle.md_jobs.specs.Tasks.Deed as deed
 use Rattle.md_jobs.specs.Tasks.Purpose.{Purpose}
 use Rattle.md_jobs.specs.Tasks.Purpose as purpose
 use Rattle.md_jobs.specs.Tasks.Delivery.{Delivery, Start, Writing, Linked, Undo}
@@ -28,6 +27,7 @@ use Rattle.md_jobs.specs.Tasks.Delivery as delivery
 use Rattle.md_jobs.specs.Tasks.Errand.{Errand, Stage, Look, Act}
 use Rattle.md_jobs.specs.Tasks.Refusal.{Refusal, NotThere, NotTrashed, OtherInfo, NameTaken, Lost, TimedOut, TmpGone, Fault}
 use Rattle.md_jobs.specs.Turn.{After, goes_on}
+use Rattle.md_jobs.proofs.Pieces.{pieces-less}
 
 -- ---- errands: an effect is at a call that was done
 
@@ -213,25 +213,25 @@ module _ (job : ℕ) (d : Delivery) (at : Moment) (rows : List Row) where
   refusal-apart Fault is = cc
 
   create-linked : (r : DirReply) → IsDeliveredByLink d (create_turn d at.own).asked r ((create_turn d at.own).follows r rows)
-  create-linked reply.Ok = record { answered = λ is. cc; linked = λ on is. absurd is; effect = tt }
-  create-linked reply.Exists = record { answered = λ is. cc; linked = λ on is. cc; effect = tt }
-  create-linked reply.NotFound = record { answered = λ is. cc; linked = λ on is. cc; effect = tt }
-  create-linked reply.Fault = record { answered = λ is. cc; linked = λ on is. cc; effect = tt }
+  create-linked reply.Ok = record { answered = λ is. cc; linked = λ on is. absurd is; effect = tt; refused = tt }
+  create-linked reply.Exists = record { answered = λ is. cc; linked = λ on is. cc; effect = tt; refused = inr (NameTaken, refl) }
+  create-linked reply.NotFound = record { answered = λ is. cc; linked = λ on is. cc; effect = tt; refused = inr (Fault, refl) }
+  create-linked reply.Fault = record { answered = λ is. cc; linked = λ on is. cc; effect = tt; refused = inr (Fault, refl) }
 
   append-linked : (start k : ℕ) (r : DirReply) → IsDeliveredByLink d (append_turn d start k).asked r ((append_turn d start k).follows r rows)
-  append-linked start k reply.Ok = record { answered = λ is. cc; linked = λ on is. absurd is; effect = tt }
-  append-linked start k reply.Exists = record { answered = λ is. cc; linked = λ on is. cc; effect = tt }
-  append-linked start k reply.NotFound = record { answered = λ is. cc; linked = λ on is. cc; effect = tt }
-  append-linked start k reply.Fault = record { answered = λ is. cc; linked = λ on is. absurd is; effect = tt }
+  append-linked start k reply.Ok = record { answered = λ is. cc; linked = λ on is. absurd is; effect = tt; refused = tt }
+  append-linked start k reply.Exists = record { answered = λ is. cc; linked = λ on is. cc; effect = tt; refused = inr (Fault, refl) }
+  append-linked start k reply.NotFound = record { answered = λ is. cc; linked = λ on is. cc; effect = tt; refused = inr (TmpGone, refl) }
+  append-linked start k reply.Fault = record { answered = λ is. cc; linked = λ on is. absurd is; effect = tt; refused = tt }
 
   link-linked : (r : DirReply) → IsDeliveredByLink d (link_turn job d).asked r ((link_turn job d).follows r rows)
-  link-linked reply.Ok = record { answered = λ is. cc; linked = λ on is. (refl, refl); effect = (refl, refl) }
-  link-linked reply.Exists = record { answered = λ is. cc; linked = λ on is. absurd is; effect = tt }
-  link-linked reply.NotFound = record { answered = λ is. cc; linked = λ on is. cc; effect = tt }
-  link-linked reply.Fault = record { answered = λ is. cc; linked = λ on is. absurd is; effect = tt }
+  link-linked reply.Ok = record { answered = λ is. cc; linked = λ on is. (refl, refl); effect = (refl, refl); refused = tt }
+  link-linked reply.Exists = record { answered = λ is. cc; linked = λ on is. absurd is; effect = tt; refused = tt }
+  link-linked reply.NotFound = record { answered = λ is. cc; linked = λ on is. cc; effect = tt; refused = inr (TmpGone, refl) }
+  link-linked reply.Fault = record { answered = λ is. cc; linked = λ on is. absurd is; effect = tt; refused = tt }
 
   undo-linked : (x : Refusal) (r : DirReply) → IsDeliveredByLink d (unlink_turn d (refused_by x)).asked r ((unlink_turn d (refused_by x)).follows r rows)
-  undo-linked x r = record { answered = λ is. absurd (refusal-apart x is); linked = λ on is. cc; effect = tt }
+  undo-linked x r = record { answered = λ is. absurd (refusal-apart x is); linked = λ on is. cc; effect = tt; refused = inr (x, refl) }
 
   writing-linked : (start k : ℕ) (in_time more : Bool) (r : DirReply) →
       IsDeliveredByLink d (cond in_time (cond more (append_turn d start k) (link_turn job d)) (unlink_turn d (refused_by TimedOut))).asked r
@@ -244,7 +244,7 @@ module _ (job : ℕ) (d : Delivery) (at : Moment) (rows : List Row) where
       IsDeliveredByLink d (delivered_by.stage_turn job d at stage).asked r ((delivered_by.stage_turn job d at stage).follows r rows)
   stage-linked Start r is = create-linked r
   stage-linked (Writing start k) r is = writing-linked start k (is_in_time start at.own) (nat_lt k (length d.body)) r
-  stage-linked Linked r is = record { answered = λ said. subst IsLinked (sym is) tt; linked = λ on held. cc; effect = tt }
+  stage-linked Linked r is = record { answered = λ said. subst IsLinked (sym is) tt; linked = λ on held. cc; effect = tt; refused = inl refl }
   stage-linked (Undo refusal) r is = undo-linked refusal r
 
 pub delivery-linked : (job : ℕ) (d : Delivery) (at : Moment) (r : DirReply) (rows : List Row) →
@@ -280,17 +280,19 @@ again-left false Cur at row tries more = omega (arith, more)
 again-left true other at row tries more = omega (arith, more)
 
 module _ (job : ℕ) (e : Errand) where
+  -- where it goes on, it is for the same, and has fewer calls left
   abbrev Fewer : Stage → After Errand → Type 0
-  Fewer stage after = after.answer ≡ None → steps_left (searches e.purpose) after.task.stage < steps_left (searches e.purpose) stage
+  Fewer stage after = after.answer ≡ None →
+      (after.task.purpose ≡ e.purpose) × (steps_left (searches e.purpose) after.task.stage < steps_left (searches e.purpose) stage)
 
   none-fewer : (place : Place) (tries : ℕ) (o : Option Place) → place_after (searches e.purpose) place ≡ o → Fewer (Look place tries) (after_none e tries o)
   none-fewer place tries None is = λ on. cc
-  none-fewer place tries (Some next) is = λ on. next-left (searches e.purpose) place next tries is
+  none-fewer place tries (Some next) is = λ on. (refl, next-left (searches e.purpose) place next tries is)
 
   decision-fewer : (place : Place) (tries : ℕ) (row : Row) (d : Decision) → Fewer (Look place tries) (after_decision job e place tries row d)
   decision-fewer place tries row (decision.Refuse refusal) = λ on. cc
   decision-fewer place tries row decision.Keep = λ on. cc
-  decision-fewer place tries row decision.Act = λ on. act-left (searches e.purpose) place place row tries
+  decision-fewer place tries row decision.Act = λ on. (refl, act-left (searches e.purpose) place place row tries)
 
   row-fewer : (place : Place) (tries : ℕ) (o : Option Row) → Fewer (Look place tries) (after_row job e place tries o)
   row-fewer place tries None = none-fewer place tries (place_after (searches e.purpose) place) refl
@@ -305,7 +307,8 @@ module _ (job : ℕ) (e : Errand) where
   again-fewer : (place : Place) (row : Row) (b : Bool) (tries : ℕ) → nat_le tries 1 ≡ b →
       Fewer (Act place row tries) (cond b (refuses e Lost) (goes_on (at_stage e (Look (first e.purpose) (tries - 1)))))
   again-fewer place row true tries is = λ on. cc
-  again-fewer place row false tries is = λ on. again-left (searches e.purpose) (first e.purpose) place row tries (grind (arith, nat_tests))
+  again-fewer place row false tries is =
+      λ on. (refl, again-left (searches e.purpose) (first e.purpose) place row tries (grind (arith, nat_tests)))
 
   act-fewer : (place : Place) (row : Row) (tries : ℕ) (r : DirReply) (d : Deed) →
       Fewer (Act place row tries) (after_act job e d (answer_by e.purpose (info_in row.name)) row.size tries r)
@@ -318,6 +321,78 @@ module _ (job : ℕ) (e : Errand) where
   stage-fewer (Look place tries) r rows = look-fewer place tries r (row_named e.unique rows)
   stage-fewer (Act place row tries) r rows = act-fewer place row tries r (deed_by e.purpose e.folder e.unique place row.name (info_in row.name))
 
+pub errand-nearer : (job : ℕ) (e : Errand) (r : DirReply) (rows : List Row) → ((errand_turn job e).follows r rows).answer ≡ None →
+    (((errand_turn job e).follows r rows).task.purpose ≡ e.purpose)
+    × (steps_left (searches e.purpose) ((errand_turn job e).follows r rows).task.stage < steps_left (searches e.purpose) e.stage)
+errand-nearer job e r rows = stage-fewer job e e.stage r rows
+
 pub errand-fewer : (job : ℕ) (e : Errand) (r : DirReply) (rows : List Row) → ((errand_turn job e).follows r rows).answer ≡ None →
     steps_left (searches e.purpose) ((errand_turn job e).follows r rows).task.stage < steps_left (searches e.purpose) e.stage
-errand-fewer job e r rows = stage-fewer job e e.stage r rows
+errand-fewer job e r rows on = (errand-nearer job e r rows on).1
+
+pub errand-left : (both : Bool) (stage : Stage) → 0 < steps_left both stage
+errand-left true (Look New tries) = omega arith
+errand-left true (Look place tries) = omega arith
+errand-left true (Act place row tries) = omega arith
+errand-left false (Look New tries) = omega arith
+errand-left false (Look place tries) = omega arith
+errand-left false (Act place row tries) = omega arith
+
+-- ---- deliveries: each call leaves fewer
+
+module _ (job : ℕ) (d : Delivery) (at : Moment) (rows : List Row) (chunked : 0 < d.chunk) where
+  -- where it goes on, it is of the same body, and has fewer calls left
+  abbrev Nearer : delivery.Stage → After Delivery → Type 0
+  Nearer stage after = after.answer ≡ None →
+      (after.task.chunk ≡ d.chunk) × ((after.task.body ≡ d.body) × (delivered_by.steps_left after.task after.task.stage < delivered_by.steps_left d stage))
+
+  create-nearer : (r : DirReply) → Nearer Start ((create_turn d at.own).follows r rows)
+  create-nearer reply.Ok = λ on. (refl, (refl, (let same : length d.body - 0 ≡ length d.body = omega arith in rw same (omega arith))))
+  create-nearer reply.Exists = λ on. cc
+  create-nearer reply.NotFound = λ on. cc
+  create-nearer reply.Fault = λ on. cc
+
+  append-nearer : (start k : ℕ) (r : DirReply) → k < length d.body → Nearer (Writing start k) ((append_turn d start k).follows r rows)
+  append-nearer start k reply.Ok more = λ on. (
+    refl,
+    (
+      refl,
+      (
+          let less = pieces-less (length d.body - k) d.chunk (omega (arith, more)) chunked in
+          let rest : length d.body - (k + delivered_by.piece_len d k) ≡ (length d.body - k) - min d.chunk (length d.body - k) = omega arith in
+          rw rest (omega (arith, less))),
+    ),
+  )
+  append-nearer start k reply.Exists more = λ on. cc
+  append-nearer start k reply.NotFound more = λ on. cc
+  append-nearer start k reply.Fault more = λ on. (refl, (refl, omega arith))
+
+  link-nearer : (start k : ℕ) (r : DirReply) → Nearer (Writing start k) ((link_turn job d).follows r rows)
+  link-nearer start k reply.Ok = λ on. (refl, (refl, omega arith))
+  link-nearer start k reply.Exists = λ on. (refl, (refl, omega arith))
+  link-nearer start k reply.NotFound = λ on. cc
+  link-nearer start k reply.Fault = λ on. (refl, (refl, omega arith))
+
+  writing-nearer : (start k : ℕ) (in_time more : Bool) (r : DirReply) → nat_lt k (length d.body) ≡ more →
+      Nearer (Writing start k) ((cond in_time (cond more (append_turn d start k) (link_turn job d)) (unlink_turn d (refused_by TimedOut))).follows r rows)
+  writing-nearer start k true true r less = append-nearer start k r (grind (arith, nat_tests))
+  writing-nearer start k true false r less = link-nearer start k r
+  writing-nearer start k false more r less = λ on. cc
+
+  stage-nearer : (stage : delivery.Stage) (r : DirReply) → Nearer stage ((delivered_by.stage_turn job d at stage).follows r rows)
+  stage-nearer Start r = create-nearer r
+  stage-nearer (Writing start k) r = writing-nearer start k (is_in_time start at.own) (nat_lt k (length d.body)) r refl
+  stage-nearer Linked r = λ on. cc
+  stage-nearer (Undo refusal) r = λ on. cc
+
+pub delivery-nearer : (job : ℕ) (d : Delivery) (at : Moment) (r : DirReply) (rows : List Row) → 0 < d.chunk →
+    ((delivery_turn job d at).follows r rows).answer ≡ None →
+    (let after = ((delivery_turn job d at).follows r rows).task in
+    (after.chunk ≡ d.chunk) × ((after.body ≡ d.body) × (delivered_by.steps_left after after.stage < delivered_by.steps_left d d.stage)))
+delivery-nearer job d at r rows chunked = stage-nearer job d at rows chunked d.stage r
+
+pub delivery-left : (d : Delivery) (stage : delivery.Stage) → 0 < delivered_by.steps_left d stage
+delivery-left d Start = omega arith
+delivery-left d (Writing start k) = omega arith
+delivery-left d Linked = omega arith
+delivery-left d (Undo refusal) = omega arith

@@ -1,27 +1,27 @@
 -- What the laws of the machines say of one turn.
-use Rattle.std.specs.Prelude.{ℕ, ◌≡◌, ◌≤◌, ◌++◌, List, [], length, drop, None, Some, IfSome}
+use Rattle.std.specs.Prelude.{ℕ, ◌≡◌, ◌++◌, ◌-◌, ◌⊎◌, List, [], take, drop, map, filter, count_by, nat_le, None, Some, IfSome}
 use Rattle.md_dirs.specs.Path.{path_of as path}
-use Rattle.md_dirs.specs.declared.paths.Path.{Path}
-use Rattle.md_dirs.specs.declared.paths.Place.TheVariants.{New}
-use Rattle.md_name.specs.declared.info.Info.{Info}
-use Rattle.md_jobs.specs.Asked.{Asked, create, append, link, unlink}
 use Rattle.md_dirs.specs.Rows.{row_named}
+use Rattle.md_dirs.specs.declared.paths.Path.{Path}
+use Rattle.md_dirs.specs.declared.paths.Place.TheVariants.{Tmp, New}
 use Rattle.md_dirs.specs.declared.rows.Row.{Row}
-use Rattle.md_jobs.specs.Asked.{rename}
+use Rattle.md_name.specs.declared.info.Info.{Info}
+use Rattle.md_jobs.specs.Asked.{Asked, create, append, link, rename, unlink, list}
+use Rattle.md_jobs.specs.Made.{Heard, Made, answer_in, unlinks, takes_away}
 use Rattle.md_jobs.specs.Machines.Purposes.{answer_by, decide, info_in}
 use Rattle.md_jobs.specs.Machines.Refusals.{refused_by}
+use Rattle.md_jobs.specs.Tasks.Cleaning.{Cleaning}
 use Rattle.md_jobs.specs.Tasks.Decision as decision
 use Rattle.md_jobs.specs.Tasks.Delivery.{Delivery}
 use Rattle.md_jobs.specs.Tasks.Delivery as delivery
+use Rattle.md_jobs.specs.Tasks.Errand.{Errand}
 use Rattle.md_jobs.specs.Tasks.Errand as errand
+use Rattle.md_jobs.specs.Tasks.Purpose.{Purpose}
 use Rattle.md_jobs.specs.Tasks.Refusal.{Refusal}
-use Rattle.md_jobs.specs.declared.answer.Answer.{Answer}
+use Rattle.md_jobs.specs.Turn.{After}
 use Rattle.md_jobs.specs.declared.answer.Answer.TheVariants as answer
 use Rattle.md_jobs.specs.declared.step.DirReply.{DirReply}
 use Rattle.md_jobs.specs.declared.step.DirReply.TheVariants as reply
-use Rattle.md_jobs.specs.Tasks.Errand.{Errand}
-use Rattle.md_jobs.specs.Tasks.Purpose.{Purpose}
-use Rattle.md_jobs.specs.Turn.{After}
 
 -- where the turn is an effect the errand ends, with the effect's answer, which is that of its purpose where the message has some info
 abbrev pub IsLast : Purpose → After Errand → Type 0
@@ -92,3 +92,27 @@ pub record IsDeliveredByLink (d : Delivery) (asked : Asked) (r : DirReply) (afte
   pub answered : after.answer ≡ Some answer.Delivered → IsLinked d.stage
   pub linked : after.answer ≡ None → IsLinked after.task.stage → (r ≡ reply.Ok) × (asked ≡ link d.tmp (path d.tmp.folder New d.tmp.name))
   pub effect : IfSome after.effect (λ x. (r ≡ reply.Ok) × (asked ≡ link d.tmp (path d.tmp.folder New d.tmp.name)))
+  pub refused : IfSome after.answer (λ a. (a ≡ answer.Delivered) ⊎ ((refusal : Refusal) × (a ≡ refused_by refusal)))
+
+-- the call lists tmp of this folder, or takes a name of it away
+abbrev pub IsInTmp : ℕ → Asked → Type 0
+IsInTmp folder (list f place) = (f ≡ folder) × (place ≡ Tmp)
+IsInTmp folder (unlink p) = (p.folder ≡ folder) × (p.place ≡ Tmp)
+IsInTmp folder asked = ⊥
+
+-- a clean lists tmp of its folder, or takes a name of it away; it has no effect on messages, and its answer is a number or Fault
+pub record KeepsToTmp (c : Cleaning) (asked : Asked) (after : After Cleaning) : Type 0 where
+  pub asks : IsInTmp c.folder asked
+  pub effect : after.effect ≡ None
+  pub answer : IfSome after.answer (λ a. ((n : ℕ) × (a ≡ answer.Cleaned n)) ⊎ (a ≡ answer.Fault))
+
+-- the names of rows whose files were not used for 36 hours, in seconds, at a moment
+abbrev pub unused_names : ℕ → List Row → List (List ℕ)
+unused_names own rows = map (λ row. row.name) (filter (λ row. nat_le 129600 (own - row.stamp)) rows)
+
+-- The calls of a clean: after its one listing it takes away, or tries to, the names that this showed to be old, one after another, each once.
+-- Its answer says how many it took away.
+pub record CleansOld (folder : ℕ) (listing : Heard) (calls : List Made) : Type 0 where
+  pub n : ℕ
+  pub names : unlinks calls ≡ map (path folder Tmp) (take n (unused_names listing.at.own listing.rows))
+  pub counted : (k : ℕ) → answer_in calls ≡ Some (answer.Cleaned k) → k ≡ count_by takes_away calls

@@ -5,4 +5,5 @@ pub mod Turn
 pub mod Tasks
 pub mod Machines
 pub mod Requests
+pub mod Made
 pub mod Laws

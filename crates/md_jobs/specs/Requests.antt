@@ -1,7 +1,6 @@
 -- What the definitions see of the calls that jobs ask for, and what jobs make ready before a call.
-use Rattle.std.specs.Prelude.{ℕ, ◌≡◌, ◌<◌, List, length}
+use Rattle.std.specs.Prelude.{ℕ, ◌≡◌, ◌<◌, length}
 use Rattle.md_dirs.specs.Path.{path_of as path}
-use Rattle.md_dirs.specs.declared.paths.Place.{Place}
 use Rattle.md_jobs.specs.Asked.{Asked, create, append, link, rename, unlink, list}
 use Rattle.md_jobs.specs.Turn.{Turn}
 use Rattle.md_jobs.specs.Machines.Deliver.{create_turn, append_turn, link_turn, unlink_turn}

@@ -1,17 +1,22 @@
 //! Laws of the machines, whatever the directories answer. Each function does nothing: its contract is the law. They state hours and places
-//! themselves, so that a machine that is wrong in its definition and in its code alike does not meet them.
-ghost use Rattle.std.specs.Prelude.{ℕ, ◌≡◌, ◌<◌, ◌≤◌, ◌-◌, List, None};
+//! themselves, so that a machine that is wrong in its definition and in its code alike does not meet them. The last seven speak of all calls
+//! that a job makes as it hears one reply after another.
+ghost use Rattle.std.specs.Prelude.{ℕ, ◌≡◌, ◌<◌, ◌≤◌, ◌+◌, ◌-◌, ◌*◌, ◌∷◌, List, None, length, max, if◌then◌else◌};
 ghost use Rattle.std.specs.List.{All};
 ghost use Rattle.md_dirs.specs.declared.rows.Row.{Row};
 ghost use Rattle.md_jobs.specs.declared.step.DirReply.{DirReply as Reply};
 ghost use Rattle.md_jobs.specs.declared.step.Moment.{Moment};
-ghost use Rattle.md_jobs.specs.Laws.{IsLast, IsOn, IsDoneOrRefused, IsRead, IsOnRow, IsHeld, KeepsWhole, IsDeliveredByLink};
-ghost use Rattle.md_jobs.specs.Machines.Clean.{old_rows};
-ghost use Rattle.md_jobs.specs.Machines.Deliver.{delivery_turn};
-ghost use Rattle.md_jobs.specs.Machines.Errand.{errand_turn, steps_left};
+ghost use Rattle.md_jobs.specs.Laws.{IsLast, IsOn, IsDoneOrRefused, IsRead, IsOnRow, IsHeld, KeepsWhole, IsDeliveredByLink, KeepsToTmp, CleansOld};
+ghost use Rattle.md_jobs.specs.Made.{Heard, made, effects};
+ghost use Rattle.md_jobs.specs.Pieces.{pieces_of};
+ghost use Rattle.md_jobs.specs.Machines.Clean.{new_cleaning, old_rows, cleaning_turn};
+ghost use Rattle.md_jobs.specs.Machines.Deliver.{new_delivery, delivery_turn};
+ghost use Rattle.md_jobs.specs.Machines.Errand.{new_errand, errand_turn, steps_left};
 ghost use Rattle.md_jobs.specs.Machines.Purposes.{searches};
+ghost use Rattle.md_jobs.specs.Tasks.Cleaning.{Cleaning};
 ghost use Rattle.md_jobs.specs.Tasks.Delivery.{Delivery};
 ghost use Rattle.md_jobs.specs.Tasks.Errand.{Errand};
+ghost use Rattle.md_jobs.specs.Tasks.Purpose.{Purpose};
 
 /// A turn that is the effect of an errand is its last one, and answers as its purpose does of some message.
 pub fn an_errand_ends_by_its_effect()
@@ -60,4 +65,44 @@ pub fn a_delivery_is_delivered_by_its_link()
 pub fn an_errand_makes_fewer_calls_each_time()
     ensures { (job : ℕ) → (e : Errand) → (reply : Reply) → (rows : List Row) → ((errand_turn job e).follows reply rows).answer ≡ None →
         steps_left (searches e.purpose) ((errand_turn job e).follows reply rows).task.stage < steps_left (searches e.purpose) e.stage }
+{}
+
+/// An errand takes effect at most once, whatever it hears.
+pub fn an_errand_takes_effect_at_most_once()
+    ensures { (job : ℕ) → (e : Errand) → (heard : List Heard) → length (effects (made (λ e' at. errand_turn job e') e heard)) ≤ 1 }
+{}
+
+/// A delivery takes effect at most once, whatever it hears.
+pub fn a_delivery_takes_effect_at_most_once()
+    ensures { (job : ℕ) → (d : Delivery) → (heard : List Heard) → length (effects (made (delivery_turn job) d heard)) ≤ 1 }
+{}
+
+/// An errand makes at most three calls for each try where it looks in new and in cur, and else two.
+pub fn an_errand_makes_few_calls()
+    ensures { (job folder : ℕ) → (unique : List ℕ) → (purpose : Purpose) → (tries : ℕ) → (heard : List Heard) →
+        length (made (λ e at. errand_turn job e) (new_errand folder unique purpose tries) heard) ≤ (if searches purpose then 3 else 2) * max tries 1 }
+{}
+
+/// A delivery makes at most three calls more than its body has pieces.
+pub fn a_delivery_makes_few_calls()
+    ensures { (job folder : ℕ) → (unique body : List ℕ) → (chunk : ℕ) → 0 < chunk → (heard : List Heard) →
+        length (made (delivery_turn job) (new_delivery folder unique body chunk) heard) ≤ pieces_of (length body) chunk + 3 }
+{}
+
+/// A clean makes at most one call more than its listing has rows.
+pub fn a_clean_makes_few_calls()
+    ensures { (folder : ℕ) → (listing : Heard) → (heard : List Heard) →
+        length (made (λ c at. cleaning_turn c at.own) (new_cleaning folder) (listing ∷ heard)) ≤ 1 + length listing.rows }
+{}
+
+/// A clean keeps to tmp of its folder, and has no effect on messages.
+pub fn a_clean_keeps_to_tmp()
+    ensures { (own : ℕ) → (c : Cleaning) → (reply : Reply) → (rows : List Row) →
+        KeepsToTmp c (cleaning_turn c own).asked ((cleaning_turn c own).follows reply rows) }
+{}
+
+/// A clean takes away only names that its one listing showed to be old, each once, and says how many it took.
+pub fn a_clean_takes_away_what_it_saw_to_be_old()
+    ensures { (folder : ℕ) → (listing : Heard) → (heard : List Heard) →
+        CleansOld folder listing (made (λ c at. cleaning_turn c at.own) (new_cleaning folder) (listing ∷ heard)) }
 {}
