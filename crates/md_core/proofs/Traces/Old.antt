@@ -3,7 +3,7 @@ use Rattle.md_jobs.specs.Machines.Errand.{errand_turn}
 use Rattle.md_core.proofs.Machines.Errand.Asks.{errand-of-mail, no-unlink}
 use Rattle.std.proofs.Common.{ℕ, zero, suc, ◌≡◌, ◌<◌, ◌≤◌, ◌+◌, ◌-◌, ◌⊎◌, inl, inr, List, [], ◌∷◌, Some, None, true, refl, sym, ap, subst, ◌∙◌, length, slice_get, arith}
 use Rattle.std.proofs.lemmas.Bool.Decides.{nat_tests}
-use Rattle.md_core.proofs.Values.{State, Path, Place, Tmp, Row, Call, DirReply, Task, Deliver, Errand, Clean}
+use Rattle.md_core.proofs.Values.{State, Path, Place, Tmp, Call, DirReply, Task, Deliver, Errand, Clean}
 use Rattle.md_dirs.specs.Rows.{rows_of}
 use Rattle.md_dirs.specs.declared.paths.Place.TheVariants as place
 use Rattle.md_dirs.proofs.Sound.{by_path}
@@ -15,7 +15,7 @@ use Rattle.md_jobs.specs.Turn.{Turn, rows_for}
 use Rattle.md_jobs.specs.Asked.{Asked, create, append, unlink, list, ask_of, state_by}
 use Rattle.md_core.specs.Trace.{Step, call_at, Trace, IsStepOf, step_at, state, file_in}
 use Rattle.md_core.specs.Machine.{working, new_job, job_at}
-use Rattle.md_jobs.specs.Machines.Clean.{is_old, old_rows, after_next, at_stage, tmp, stage_turn}
+use Rattle.md_jobs.specs.Machines.Clean.{old_names, after_next, at_stage, tmp, stage_turn}
 use Rattle.md_core.specs.Runs.{Run, machine_at}
 use Rattle.md_core.specs.Stepping.{IsRun}
 use Rattle.md_core.specs.Interleaving.{IsTmpOf, HasSeenOld, MayChange, KeepsTmp}
@@ -25,7 +25,7 @@ use Rattle.lists.proofs.Members.{Has}
 use Rattle.md_core.proofs.Answers.LastStep.{IsTurn, left_by, reply_in, done_in, done-in, is_within, holds}
 use Rattle.md_core.proofs.Answers.Moments.{its-call, its-fits, at, asked_by, after_task}
 use Rattle.md_core.proofs.Answers.Files.Asking.{asks-fair, creates}
-use Rattle.md_core.proofs.Answers.Files.Listed.{has-filter}
+use Rattle.md_core.proofs.Answers.Files.Listed.{has-old}
 use Rattle.md_core.proofs.Answers.Files.Tmp.{Touches, LeavesTmp, touches}
 use Rattle.md_core.proofs.Traces.Same.{state-same, done-step}
 use Rattle.md_core.proofs.Traces.Stands.{turn-of}
@@ -41,37 +41,37 @@ module _ (r : Run) (run : IsRun r) where
   abbrev t : Trace
   t = trace_of r
 
-  -- before moment k the job listed tmp of the folder, and saw the files of these rows to be old
-  pub record SawOld (k job folder : ℕ) (rows : List Row) : Type 0 where
+  -- before moment k the job listed tmp of the folder, and saw the files of these names to be old
+  pub record SawOld (k job folder : ℕ) (names : List (List ℕ)) : Type 0 where
     pub i : ℕ
     pub before : i < k
     pub look : IsStepOf t job i
     pub listed : look.step.asked ≡ list folder Tmp
     pub ok : look.step.reply ≡ reply.Ok
-    pub all : (row : Row) → Has rows row → Has (old_rows look.step.at.own (rows_of (machine_at r i).dirs folder Tmp)) row
+    pub all : (name : List ℕ) → Has names name → Has (old_names look.step.at.own (rows_of (machine_at r i).dirs folder Tmp)) name
 
   abbrev AtStage : ℕ → ℕ → ℕ → Stage → Type 0
   AtStage k job folder Look = Unit {0}
-  AtStage k job folder (Remove name rest files) = (row : Row) × (row.name ≡ name) × SawOld k job folder (row ∷ rest)
+  AtStage k job folder (Remove name rest files) = SawOld k job folder (name ∷ rest)
 
   abbrev AtTask : ℕ → ℕ → Task → Type 0
   AtTask k job (Clean c) = AtStage k job c.folder c.stage
   AtTask k job other = Unit {0}
 
-  saw-more : (k job folder : ℕ) (rows : List Row) → SawOld k job folder rows → SawOld (k + 1) job folder rows
-  saw-more k job folder rows h =
+  saw-more : (k job folder : ℕ) (names : List (List ℕ)) → SawOld k job folder names → SawOld (k + 1) job folder names
+  saw-more k job folder names h =
       let less = h.before in
       record { i = h.i; before = omega (arith, less); look = h.look; listed = h.listed; ok = h.ok; all = h.all }
 
-  saw-rest : (k job folder : ℕ) (row : Row) (rows : List Row) → SawOld k job folder (row ∷ rows) → SawOld (k + 1) job folder rows
-  saw-rest k job folder row rows h =
+  saw-rest : (k job folder : ℕ) (name : List ℕ) (rest : List (List ℕ)) → SawOld k job folder (name ∷ rest) → SawOld (k + 1) job folder rest
+  saw-rest k job folder name rest h =
       let less = h.before in
       record { i = h.i; before = omega (arith, less); look = h.look; listed = h.listed; ok = h.ok; all = λ x has. h.all x (inr has) }
 
-  next-saw : (k job : ℕ) (c : Cleaning) (rows : List Row) (files : ℕ) → SawOld k job c.folder rows → (after_next c rows files).answer ≡ None →
-      AtTask k job (Clean (after_next c rows files).task)
+  next-saw : (k job : ℕ) (c : Cleaning) (names : List (List ℕ)) (files : ℕ) → SawOld k job c.folder names → (after_next c names files).answer ≡ None →
+      AtTask k job (Clean (after_next c names files).task)
   next-saw k job c [] files h none = cc
-  next-saw k job c (row ∷ rest) files h none = (row, refl, h)
+  next-saw k job c (name ∷ rest) files h none = h
 
   module _ (k job : ℕ) (u : IsTurn r k job) where
     abbrev s : State
@@ -83,26 +83,26 @@ module _ (r : Run) (run : IsRun r) where
         (turn.follows rep (rows_for turn.asked s)).answer ≡ None → AtTask (k + 1) job (Clean (turn.follows rep (rows_for turn.asked s)).task)
 
     looked : (c : Cleaning) → (done_in r k job u).asked ≡ list c.folder Tmp → (done_in r k job u).reply ≡ reply.Ok →
-        SawOld (k + 1) job c.folder (old_rows (at r k job u).own (rows_of s c.folder Tmp))
+        SawOld (k + 1) job c.folder (old_names (at r k job u).own (rows_of s c.folder Tmp))
     looked c asked ok = record {
       i = k;
       before = omega arith;
       look = record { step = done_in r k job u; at = done-step r run k (done_in r k job u) (done-in r k job u); own = u.own };
       listed = asked;
       ok = ok;
-      all = λ row has. has;
+      all = λ name has. has;
     }
 
     stage-leads : (c : Cleaning) (stage : Stage) → AtStage k job c.folder stage → (rep : DirReply) →
         Leads (stage_turn (at_stage c stage) (at r k job u).own stage) rep
     stage-leads c Look before reply.Ok asked replied none =
-        let old = old_rows (at r k job u).own (rows_of s c.folder Tmp) in
+        let old = old_names (at r k job u).own (rows_of s c.folder Tmp) in
         next-saw (k + 1) job (at_stage c Look) old (length old) (looked c asked replied) none
     stage-leads c (Remove name rest files) before reply.Ok asked replied none =
-        next-saw (k + 1) job (at_stage c (Remove name rest files)) rest files (saw-rest k job c.folder before.0 rest before.2) none
+        next-saw (k + 1) job (at_stage c (Remove name rest files)) rest files (saw-rest k job c.folder name rest before) none
     stage-leads c (Remove name rest files) before reply.Exists asked replied none = cc
     stage-leads c (Remove name rest files) before reply.NotFound asked replied none =
-        next-saw (k + 1) job (at_stage c (Remove name rest files)) rest (files - 1) (saw-rest k job c.folder before.0 rest before.2) none
+        next-saw (k + 1) job (at_stage c (Remove name rest files)) rest (files - 1) (saw-rest k job c.folder name rest before) none
     stage-leads c (Remove name rest files) before reply.Fault asked replied none = cc
     stage-leads c Look before other asked replied none = cc
 
@@ -117,7 +117,7 @@ module _ (r : Run) (run : IsRun r) where
 
   stage-more : (k job folder : ℕ) (stage : Stage) → AtStage k job folder stage → AtStage (k + 1) job folder stage
   stage-more k job folder Look h = tt
-  stage-more k job folder (Remove name rest files) h = (h.0, h.1, saw-more k job folder (h.0 ∷ rest) h.2)
+  stage-more k job folder (Remove name rest files) h = saw-more k job folder (name ∷ rest) h
 
   other-turn : (k job : ℕ) (task : Task) → AtTask k job task → AtTask (k + 1) job task
   other-turn k job (Clean c) h = stage-more k job c.folder c.stage h
@@ -150,10 +150,12 @@ module _ (r : Run) (run : IsRun r) where
     abbrev MayHere : Call → Type 0
     MayHere c = MayChange t k x p c
 
-    seen-old : (folder : ℕ) (row : Row) (rest : List Row) → row.name ≡ p.name → SawOld k x.job folder (row ∷ rest) → HasSeenOld t x.job k folder p.name
-    seen-old folder row rest same h =
-        let old = has-filter (is_old h.look.step.at.own) (rows_of (machine_at r h.i).dirs folder Tmp) row (h.all row (inl refl)) in
-        let place = has-at (rows_of (machine_at r h.i).dirs folder Tmp) row old.0 in
+    seen-old : (folder : ℕ) (name : List ℕ) (rest : List (List ℕ)) → name ≡ p.name → SawOld k x.job folder (name ∷ rest) →
+        HasSeenOld t x.job k folder p.name
+    seen-old folder name rest same h =
+        let rows = rows_of (machine_at r h.i).dirs folder Tmp in
+        let old = has-old h.look.step.at.own rows name (h.all name (inl refl)) in
+        let place = has-at rows old.0 old.1 in
         record {
           i = h.i;
           before = h.before;
@@ -161,10 +163,10 @@ module _ (r : Run) (run : IsRun r) where
           listed = h.listed;
           ok = h.ok;
           at = place.0;
-          row = row;
+          row = old.0;
           there = ap (λ (s : State). slice_get (rows_of s folder Tmp) place.0) (state-same r run h.i) ∙ place.1;
-          named = same;
-          old = let hit = old.1 in grind (arith, nat_tests);
+          named = old.3 ∙ same;
+          old = let hit = old.2 in grind (arith, nat_tests);
         }
 
     clean-changes : (c : Cleaning) (own : ℕ) (stage : Stage) → AtStage k x.job c.folder stage → (stage_turn (at_stage c stage) own stage).asked ≡ unlink p →
@@ -172,7 +174,7 @@ module _ (r : Run) (run : IsRun r) where
     clean-changes c own Look now asks = cc
     clean-changes c own (Remove name rest files) now asks =
         let same : tmp c name ≡ p = cc in
-        (ap (λ (q : Path). q.folder) (sym same), seen-old c.folder now.0 rest (now.1 ∙ ap (λ (q : Path). q.name) same) now.2)
+        (ap (λ (q : Path). q.folder) (sym same), seen-old c.folder name rest (ap (λ (q : Path). q.name) same) now)
 
     -- a path of a delivery in tmp may be changed by it
     may-own : (c : Call) → IsTmpOf p c → MayHere c

@@ -4,7 +4,7 @@ use Rattle.std.specs.List.{All}
 use Rattle.std.specs.Prelude.{count_by}
 use Rattle.std.specs.Option.{option_to_list, option_and_then}
 use Rattle.std.proofs.lemmas.Bool.Decides.{nat_tests}
-use Rattle.std.proofs.lemmas.List.{append-nil, append_assoc, length-map, map-append, take_all}
+use Rattle.std.proofs.lemmas.List.{append-nil, append_assoc, map-append, take_all}
 use Rattle.std.proofs.lemmas.List.Elements.{filter-append, All-nil, All-cons, All-append}
 use Rattle.std.proofs.lemmas.List.Sums.{sum_by-append}
 use Rattle.md_core.proofs.Values.{State, Tmp, Row, DirReply, Task, Deliver, Errand, Clean}
@@ -17,7 +17,7 @@ use Rattle.md_jobs.specs.Tasks.Cleaning.{Cleaning, Stage, Look, Remove}
 use Rattle.md_jobs.specs.declared.step.DirReply.TheVariants as reply
 use Rattle.md_core.specs.Machine.{Machine, Standing, working, answered, Occurrence, after_event, step_of, job_at, new_job, standing_of}
 use Rattle.md_core.specs.Trace.{Step, call_at}
-use Rattle.md_jobs.specs.Machines.Clean.{old_rows, after_next, at_stage, tmp, stage_turn}
+use Rattle.md_jobs.specs.Machines.Clean.{old_rows, old_names, after_next, at_stage, tmp, stage_turn}
 use Rattle.md_jobs.specs.Turn.{Turn, rows_for}
 use Rattle.md_jobs.specs.Asked.{Asked, list, unlink}
 use Rattle.md_core.specs.Runs.{Run, beginning, run_from, machine_at, jobs_of, first_step, dirs_at_first}
@@ -106,7 +106,7 @@ module _ (r : Run) (job : ℕ) where
 
     abbrev AtStage : ℕ → Stage → Type 0
     AtStage k Look = (deeds k ≡ []) × (k ≤ first_step r job)
-    AtStage k (Remove name rest files) = HasTaken k (name ∷ map (λ row. row.name) rest) files
+    AtStage k (Remove name rest files) = HasTaken k (name ∷ rest) files
 
     abbrev Stands : ℕ → Standing → Type 0
     Stands k (working (Clean c)) = AtStage k c.stage
@@ -114,10 +114,10 @@ module _ (r : Run) (job : ℕ) where
     Stands k other = Unit {0}
 
     -- the next of the names that are left, or the answer
-    next-stands : (k : ℕ) (c : Cleaning) (rows : List Row) (files : ℕ) → HasTaken k (map (λ row. row.name) rows) files →
-        Stands k (standing_of (Clean (after_next c rows files).task) (after_next c rows files).answer)
+    next-stands : (k : ℕ) (c : Cleaning) (left : List (List ℕ)) (files : ℕ) → HasTaken k left files →
+        Stands k (standing_of (Clean (after_next c left files).task) (after_next c left files).answer)
     next-stands k c [] files h = h
-    next-stands k c (row ∷ rest) files h = h
+    next-stands k c (name ∷ rest) files h = h
 
     -- a turn of the job
     module _ (k : ℕ) (t : IsTurn r k job) where
@@ -129,22 +129,20 @@ module _ (r : Run) (job : ℕ) where
 
       look-taken : (c : Cleaning) → c.folder ≡ folder → deeds k ≡ [] → k ≤ first_step r job → this.asked ≡ list c.folder Tmp →
           this.reply ≡ reply.Ok →
-          let old = old_rows (at r k job t).own (rows_of s c.folder Tmp) in HasTaken (k + 1) (map (λ row. row.name) old) (length old)
+          let old = old_names (at r k job t).own (rows_of s c.folder Tmp) in HasTaken (k + 1) old (length old)
       look-taken c in_folder none first asked replied =
-          let old = old_rows (at r k job t).own (rows_of s c.folder Tmp) in
           let same : first_step r job ≡ k = is-first r k job job t first refl in
-          let size : length (map (λ (row : Row). row.name) old) ≡ length old = length-map old (λ row. row.name) in
           record {
             look = this;
             unlinks = [];
             deeds_are = deeds-own k job t refl ∙ ap (λ (ds : List Step). ds ++ this ∷ []) none;
             listed = asked ∙ ap (λ f. list f Tmp) in_folder;
             ok = replied;
-            names = map-twice (λ (row : Row). row.name) takes old
+            names = map-twice (λ (row : Row). row.name) takes (old_rows (at r k job t).own (rows_of s c.folder Tmp))
                 ∙ (λ i. map (λ (row : Row). takes row.name)
                 (old_rows (at r k job t).own (rows_of (machine_at r (sym same i)).dirs (in_folder i) Tmp)));
             replies = All-nil IsFoundOrNot;
-            count = omega (arith, size);
+            count = omega arith;
           }
 
       -- one name more
@@ -185,18 +183,18 @@ module _ (r : Run) (job : ℕ) where
           Stands (k + 1)
           (standing_of (Clean (turn.follows rep (rows_for turn.asked s)).task) (turn.follows rep (rows_for turn.asked s)).answer)
 
-      next-taken : (c : Cleaning) → c.folder ≡ folder → (name : List ℕ) (rest : List Row) (files files' : ℕ) →
-          HasTaken k (name ∷ map (λ row. row.name) rest) files →
+      next-taken : (c : Cleaning) → c.folder ≡ folder → (name : List ℕ) (rest : List (List ℕ)) (files files' : ℕ) →
+          HasTaken k (name ∷ rest) files →
           this.asked ≡ unlink (tmp c name) → IsFoundOrNot this → files' ≡ cond (is_ok this.reply) files (files - 1) →
           Stands (k + 1) (standing_of (Clean (after_next c rest files').task) (after_next c rest files').answer)
       next-taken c in_folder name rest files files' h asked found counts =
           next-stands (k + 1) c rest files'
-          (more-taken name (map (λ row. row.name) rest) files files' h (asked ∙ ap (λ f. unlink (path f Tmp name)) in_folder) found counts)
+          (more-taken name rest files files' h (asked ∙ ap (λ f. unlink (path f Tmp name)) in_folder) found counts)
 
       stage-stands : (c : Cleaning) → c.folder ≡ folder → (stage : Stage) → AtStage k stage → (rep : DirReply) →
           StandsAfter (stage_turn (at_stage c stage) (at r k job t).own stage) rep
       stage-stands c in_folder Look now reply.Ok asked replied =
-          let old = old_rows (at r k job t).own (rows_of s c.folder Tmp) in
+          let old = old_names (at r k job t).own (rows_of s c.folder Tmp) in
           next-stands (k + 1) (at_stage c Look) old (length old) (look-taken c in_folder now.0 now.1 asked replied)
       stage-stands c in_folder (Remove name rest files) now reply.Ok asked replied =
           next-taken (at_stage c (Remove name rest files)) in_folder name rest files files now asked (inl replied)
@@ -243,7 +241,7 @@ module _ (r : Run) (job : ℕ) where
     module _ (k n : ℕ) (t : IsTurn r k n) (differ : job ≢ n) where
       stage-still : (stage : Stage) → AtStage k stage → AtStage (k + 1) stage
       stage-still Look now = (deeds-other k n t differ ∙ now.0, not-yet r k n job t now.1 differ)
-      stage-still (Remove name rest files) now = taken-still k (name ∷ map (λ row. row.name) rest) files (deeds-other k n t differ) now
+      stage-still (Remove name rest files) now = taken-still k (name ∷ rest) files (deeds-other k n t differ) now
 
       other-stands : (st : Standing) → Stands k st → Stands (k + 1) st
       other-stands (working (Clean c)) now = stage-still c.stage now

@@ -52,9 +52,9 @@ no-file None rest false is other = refl
 no-file (Some n) rest false is other = absurd (other is)
 
 -- an answer of a clean
-next-says : (c : Cleaning) (rows : List Row) (files : ℕ) (a : Answer) → (cleaned_by.after_next c rows files).answer ≡ Some a → CleanSays a
+next-says : (c : Cleaning) (names : List (List ℕ)) (files : ℕ) (a : Answer) → (cleaned_by.after_next c names files).answer ≡ Some a → CleanSays a
 next-says c [] files a is = inr (files, cc)
-next-says c (row ∷ rest) files a is = cc
+next-says c (name ∷ rest) files a is = cc
 
 clean-says : (c : Cleaning) (own : ℕ) (stage : cleaning.Stage) (rep : DirReply) (rows : List Row) (a : Answer) →
     ((cleaned_by.stage_turn c own stage).follows rep rows).answer ≡ Some a → CleanSays a

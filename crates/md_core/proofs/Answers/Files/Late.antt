@@ -1,8 +1,8 @@
 -- What a clean still has to take away was old when it looked: of a delivery's file, the delivery had begun long before.
 use Rattle.md_core.proofs.Machines.Errand.Table.Rows.{no-clean}
-use Rattle.std.proofs.Common.{ℕ, ◌≡◌, ◌≤◌, ◌⊎◌, ◌+◌, ◌-◌, inl, inr, List, [], ◌∷◌, Some, None, length, refl, sym, ap, subst, ◌∙◌, arith}
+use Rattle.std.proofs.Common.{ℕ, ◌≡◌, ◌≤◌, ◌+◌, ◌-◌, inl, inr, List, [], ◌∷◌, Some, None, length, refl, sym, ap, subst, ◌∙◌, arith}
 use Rattle.std.proofs.lemmas.Bool.Decides.{nat_tests}
-use Rattle.md_core.proofs.Values.{State, file_at, Path, Tmp, Row, Call, DirReply, Task, Deliver, Errand, Clean}
+use Rattle.md_core.proofs.Values.{State, file_at, Path, Tmp, Call, DirReply, Task, Deliver, Errand, Clean}
 use Rattle.md_dirs.specs.Path.{path_of as path}
 use Rattle.md_dirs.specs.Rows.{rows_of}
 use Rattle.md_jobs.specs.declared.call.Call.TheVariants as call
@@ -10,7 +10,7 @@ use Rattle.md_jobs.specs.Tasks.Cleaning.{Cleaning, Stage, Look, Remove}
 use Rattle.md_jobs.specs.declared.step.DirReply.TheVariants as reply
 use Rattle.md_core.specs.Trace.{Step, call_at}
 use Rattle.md_core.specs.Machine.{working, job_at, new_job}
-use Rattle.md_jobs.specs.Machines.Clean.{least_seconds, is_old, old_rows, after_next, at_stage, tmp, stage_turn}
+use Rattle.md_jobs.specs.Machines.Clean.{least_seconds, old_names, after_next, at_stage, tmp, stage_turn}
 use Rattle.md_jobs.specs.Turn.{Turn, rows_for}
 use Rattle.md_jobs.specs.Asked.{unlink}
 use Rattle.md_core.specs.Runs.{Run, machine_at, first_step}
@@ -22,7 +22,7 @@ use Rattle.lists.proofs.Members.{Has}
 use Rattle.md_core.proofs.Answers.LastStep.{IsTurn, is_within, left_by, turn-at, holds, reply_in, done_in, done-in}
 use Rattle.md_core.proofs.Answers.Moments.{its-fits, at, asked_by, after_task, next-clock, clock-grows, turn-done}
 use Rattle.md_core.proofs.Answers.Files.Stamps.{stamped-at}
-use Rattle.md_core.proofs.Answers.Files.Listed.{has-filter, listed-file}
+use Rattle.md_core.proofs.Answers.Files.Listed.{has-old, listed-file}
 use Rattle.md_core.proofs.Machines.Errand.Table.Calls.{new-looks}
 
 -- a job has begun, and its first step was 36 hours less these seconds before the clock of moment k
@@ -31,22 +31,19 @@ pub record IsLate (r : Run) (seconds job k : ℕ) : Type 0 where
   pub late : begun.what.at.clock + least_seconds ≤ (machine_at r k).clock + seconds
 
 -- a name is among those that a clean still has to take away
-abbrev pub IsLeftIn : List ℕ → List Row → Type 0
-IsLeftIn u rows = (row : Row) × Has rows row × (row.name ≡ u)
-
 abbrev pub IsLeft : List ℕ → Stage → Type 0
 IsLeft u Look = ⊥
-IsLeft u (Remove name rest files) = (name ≡ u) ⊎ IsLeftIn u rest
+IsLeft u (Remove name rest files) = Has (name ∷ rest) u
 
 module _ (u : List ℕ) (c : Cleaning) where
-  left-next : (rows : List Row) (files : ℕ) → (after_next c rows files).answer ≡ None → IsLeft u (after_next c rows files).task.stage →
-      IsLeftIn u rows
+  left-next : (names : List (List ℕ)) (files : ℕ) → (after_next c names files).answer ≡ None → IsLeft u (after_next c names files).task.stage →
+      Has names u
   left-next [] files unanswered left = cc
-  left-next (row ∷ rest) files unanswered left = elim left [ inl is ↦ (row, inl refl, is) | inr later ↦ (later.0, inr later.1, later.2) ]
+  left-next (name ∷ rest) files unanswered left = left
 
-  folder-next : (rows : List Row) (files : ℕ) → (after_next c rows files).task.folder ≡ c.folder
+  folder-next : (names : List (List ℕ)) (files : ℕ) → (after_next c names files).task.folder ≡ c.folder
   folder-next [] files = refl
-  folder-next (row ∷ rest) files = refl
+  folder-next (name ∷ rest) files = refl
 
 -- the task of a clean
 pub cleans : (s : State) (f : ℕ) (task : Task) → TaskFits s (call.Clean f) task → (c : Cleaning) × (task ≡ Clean c)
@@ -79,17 +76,17 @@ module _ (r : Run) (run : IsRun r) (seconds : ℕ) (apart : AreApart r seconds) 
     s = (machine_at r k).dirs
 
     -- a clean looks
-    late-look : (c : Cleaning) → c.folder ≡ folder → IsLeftIn u (old_rows (at r k n t).own (rows_of s c.folder Tmp)) → IsLateAt (k + 1)
+    late-look : (c : Cleaning) → c.folder ≡ folder → Has (old_names (at r k n t).own (rows_of s c.folder Tmp)) u → IsLateAt (k + 1)
     late-look c in_folder left =
-        let row = left.0 in
-        let old = has-filter (is_old (at r k n t).own) (rows_of s c.folder Tmp) row left.1 in
-        let file = listed-file s c.folder Tmp row old.0 in
-        let same : path c.folder Tmp row.name ≡ path folder Tmp u = (λ i. path (in_folder i) Tmp (left.2 i)) in
+        let old = has-old (at r k n t).own (rows_of s c.folder Tmp) u left in
+        let row = old.0 in
+        let file = listed-file s c.folder Tmp row old.1 in
+        let same : path c.folder Tmp row.name ≡ path folder Tmp u = (λ i. path (in_folder i) Tmp (old.3 i)) in
         let within : k ≤ length r.events = (let less = is_within r k n t in omega (arith, less)) in
         let h = stamped-at r run job folder u body chunk of k within file.0 (ap (file_at s) (sym same) ∙ file.1) in
         let stamped = h.stamped in
         let shown = file.2 in
-        let long : least_seconds ≤ (at r k n t).own - row.stamp = (let is = old.1 in grind (arith, nat_tests)) in
+        let long : least_seconds ≤ (at r k n t).own - row.stamp = (let is = old.2 in grind (arith, nat_tests)) in
         let ahead = (apart k (done_in r k n t) (done-in r k n t)).0 in
         let now = next-clock r k n t in
         record { begun = h.begun; late = omega (arith, stamped, shown, long, ahead, now) }
@@ -103,7 +100,7 @@ module _ (r : Run) (run : IsRun r) (seconds : ℕ) (apart : AreApart r seconds) 
     stage-leads : (c : Cleaning) (stage : Stage) → (c.folder ≡ folder → IsLeft u stage → IsLateAt k) → (rep : DirReply) →
         Leads (stage_turn (at_stage c stage) (at r k n t).own stage) rep
     stage-leads c Look before reply.Ok unanswered in_folder left =
-        let old = old_rows (at r k n t).own (rows_of s c.folder Tmp) in
+        let old = old_names (at r k n t).own (rows_of s c.folder Tmp) in
         late-look c (sym (folder-next u (at_stage c Look) old (length old)) ∙ in_folder)
         (left-next u (at_stage c Look) old (length old) unanswered left)
     stage-leads c (Remove name rest files) before reply.Ok unanswered in_folder left =
@@ -144,7 +141,7 @@ module _ (r : Run) (run : IsRun r) (seconds : ℕ) (apart : AreApart r seconds) 
   left-now c own Look is = cc
   left-now c own (Remove name rest files) is =
       let same : tmp c name ≡ path folder Tmp u = cc in
-      (ap (λ (p : Path). p.folder) same, inl (ap (λ (p : Path). p.name) same))
+      (ap (λ (p : Path). p.folder) same, inl (ap (λ (p : Path). p.name) (sym same)))
 
   -- a clean that takes the file of the delivery away comes late
   pub late-clean : (k : ℕ) (cleaned : IsCleanedAway r k (path folder Tmp u)) →

@@ -6,12 +6,13 @@ use Rattle.md_dirs.specs.Path.{path_of}
 use Rattle.md_dirs.specs.Rows.{rows_of, row_of, row_by, is_in}
 use Rattle.md_dirs.specs.declared.paths.File.{File}
 use Rattle.md_dirs.proofs.PathOrder.{path_total, path_exact}
+use Rattle.md_jobs.specs.Machines.Clean.{is_old, old_rows, old_names}
 use Rattle.md_core.specs.Runs.{stamp_of}
 use Rattle.lists.proofs.Members.{Has, has-get}
 use Rattle.md_core.proofs.Looking.LookUps.{name-row, path-in}
 use Rattle.md_core.proofs.Answers.Files.Tmp.{stamp_at}
 
-pub has-filter : {X : Type 0} (p : X → Bool) (xs : List X) (x : X) → Has (filter p xs) x → Has xs x × (p x ≡ true)
+has-filter : {X : Type 0} (p : X → Bool) (xs : List X) (x : X) → Has (filter p xs) x → Has xs x × (p x ≡ true)
 has-filter p [] x has = absurd has
 has-filter p (y ∷ ys) x has = by (has-filter p ys x) (p y) refl has
   where
@@ -23,6 +24,14 @@ has-filter p (y ∷ ys) x has = by (has-filter p ys x) (p y) refl has
 has-map : {X Y : Type 0} (f : X → Y) (xs : List X) (y : Y) → Has (map f xs) y → (x : X) × Has xs x × (y ≡ f x)
 has-map f [] y has = absurd has
 has-map f (x ∷ xs) y has = elim has [ inl same ↦ (x, inl refl, same) | inr later ↦ (let l = has-map f xs y later in (l.0, inr l.1, l.2)) ]
+
+-- an old name is that of a row that is old
+pub has-old : (own : ℕ) (rows : List Row) (name : List ℕ) → Has (old_names own rows) name →
+    (row : Row) × Has rows row × (is_old own row ≡ true) × (row.name ≡ name)
+has-old own rows name has =
+    let named = has-map (λ (row : Row). row.name) (old_rows own rows) name has in
+    let old = has-filter (is_old own) rows named.0 named.1 in
+    (named.0, old.0, old.1, sym named.2)
 
 row-stamp : (name : List ℕ) (o : Option File) → (row_by name o).stamp ≡ stamp_of o
 row-stamp name None = refl

@@ -2,14 +2,14 @@
 use Rattle.std.proofs.Common.{ℕ, ◌≡◌, ◌<◌, ◌-◌, List, [], ◌∷◌, Bool, length, refl, MatchOption}
 use Rattle.md_dirs.specs.Calls as dirs
 use Rattle.md_dirs.specs.Rows.{rows_of}
-use Rattle.md_core.proofs.Values.{State, Row, Answer, DirReply, Moment}
+use Rattle.md_core.proofs.Values.{State, Answer, DirReply, Moment}
 use Rattle.md_dirs.specs.declared.paths.Place.TheVariants.{Tmp}
 use Rattle.md_jobs.specs.declared.answer.Answer.TheVariants as answer
 use Rattle.md_jobs.specs.Tasks.Cleaning.{Cleaning, Stage, Look, Remove}
 use Rattle.md_jobs.specs.declared.step.DirReply.TheVariants as reply
 use Rattle.md_jobs.specs.Turn.{After, Turn, rows_for, reply_of}
 use Rattle.md_jobs.specs.Asked.{ask_of}
-use Rattle.md_jobs.specs.Machines.Clean.{at_stage, tmp, old_rows, after_next, look_turn, unlink_turn, stage_turn, cleaning_turn}
+use Rattle.md_jobs.specs.Machines.Clean.{at_stage, tmp, old_names, after_next, look_turn, unlink_turn, stage_turn, cleaning_turn}
 use Rattle.md_core.proofs.Answers.Turns.Refusals.{list-exists, list-not_found, unlink-exists}
 
 -- what an answer says of the reply
@@ -22,19 +22,19 @@ abbrev CleanSays : DirReply → After Cleaning → Type 0
 CleanSays r after = MatchOption after.answer (Unit {0}) (CleanTells r)
 
 module _ (s : State) (at : Moment) (faulted : Bool) (c : Cleaning) where
-  next-says : (x : Cleaning) (r : DirReply) (rest : List Row) (files : ℕ) → CleanSays r (after_next x rest files)
+  next-says : (x : Cleaning) (r : DirReply) (rest : List (List ℕ)) (files : ℕ) → CleanSays r (after_next x rest files)
   next-says x r [] files = tt
-  next-says x r (row ∷ rest) files = tt
+  next-says x r (name ∷ rest) files = tt
 
   look-says : c.folder < s.folders → (r : DirReply) → r ≡ reply_of (dirs.list c.folder Tmp) s faulted →
       CleanSays r ((look_turn (at_stage c Look) at.own).follows r (rows_of s c.folder Tmp))
   look-says within reply.Ok replied =
-      next-says (at_stage c Look) reply.Ok (old_rows at.own (rows_of s c.folder Tmp)) (length (old_rows at.own (rows_of s c.folder Tmp)))
+      let names = old_names at.own (rows_of s c.folder Tmp) in next-says (at_stage c Look) reply.Ok names (length names)
   look-says within reply.Exists replied = absurd (list-exists s faulted c.folder Tmp within replied)
   look-says within reply.NotFound replied = absurd (list-not_found s faulted c.folder Tmp within replied)
   look-says within reply.Fault replied = refl
 
-  module _ (name : List ℕ) (rest : List Row) (files : ℕ) where
+  module _ (name : List ℕ) (rest : List (List ℕ)) (files : ℕ) where
     abbrev z : Cleaning
     z = at_stage c (Remove name rest files)
 

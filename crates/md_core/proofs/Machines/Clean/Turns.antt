@@ -1,10 +1,11 @@
 -- What each turn of a clean does, by its stage and the reply: no message changes.
 use Rattle.std.proofs.Common.{ℕ, ◌≡◌, ◌<◌, ◌-◌, List, [], ◌∷◌, Option, Some, None, Bool, false, not, length, refl, sym, ap, arith}
+use Rattle.std.proofs.lemmas.List.{length-map}
 use Rattle.std.proofs.lemmas.List.Filters.{length-filter_both}
 use Rattle.md_dirs.specs.Calls as dirs
 use Rattle.md_dirs.specs.Calls.{after_unlink}
 use Rattle.md_dirs.specs.Rows.{rows_of}
-use Rattle.md_core.proofs.Values.{State, IsSound, Row, Call, Answer, DirReply, Moment, Clean}
+use Rattle.md_core.proofs.Values.{State, IsSound, Call, Answer, DirReply, Moment, Clean}
 use Rattle.md_dirs.specs.declared.paths.Place.TheVariants.{Tmp}
 use Rattle.md_jobs.specs.declared.answer.Answer.TheVariants as answer
 use Rattle.md_jobs.specs.Tasks.Cleaning.{Cleaning, Stage, Look, Remove}
@@ -12,7 +13,7 @@ use Rattle.md_jobs.specs.declared.step.DirReply.TheVariants as reply
 use Rattle.md_core.specs.Mailbox.{HasOnePath}
 use Rattle.md_core.specs.Interleaving.{is_effect_at, is_success}
 use Rattle.md_core.specs.Machine.{as_task}
-use Rattle.md_jobs.specs.Machines.Clean.{at_stage, tmp, is_old, old_rows, after_next, look_turn, unlink_turn, stage_turn, cleaning_turn, steps_left}
+use Rattle.md_jobs.specs.Machines.Clean.{at_stage, tmp, is_old, old_rows, old_names, after_next, look_turn, unlink_turn, stage_turn, cleaning_turn, steps_left}
 use Rattle.md_jobs.specs.Asked.{Asked, list, unlink, ask_of, state_by}
 use Rattle.md_jobs.specs.Turn.{Turn, After, ends, rows_for, reply_of}
 use Rattle.md_core.proofs.Induction.Good.{CleaningFits, Does}
@@ -57,9 +58,9 @@ module _ (s s' : State) (number : ℕ) (asked : Call) (one : HasOnePath s) (c : 
   }
 
   -- the next of the names that are left, or the answer
-  next-does : (rest : List Row) (files : ℕ) → length rest < steps_left s c.folder c.stage → DoesQuietly (after_next c rest files)
+  next-does : (rest : List (List ℕ)) (files : ℕ) → length rest < steps_left s c.folder c.stage → DoesQuietly (after_next c rest files)
   next-does [] files less = ends-does (answer.Cleaned files) refl (omega arith)
-  next-does (row ∷ rest) files less = record {
+  next-does (name ∷ rest) files less = record {
     sound = quiet.sound;
     one_path = one-keeps s s' one quiet.keeps;
     folders = quiet.spares.folders;
@@ -86,7 +87,7 @@ module _ (s : State) (number : ℕ) (asked : Call) (clock : ℕ) (sound : IsSoun
     still-ends : (a : Answer) → is_success a ≡ false → 0 < steps_left s x.folder x.stage → Does s s number asked (Clean x) made r (as_after Clean (ends x a))
     still-ends a failure some = ends-does s s number asked one x fits made r [] (quiet-stays s [] sound) (shrinks-stays s) a failure some
 
-    still-next : (rest : List Row) (files : ℕ) → length rest < steps_left s x.folder x.stage →
+    still-next : (rest : List (List ℕ)) (files : ℕ) → length rest < steps_left s x.folder x.stage →
         Does s s number asked (Clean x) made r (as_after Clean (after_next x rest files))
     still-next rest files less = next-does s s number asked one x fits made r [] (quiet-stays s [] sound) (shrinks-stays s) rest files less
 
@@ -96,14 +97,17 @@ module _ (s : State) (number : ℕ) (asked : Call) (clock : ℕ) (sound : IsSoun
     y = at_stage c Look
 
     look-does : (r : DirReply) → DoesBy s number asked y clock (look_turn y own) r
-    look-does reply.Ok = still-next y fits (list c.folder Tmp) reply.Ok (old_rows own (rows_of s c.folder Tmp)) (length (old_rows own (rows_of s c.folder Tmp)))
-        (let both = length-filter_both (is_old own) (λ row. not (is_old own row)) (λ row. refl) (rows_of s c.folder Tmp) in omega (arith, both))
+    look-does reply.Ok =
+        let rows = rows_of s c.folder Tmp in
+        let both = length-filter_both (is_old own) (λ row. not (is_old own row)) (λ row. refl) rows in
+        let size : length (old_names own rows) ≡ length (old_rows own rows) = length-map (old_rows own rows) (λ row. row.name) in
+        still-next y fits (list c.folder Tmp) reply.Ok (old_names own rows) (length (old_names own rows)) (omega (arith, both, size))
     look-does reply.Exists = still-ends y fits (list c.folder Tmp) reply.Exists answer.Fault refl (omega arith)
     look-does reply.NotFound = still-ends y fits (list c.folder Tmp) reply.NotFound answer.Fault refl (omega arith)
     look-does reply.Fault = still-ends y fits (list c.folder Tmp) reply.Fault answer.Fault refl (omega arith)
 
   -- a name is taken away
-  module _ (name : List ℕ) (rest : List Row) (files : ℕ) (fits : CleaningFits asked (at_stage c (Remove name rest files))) where
+  module _ (name : List ℕ) (rest : List (List ℕ)) (files : ℕ) (fits : CleaningFits asked (at_stage c (Remove name rest files))) where
     abbrev z : Cleaning
     z = at_stage c (Remove name rest files)
 
