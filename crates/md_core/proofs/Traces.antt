@@ -3,6 +3,7 @@ pub mod Same
 pub mod Stands
 pub mod Few
 pub mod Headline
+pub mod Clock
 pub mod Plain
 pub mod Telling
 pub mod OneClock

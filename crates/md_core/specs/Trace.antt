@@ -1,6 +1,6 @@
 -- A trace: what an observer of the directories writes down, step by step. It knows calls, directory calls, replies, moments, answers and
 -- effects, and nothing of how a job decides what to do next.
-use Rattle.std.specs.Prelude.{ℕ, zero, suc, ◌≡◌, ◌<◌, ◌==◌, List, [], ◌∷◌, Option, Some, None, ◌⊎◌, take, slice_get, count_by}
+use Rattle.std.specs.Prelude.{ℕ, zero, suc, ◌≡◌, ◌<◌, ◌≤◌, ◌==◌, List, [], ◌∷◌, Option, Some, None, ◌⊎◌, take, slice_get, count_by}
 use Rattle.std.specs.List.{filter_map}
 use Rattle.std.specs.Option.{option_and_then}
 use Rattle.md_dirs.specs.State.{State, IsSound, file_at, file_by}
@@ -79,11 +79,13 @@ abbrev pub steps_of : Trace → ℕ → ℕ
 steps_of t job = count_by (λ x. x.job == job) t.steps
 
 -- Which lists of steps are traces: the directories at the beginning are sound, and each message of them has one path; each call was
--- accepted after those before it; each reply is what the directory call answers there, or Fault; and a job with an answer takes no step.
+-- accepted after those before it; each reply is what the directory call answers there, or Fault; the store's clock never goes back; and a
+-- job with an answer takes no step.
 pub record IsTrace (t : Trace) : Type 0 where
   pub sound : IsSound t.image
   pub one_path : HasOnePath t.image
   pub accepted : (i : ℕ) (call : Call) → slice_get t.calls i ≡ Some call → IsAccepted t.image (take i t.calls) call
   pub replied : (k : ℕ) (x : Step) → step_at t k ≡ Some x
       → (x.reply ≡ reply_by ((ask_of x.asked x.at.clock).refusal (state t k))) ⊎ (x.reply ≡ Fault)
+  pub forward : (i k : ℕ) (x y : Step) → step_at t i ≡ Some x → step_at t k ≡ Some y → i ≤ k → x.at.clock ≤ y.at.clock
   pub ended : (i k job : ℕ) (a : Answer) → (x : IsStepOf t job i) → x.step.answer ≡ Some a → i < k → IsStepOf t job k → ⊥

@@ -1,12 +1,13 @@
 -- The trace of a run: what its events did, one after another. Here alone the machines are used.
-use Rattle.std.specs.Prelude.{ℕ, ◌≡◌, ◌≤◌, ◌++◌, ◌∷◌, [], List, Some, None, length, slice_get, is_some}
-use Rattle.std.specs.Option.{option_to_list}
+use Rattle.std.specs.Prelude.{ℕ, zero, suc, ◌≡◌, ◌≤◌, ◌++◌, ◌∷◌, [], List, Some, None, max, length, slice_get, is_some, unwrap_or}
+use Rattle.std.specs.Option.{option_to_list, option_map_or}
 use Rattle.md_jobs.specs.declared.answer.Answer.{Answer}
+use Rattle.md_jobs.specs.declared.step.Event.{Event}
 use Rattle.md_jobs.specs.declared.step.StepOut.{StepOut}
 use Rattle.md_jobs.specs.Asked.{shown_call}
 use Rattle.md_core.specs.Machine.{Machine, Occurrence, step_of, after_event, job_at}
-use Rattle.md_core.specs.Runs.{Run, beginning, dirs_of, jobs_of, effects_of, answer_of}
-use Rattle.md_core.specs.Trace.{Step, Trace, IsAnswered, state, effects}
+use Rattle.md_core.specs.Runs.{Run, beginning, dirs_of, jobs_of, effects_of, log_of, answer_of}
+use Rattle.md_core.specs.Trace.{Step, Trace, IsAnswered, step_at, state, effects}
 
 -- what events did, one after another, from a machine
 unfoldable pub deeds_from : Machine → List Occurrence → List Step
@@ -37,10 +38,23 @@ pub record GrowsByStep (t t' : Trace) (job : ℕ) (out : StepOut) : Type 0 where
   pub own : step.job ≡ job
   pub shown : IsShownBy step out
 
--- What a world shows is what the trace of its run says: one step for each event, and after the last step its directories and effects; and a
--- job has the answer that a step of it gave.
+-- the store's clock at moment k: that of the step before, or of the beginning
+abbrev pub clock_before : Run → ℕ → ℕ
+clock_before r zero = r.clock
+clock_before r (suc k) = option_map_or (λ x. x.at.clock) (step_at (trace_of r) k) r.clock
+
+-- A step is of the job that the log has at its place. Its clock is the greater of the clock before and the moment that was given; its own
+-- moment is the one that was given, or the clock.
+pub record IsLogged (r : Run) (k : ℕ) (e : Event) (x : Step) : Type 0 where
+  pub job : x.job ≡ e.job
+  pub clock : x.at.clock ≡ max (clock_before r k) e.now
+  pub own : x.at.own ≡ unwrap_or e.own x.at.clock
+
+-- What a world shows is what the trace of its run says: one step for each event, of its job and at its moment, and after the last step its
+-- directories and effects; and a job has the answer that a step of it gave.
 pub record IsShown (r : Run) : Type 0 where
   pub steps : length (trace_of r).steps ≡ length r.events
+  pub logged : (k : ℕ) (e : Event) (x : Step) → slice_get (log_of r) k ≡ Some e → step_at (trace_of r) k ≡ Some x → IsLogged r k e x
   pub dirs : state (trace_of r) (length r.events) ≡ dirs_of r
   pub effects : effects (trace_of r) (length r.events) ≡ effects_of r
   pub answer : (job : ℕ) (a : Answer) → answer_of (job_at (jobs_of r) job) ≡ Some a → IsAnswered (trace_of r) job a

@@ -24,6 +24,7 @@ use Rattle.md_core.proofs.Worlds.Loading.Loaded.{loaded-one_path}
 use Rattle.md_core.proofs.Traces.Same.{many-steps, same-jobs, state-same, effects-same, done-step}
 use Rattle.md_core.proofs.Traces.Stands.{answered-of, ended, turn-of}
 use Rattle.md_core.proofs.Traces.Few.{count-map, place-map}
+use Rattle.md_core.proofs.Traces.Clock.{forward}
 use Rattle.md_core.proofs.Traces.Headline.{theorem, box-same, law-of}
 use Rattle.md_core.proofs.Induction.GoodRuns.{accepted-at}
 
@@ -131,5 +132,6 @@ module _ (r : Run) (run : IsRun r) where
     one_path = loaded-one_path r.image run.loaded;
     accepted = accepted-at r run;
     replied = replied;
+    forward = forward r run;
     ended = ended r run;
   }

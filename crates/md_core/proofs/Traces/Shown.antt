@@ -8,6 +8,7 @@ use Rattle.md_core.specs.Trace.{IsAnswered, state, effects}
 use Rattle.md_core.specs.Tracing.{trace_of, IsShown}
 use Rattle.md_core.proofs.Runs.ByEvent.{moment-end}
 use Rattle.md_core.proofs.Traces.Same.{many-steps, state-same, effects-same}
+use Rattle.md_core.proofs.Traces.Clock.{logged}
 use Rattle.md_core.proofs.Traces.Stands.{answered-of, answered-at}
 
 module _ (r : Run) (run : IsRun r) where
@@ -28,6 +29,7 @@ module _ (r : Run) (run : IsRun r) where
   pub shown : IsShown r
   shown = record {
     steps = many-steps r run;
+    logged = logged r run;
     dirs = ap (state (trace_of r)) (sym (many-steps r run)) ∙ shown-dirs;
     effects = ap (effects (trace_of r)) (sym (many-steps r run)) ∙ shown-effects;
     answer = shown-answer;

@@ -1,0 +1,56 @@
+-- The moments of steps: the store's clock never goes back, and each moment is what the log gives.
+use Rattle.std.proofs.Common.{ℕ, zero, suc, ◌≡◌, ◌≤◌, ◌+◌, Option, Some, sym, ap, ◌∙◌, length, max, slice_get, unwrap_or, arith}
+use Rattle.std.specs.Option.{option_map, option_map_or}
+use Rattle.std.proofs.lemmas.Option.{slice_get-map}
+use Rattle.md_core.proofs.Values.{Event}
+use Rattle.md_core.specs.Machine.{Machine, Occurrence}
+use Rattle.md_core.specs.Trace.{Step, Trace, step_at}
+use Rattle.md_core.specs.Runs.{Run, machine_at, log_of}
+use Rattle.md_core.specs.Stepping.{IsRun}
+use Rattle.md_core.specs.Tracing.{trace_of, clock_before, IsLogged}
+use Rattle.md_core.proofs.Lists.Places.{at_place}
+use Rattle.md_core.proofs.Runs.ByEvent.{moment-start}
+use Rattle.md_core.proofs.Answers.LastStep.{is_within}
+use Rattle.md_core.proofs.Answers.Moments.{turn-done, next-clock, clock-later}
+use Rattle.md_core.proofs.Traces.Same.{many-steps, step-done}
+
+module _ (r : Run) (run : IsRun r) where
+  abbrev t : Trace
+  t = trace_of r
+
+  -- after a step the clock is that of its moment
+  clock-after : (k : ℕ) (x : Step) → step_at t k ≡ Some x → (machine_at r (k + 1)).clock ≡ x.at.clock
+  clock-after k x at =
+      let h = turn-done r run k x (step-done r run k x at) in
+      next-clock r k h.0 h.1 ∙ ap (λ (d : Step). d.at.clock) (sym h.2)
+
+  pub forward : (i k : ℕ) (x y : Step) → step_at t i ≡ Some x → step_at t k ≡ Some y → i ≤ k → x.at.clock ≤ y.at.clock
+  forward i k x y first last before =
+      let was = clock-after i x first in
+      let is = clock-after k y last in
+      let later = clock-later r run (i + 1) (k + 1) (omega (arith, before)) in
+      omega (arith, was, is, later)
+
+  clock-is : (k : ℕ) → k ≤ length r.events → clock_before r k ≡ (machine_at r k).clock
+  clock-is zero within = ap (λ (m : Machine). m.clock) (sym (moment-start r))
+  clock-is (suc k) within = at_place t.steps k
+      (λ x at.
+      let e : k + 1 ≡ suc k = omega arith in
+      ap (λ (o : Option Step). option_map_or (λ (y : Step). y.at.clock) o r.clock) at ∙ sym (clock-after k x at)
+      ∙ ap (λ (n : ℕ). (machine_at r n).clock) e)
+      (λ past. absurd (let many = many-steps r run in omega (arith, many, past, within)))
+
+  pub logged : (k : ℕ) (e : Event) (x : Step) → slice_get (log_of r) k ≡ Some e → step_at t k ≡ Some x → IsLogged r k e x
+  logged k e x log at =
+      let h = turn-done r run k x (step-done r run k x at) in
+      let given : Some h.1.event.event ≡ Some e =
+      sym (ap (option_map (λ (o : Occurrence). o.event)) h.1.at) ∙ sym (slice_get-map (λ (o : Occurrence). o.event) r.events k) ∙ log in
+      let same : h.1.event.event ≡ e = cc in
+      let within = is_within r k h.0 h.1 in
+      let before = clock-is k (omega (arith, within)) in
+      let clock = ap (λ (d : Step). d.at.clock) h.2 in
+      record {
+        job = ap (λ (d : Step). d.job) h.2 ∙ ap (λ (v : Event). v.job) same;
+        clock = clock ∙ (λ i. max (sym before i) (same i).now);
+        own = ap (λ (d : Step). d.at.own) h.2 ∙ ap (unwrap_or h.1.event.event.own) (sym clock) ∙ ap (λ (v : Event). unwrap_or v.own x.at.clock) same;
+      }
