@@ -2,11 +2,10 @@
 use Rattle.std.proofs.Common.{ℕ, zero, suc, ◌≡◌, ◌≢◌, ◌<◌, ◌≤◌, ◌+◌, ◌-◌, ◌++◌, List, [], ◌∷◌, Option, Some, None, true, false, refl, sym, ap, subst, ◌∙◌, inl, inr, length, take, slice_get, is_some, unwrap_or, max, arith, length-append}
 use Rattle.std.specs.Prelude.{count_by}
 use Rattle.std.specs.List.{filter_map, cons_option}
-use Rattle.std.specs.Option.{option_map}
 use Rattle.std.proofs.lemmas.Bool.{cases_lt}
 use Rattle.std.proofs.lemmas.List.{take_all, drop_all, append-nil}
 use Rattle.std.proofs.lemmas.List.Elements.{filter_map-append}
-use Rattle.std.proofs.lemmas.Option.{slice_get_within, slice_get-map}
+use Rattle.std.proofs.lemmas.Option.{slice_get_within}
 use Rattle.md_core.proofs.Values.{Path, Call, Effect, Event}
 use Rattle.md_jobs.specs.declared.answer.Answer.{Answer}
 use Rattle.md_jobs.specs.declared.answer.Answer.TheVariants as answer
@@ -20,16 +19,15 @@ use Rattle.md_core.specs.Runs.{Run, machine_at, dirs_of, and_call}
 use Rattle.md_core.specs.Submitting.{submit_refusal}
 use Rattle.md_core.specs.Stepping.{IsRun, Succeeds}
 use Rattle.md_core.specs.Trace.{Trace, Step, IsStepOf, IsAnswered, call_at, step_at, state_after, state, box, effects}
-use Rattle.md_core.specs.Tracing.{trace_of}
+use Rattle.md_core.specs.Tracing.{trace_of, clock_before}
 use Rattle.md_core.specs.Interleaving.{is_success, Acts, TakesEffect}
 use Rattle.md_core.specs.Calling.{next_job, StepsAlone, HasAnswer, AnswersAlone, AnswersAsAlone}
 use Rattle.md_core.proofs.Lists.Places.{at_place, at_joint, get-pushed, take-one_more}
 use Rattle.md_core.proofs.Runs.Events.{goes_on-exact, job_at-within}
 use Rattle.md_core.proofs.Runs.ByEvent.{length-jobs}
 use Rattle.md_core.proofs.Runs.Extended.{is_run-and_call}
-use Rattle.md_core.proofs.Answers.LastStep.{turn-at}
-use Rattle.md_core.proofs.Answers.Moments.{turn-done, next-clock}
-use Rattle.md_core.proofs.Traces.Same.{many-steps, same-jobs, step-done}
+use Rattle.md_core.proofs.Traces.Same.{many-steps}
+use Rattle.md_core.proofs.Traces.Clock.{clock-then, event-of}
 use Rattle.md_core.proofs.Traces.Stands.{answered-at}
 use Rattle.md_core.proofs.Traces.Shown.{shown}
 use Rattle.md_core.proofs.Traces.Kept.{steps-keep, call-keeps}
@@ -79,36 +77,23 @@ module _ (r r' : Run) (run : IsRun r) (asked : Call) (accepted : submit_refusal 
   ends : state t (start + length g.events) ≡ dirs_of r'
   ends = ap (state t) (sym many) ∙ (shown r' run').dirs
 
-  -- the event of a step
-  event-of : (k : ℕ) (x : Step) → step_at t k ≡ Some x → (e : Occurrence) × (slice_get r'.events k ≡ Some e) × (x.job ≡ e.event.job)
-  event-of k x at = at_place r'.events k
-      (λ e ate.
-      let same : Some x.job ≡ Some e.event.job =
-      sym (ap (option_map (λ (y : Step). y.job)) at)
-      ∙ sym (slice_get-map (λ (y : Step). y.job) t.steps k)
-      ∙ ap (λ ns. slice_get ns k) (same-jobs r' run')
-      ∙ slice_get-map (λ (y : Occurrence). y.event.job) r'.events k
-      ∙ ap (option_map (λ (y : Occurrence). y.event.job)) ate in
-      (e, ate, cc))
-      (λ past. absurd (let n = slice_get_within t.steps k x at in let m = many-steps r' run' in omega (arith, n, m, past)))
-
   -- the steps since the submit are of the job, and those before are not
   mine : (k : ℕ) (x : Step) → step_at t k ≡ Some x → start ≤ k → x.job ≡ job
   mine k x at since =
-      let h = event-of k x at in
-      h.2 ∙ at_joint r.events g.events k h.0 (ap (λ (es : List Occurrence). slice_get es k) (sym events-are) ∙ h.1)
+      let h = event-of r' run' k x at in
+      h.2.job ∙ at_joint r.events g.events k h.0 (ap (λ (es : List Occurrence). slice_get es k) (sym events-are) ∙ h.1)
       (λ early. absurd (let n = slice_get_within r.events k h.0 early in omega (arith, n, since)))
       (λ j _ late. ap (λ e. e.job) (g.each j h.0 late))
 
   before : (k : ℕ) (x : Step) → step_at t k ≡ Some x → k < start → x.job ≢ job
   before k x at early is =
-      let h = event-of k x at in
+      let h = event-of r' run' k x at in
       at_joint r.events g.events k h.0 (ap (λ (es : List Occurrence). slice_get es k) (sym events-are) ∙ h.1)
       (λ there.
       let goes = (goes_on-exact (job_at (machine_at r k).jobs h.0.event.job)).0 (run.taken k h.0 there) in
       let within = (job_at-within (machine_at r k).jobs h.0.event.job _ goes.1).1 in
       let as_many = length-jobs r run k in
-      let same : h.0.event.job ≡ job = sym h.2 ∙ is in
+      let same : h.0.event.job ≡ job = sym h.2.job ∙ is in
       omega (arith, within, as_many, same))
       (λ j e _. omega (arith, e, early))
 
@@ -154,16 +139,17 @@ module _ (r r' : Run) (run : IsRun r) (asked : Call) (accepted : submit_refusal 
       (λ j _ late. g.each j e late)
 
   abbrev clock : ℕ → ℕ
-  clock k = max (machine_at r' k).clock now
+  clock k = max (clock_before r' k) now
 
   clock-next : (k : ℕ) → start ≤ k → k < length r'.events → clock (k + 1) ≡ clock k
-  clock-next k since within = at_place r'.events k
-      (λ e at.
-      let turn = turn-at r' run' k e at in
-      let its : turn.event.event.now ≡ now = ap (λ (x : Event). x.now) (event-at k turn.event turn.at since) in
-      let next : (machine_at r' (k + 1)).clock ≡ max (machine_at r' k).clock turn.event.event.now = next-clock r' k e.event.job turn in
-      omega (arith, its, next))
-      (λ past. absurd (omega (arith, within, past)))
+  clock-next k since within = at_place t.steps k
+      (λ x at.
+      let h = event-of r' run' k x at in
+      let its : h.0.event.now ≡ now = ap (λ (e : Event). e.now) (event-at k h.0 h.1 since) in
+      let this = h.2.clock in
+      let next = clock-then r' run' k x at in
+      omega (arith, its, this, next))
+      (λ past. absurd (let many = many-steps r' run' in omega (arith, many, within, past)))
 
   clock-same : (k d : ℕ) → start ≤ k → k + d ≤ length r'.events → clock (k + d) ≡ clock k
   clock-same k zero since within = let e : k + 0 ≡ k = omega arith in ap clock e
@@ -173,9 +159,9 @@ module _ (r r' : Run) (run : IsRun r) (asked : Call) (accepted : submit_refusal 
 
   own-at : (k : ℕ) (x : Step) → step_at t k ≡ Some x → start ≤ k → x.at.own ≡ unwrap_or own (clock k)
   own-at k x at since =
-      let h = turn-done r' run' k x (step-done r' run' k x at) in
-      let e = event-at k h.1.event h.1.at since in
-      ap (λ (d : Step). d.at.own) h.2 ∙ (λ i. unwrap_or (e i).own (max (machine_at r' k).clock (e i).now))
+      let h = event-of r' run' k x at in
+      let e = event-at k h.0 h.1 since in
+      h.2.own ∙ ap (unwrap_or h.0.event.own) h.2.clock ∙ (λ i. unwrap_or (e i).own (max (clock_before r' k) (e i).now))
 
   -- no time passes between its steps
   in-time : (p : Path) → IsOutOfTime t job p → ⊥

@@ -1,5 +1,5 @@
 -- The moments of steps: the store's clock never goes back, and each moment is what the log gives.
-use Rattle.std.proofs.Common.{ℕ, zero, suc, ◌≡◌, ◌≤◌, ◌+◌, Option, Some, sym, ap, ◌∙◌, length, max, slice_get, unwrap_or, arith}
+use Rattle.std.proofs.Common.{ℕ, zero, suc, ◌≡◌, ◌≤◌, ◌+◌, Option, Some, sym, ap, subst, ◌∙◌, length, slice_get, unwrap_or, max, arith}
 use Rattle.std.specs.Option.{option_map, option_map_or}
 use Rattle.std.proofs.lemmas.Option.{slice_get-map}
 use Rattle.md_core.proofs.Values.{Event}
@@ -19,6 +19,11 @@ module _ (r : Run) (run : IsRun r) where
   t = trace_of r
 
   -- after a step the clock is that of its moment
+  pub clock-then : (k : ℕ) (x : Step) → step_at t k ≡ Some x → clock_before r (k + 1) ≡ x.at.clock
+  clock-then k x at =
+      let e : k + 1 ≡ suc k = omega arith in
+      ap (clock_before r) e ∙ ap (λ (o : Option Step). option_map_or (λ (y : Step). y.at.clock) o r.clock) at
+
   clock-after : (k : ℕ) (x : Step) → step_at t k ≡ Some x → (machine_at r (k + 1)).clock ≡ x.at.clock
   clock-after k x at =
       let h = turn-done r run k x (step-done r run k x at) in
@@ -36,21 +41,29 @@ module _ (r : Run) (run : IsRun r) where
   clock-is (suc k) within = at_place t.steps k
       (λ x at.
       let e : k + 1 ≡ suc k = omega arith in
-      ap (λ (o : Option Step). option_map_or (λ (y : Step). y.at.clock) o r.clock) at ∙ sym (clock-after k x at)
-      ∙ ap (λ (n : ℕ). (machine_at r n).clock) e)
+      ap (clock_before r) (sym e) ∙ clock-then k x at ∙ sym (clock-after k x at) ∙ ap (λ (n : ℕ). (machine_at r n).clock) e)
       (λ past. absurd (let many = many-steps r run in omega (arith, many, past, within)))
+
+  -- the event of a step
+  pub event-of : (k : ℕ) (x : Step) → step_at t k ≡ Some x → (e : Occurrence) × (slice_get r.events k ≡ Some e) × IsLogged r k e.event x
+  event-of k x at =
+      let h = turn-done r run k x (step-done r run k x at) in
+      let within = is_within r k h.0 h.1 in
+      let before = clock-is k (omega (arith, within)) in
+      let clock = ap (λ (d : Step). d.at.clock) h.2 in (
+        h.1.event,
+        h.1.at,
+        record {
+          job = ap (λ (d : Step). d.job) h.2;
+          clock = clock ∙ ap (λ (n : ℕ). max n h.1.event.event.now) (sym before);
+          own = ap (λ (d : Step). d.at.own) h.2 ∙ ap (unwrap_or h.1.event.event.own) (sym clock);
+        },
+      )
 
   pub logged : (k : ℕ) (e : Event) (x : Step) → slice_get (log_of r) k ≡ Some e → step_at t k ≡ Some x → IsLogged r k e x
   logged k e x log at =
-      let h = turn-done r run k x (step-done r run k x at) in
-      let given : Some h.1.event.event ≡ Some e =
-      sym (ap (option_map (λ (o : Occurrence). o.event)) h.1.at) ∙ sym (slice_get-map (λ (o : Occurrence). o.event) r.events k) ∙ log in
-      let same : h.1.event.event ≡ e = cc in
-      let within = is_within r k h.0 h.1 in
-      let before = clock-is k (omega (arith, within)) in
-      let clock = ap (λ (d : Step). d.at.clock) h.2 in
-      record {
-        job = ap (λ (d : Step). d.job) h.2 ∙ ap (λ (v : Event). v.job) same;
-        clock = clock ∙ (λ i. max (sym before i) (same i).now);
-        own = ap (λ (d : Step). d.at.own) h.2 ∙ ap (unwrap_or h.1.event.event.own) (sym clock) ∙ ap (λ (v : Event). unwrap_or v.own x.at.clock) same;
-      }
+      let h = event-of k x at in
+      let given : Some h.0.event ≡ Some e =
+      sym (ap (option_map (λ (o : Occurrence). o.event)) h.1) ∙ sym (slice_get-map (λ (o : Occurrence). o.event) r.events k) ∙ log in
+      let same : h.0.event ≡ e = cc in
+      subst (λ (v : Event). IsLogged r k v x) same h.2

@@ -1,5 +1,5 @@
 -- A world after one turn of a job keeps what a world keeps, of the run with one more event.
-use Rattle.std.proofs.Common.{ℕ, zero, suc, ◌≡◌, ◌<◌, ◌+◌, ◌-◌, ◌++◌, ◌||◌, ◌∙◌, List, [], ◌∷◌, Option, Some, None, Bool, true, false, cond, is_some, refl, sym, ap, subst, length, max, unwrap_or, slice_get, slice_set, arith, map, length-append}
+use Rattle.std.proofs.Common.{ℕ, zero, suc, ◌≡◌, ◌<◌, ◌+◌, ◌-◌, ◌++◌, ◌||◌, ◌∙◌, List, [], ◌∷◌, Option, Some, None, Bool, true, false, cond, is_some, refl, sym, ap, subst, length, slice_get, slice_set, arith, map, length-append}
 use Rattle.std.specs.Prelude.{count_by}
 use Rattle.std.specs.Option.{option_to_list, option_map}
 use Rattle.std.proofs.lemmas.List.Sums.{sum_by_push}
@@ -65,10 +65,10 @@ standing-set (x ∷ jobs) (suc place) new = ap (λ ss. x.standing ∷ ss) (stand
 pub count-push : (es : List Occurrence) (e : Occurrence) → count_by (λ m. m.faulted) (es ++ e ∷ []) ≡ count_by (λ m. m.faulted) es + cond e.faulted 1 0
 count-push es e = sum_by_push (λ m. cond m.faulted 1 0) es e
 
--- the moment of a step, by the code's names
-pub moment-is : (clock now : ℕ) (own : Option ℕ) (at : Moment) → at.clock ≡ max clock now → at.own ≡ unwrap_or own (max clock now) → (job : ℕ) →
-    moment_of clock (record { job = job; now = now; own = own }) ≡ at
-moment-is clock now own at c o job = λ i. record { clock = sym c i; own = sym o i }
+-- the moment of a step, by its two clocks
+pub moment-is : (clock : ℕ) (e : Event) (at : Moment) → at.clock ≡ (moment_of clock e).clock → at.own ≡ (moment_of clock e).own →
+    moment_of clock e ≡ at
+moment-is clock e at c o = λ i. record { clock = sym c i; own = sym o i }
 
 module _ (first : Device) (began : ℕ) (jobs : List JobView) (events : List Event) (marks : List Bool) (held : Device) (clock : ℕ) (effects : List Effect)
     (used : Used)

@@ -36,8 +36,7 @@ invariant_of-self-2 g c =
     let out = c.in_ok-turned.turned.out in
     let event : Event = record { job = c.args.job; now = c.args.now; own = c.args.own } in
     let moment : Moment = record { clock = c.max-clock.result; own = c.unwrap_or.result } in
-    let same = moment-is s.clock c.args.now c.args.own moment c.max-clock.ensures (c.unwrap_or.ensures ∙
-    ap (unwrap_or c.args.own) c.max-clock.ensures) c.args.job in
+    let same = moment-is s.clock event moment c.max-clock.ensures (c.unwrap_or.ensures ∙ ap (unwrap_or c.args.own) c.max-clock.ensures) in
     let place = c.in_ok-at.ensures.place in
     let within : c.in_ok-at.at < length s.jobs.items = rw (← c.deref.ensures.value) place.1 in
     let there = slice_get_read s.jobs.items (length s.jobs.items) c.in_ok-at.at c.index_mut.result.now refl within c.index_mut.ensures.value in
@@ -61,8 +60,7 @@ returns-clause-event g c =
     let out = c.in_ok-turned.turned.out in
     let event : Event = record { job = c.args.job; now = c.args.now; own = c.args.own } in
     let moment : Moment = record { clock = c.max-clock.result; own = c.unwrap_or.result } in
-    let same = moment-is s.clock c.args.now c.args.own moment c.max-clock.ensures (c.unwrap_or.ensures ∙
-    ap (unwrap_or c.args.own) c.max-clock.ensures) c.args.job in
+    let same = moment-is s.clock event moment c.max-clock.ensures (c.unwrap_or.ensures ∙ ap (unwrap_or c.args.own) c.max-clock.ensures) in
     let place = c.in_ok-at.ensures.place in
     let within : c.in_ok-at.at < length s.jobs.items = rw (← c.deref.ensures.value) place.1 in
     let there = slice_get_read s.jobs.items (length s.jobs.items) c.in_ok-at.at c.index_mut.result.now refl within c.index_mut.ensures.value in
@@ -88,8 +86,7 @@ returns-clause-shows g c =
     let out = c.in_ok-turned.turned.out in
     let event : Event = record { job = c.args.job; now = c.args.now; own = c.args.own } in
     let moment : Moment = record { clock = c.max-clock.result; own = c.unwrap_or.result } in
-    let same = moment-is s.clock c.args.now c.args.own moment c.max-clock.ensures (c.unwrap_or.ensures ∙
-    ap (unwrap_or c.args.own) c.max-clock.ensures) c.args.job in
+    let same = moment-is s.clock event moment c.max-clock.ensures (c.unwrap_or.ensures ∙ ap (unwrap_or c.args.own) c.max-clock.ensures) in
     let place = c.in_ok-at.ensures.place in
     let within : c.in_ok-at.at < length s.jobs.items = rw (← c.deref.ensures.value) place.1 in
     let there = slice_get_read s.jobs.items (length s.jobs.items) c.in_ok-at.at c.index_mut.result.now refl within c.index_mut.ensures.value in
@@ -123,8 +120,7 @@ returns-clause-success g c =
     let out = c.in_ok-turned.turned.out in
     let event : Event = record { job = c.args.job; now = c.args.now; own = c.args.own } in
     let moment : Moment = record { clock = c.max-clock.result; own = c.unwrap_or.result } in
-    let same = moment-is s.clock c.args.now c.args.own moment c.max-clock.ensures (c.unwrap_or.ensures ∙
-    ap (unwrap_or c.args.own) c.max-clock.ensures) c.args.job in
+    let same = moment-is s.clock event moment c.max-clock.ensures (c.unwrap_or.ensures ∙ ap (unwrap_or c.args.own) c.max-clock.ensures) in
     let place = c.in_ok-at.ensures.place in
     let within : c.in_ok-at.at < length s.jobs.items = rw (← c.deref.ensures.value) place.1 in
     let there = slice_get_read s.jobs.items (length s.jobs.items) c.in_ok-at.at c.index_mut.result.now refl within c.index_mut.ensures.value in
