@@ -254,7 +254,7 @@ delivery-linked job d at r rows = stage-linked job d at rows d.stage r refl
 -- ---- errands: each call leaves fewer
 
 -- after new comes cur, which leaves less
-next-left : (both : Bool) (place next : Place) (tries : ℕ) → place_after both place ≡ Some next →
+pub next-left : (both : Bool) (place next : Place) (tries : ℕ) → place_after both place ≡ Some next →
     steps_left both (Look next tries) < steps_left both (Look place tries)
 next-left true New Cur tries is = omega arith
 next-left true New New tries is = cc
@@ -264,14 +264,14 @@ next-left true Cur next tries is = cc
 next-left false Tmp next tries is = cc
 next-left false other next tries is = cc
 
-act-left : (both : Bool) (place at : Place) (row : Row) (tries : ℕ) → steps_left both (Act at row tries) < steps_left both (Look place tries)
+pub act-left : (both : Bool) (place at : Place) (row : Row) (tries : ℕ) → steps_left both (Act at row tries) < steps_left both (Look place tries)
 act-left true Tmp at row tries = omega arith
 act-left false Tmp at row tries = omega arith
 act-left false New at row tries = omega arith
 act-left false Cur at row tries = omega arith
 act-left true other at row tries = omega arith
 
-again-left : (both : Bool) (place at : Place) (row : Row) (tries : ℕ) → 1 < tries →
+pub again-left : (both : Bool) (place at : Place) (row : Row) (tries : ℕ) → 1 < tries →
     steps_left both (Look place (tries - 1)) < steps_left both (Act at row tries)
 again-left true Tmp at row tries more = omega (arith, more)
 again-left false Tmp at row tries more = omega (arith, more)

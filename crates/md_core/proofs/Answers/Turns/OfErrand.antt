@@ -24,7 +24,7 @@ use Rattle.md_jobs.specs.Tasks.Deed.{Deed, Rename, Link, Unlink}
 use Rattle.md_core.proofs.Induction.Good.{ErrandFits}
 use Rattle.md_core.proofs.Looking.LookUps.{IsRow, found-row, row-message, no-entry}
 use Rattle.md_core.proofs.Machines.Stays.{as_after}
-use Rattle.md_core.proofs.Machines.Errand.Table.Rows.{not-tmp, new-first, next-left}
+use Rattle.md_core.proofs.Machines.Errand.Table.Rows.{not-tmp, new-first, next-place}
 use Rattle.md_core.proofs.Answers.Turns.Refusals.{list-exists, list-not_found, rename-exists, rename-not_found, link-exists, link-not_found, unlink-exists, unlink-not_found}
 use Rattle.md_core.proofs.Answers.Turns.OneMessage.{TurnSays}
 use Rattle.md_core.proofs.Machines.Errand.Table.Calls.{sought, sought-by, on}
@@ -51,11 +51,11 @@ module _ (s : State) (number : ℕ) (asked : Call) (clock : ℕ) (one : HasOnePa
           SaysLook (after_none x tries o)
       none-says none None is = (no-entry s folder place u none, is)
       none-says none (Some next) is =
-          let h = next-left (searches p) place next tries is in
+          let h = next-place (searches p) place next is in
           record {
             tries = refl;
             looked = λ both cur.
-                subst (λ (q : Place). entry_if (is_in_place q folder) (get (mailbox_of s) u) ≡ None) h.3
+                subst (λ (q : Place). entry_if (is_in_place q folder) (get (mailbox_of s) u) ≡ None) h.2
                 (no-entry s folder place u none);
           }
 

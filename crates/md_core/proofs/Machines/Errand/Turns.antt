@@ -20,11 +20,12 @@ use Rattle.md_jobs.specs.Asked.{Asked, list, ask_of}
 use Rattle.md_jobs.specs.Machines.Purposes.{first, searches, place_after, info_in, decide, deed_by}
 use Rattle.md_jobs.specs.Machines.Errand.{at_stage, asked_of, taken_by, after_none, after_decision, after_row, look_turn, stage_turn, errand_turn, steps_left}
 use Rattle.md_jobs.specs.Machines.Refusals.{refused_by, refuses}
+use Rattle.md_jobs.proofs.Replies.{next-left, act-left, again-left}
 use Rattle.md_jobs.specs.Tasks.Deed.{Deed, Rename, Link, Unlink}
 use Rattle.md_core.proofs.Induction.Good.{bytes_at, FoundAt, HasSize, IsOfSize, IsAtStage, ErrandFits, Does}
 use Rattle.md_core.proofs.Looking.LookUps.{IsRow, found-row, row-entry}
 use Rattle.md_core.proofs.Machines.Stays.{as_after, stays-does}
-use Rattle.md_core.proofs.Machines.Errand.Table.Rows.{not-tmp, steps_left-some, next-left, act-left, again-left, refusal-fails, look-goes, look-refused, IsRefusal, deed-none}
+use Rattle.md_core.proofs.Machines.Errand.Table.Rows.{not-tmp, steps_left-some, next-place, refusal-fails, look-goes, look-refused, IsRefusal, deed-none}
 use Rattle.md_core.proofs.Machines.Errand.Table.Calls.{call_by, on}
 use Rattle.md_core.proofs.Machines.Errand.Table.Does.{keep-does, done-does, DoesBy}
 use Rattle.md_core.proofs.Machines.Errand.Table.Deeds.{FitsDeed, deed-fits}
@@ -85,9 +86,9 @@ module _ (s : State) (number : ℕ) (asked : Call) (sound : IsSound s) (one : Ha
       none-does : (o : Option Place) → place_after (searches p) place ≡ o → DoesLook reply.Ok (after_none x tries o)
       none-does None is = ends-does reply.Ok refusal.NotThere
       none-does (Some next) is =
-          let h = next-left (searches p) place next tries is in
-          goes-does s number asked sound one x fits (list folder place) reply.Ok (Look next tries) (inr (h.1, h.2))
-          (look-goes p folder u fits.tries folder place reply.Ok) h.0 (λ v size its. absurd its)
+          let h = next-place (searches p) place next is in
+          goes-does s number asked sound one x fits (list folder place) reply.Ok (Look next tries) (inr (h.0, h.1))
+          (look-goes p folder u fits.tries folder place reply.Ok) (next-left (searches p) place next tries is) (λ v size its. absurd its)
 
       -- it was found
       decision-does : (row : Row) (h : IsRow s folder place u row) (d : Decision) → decide p (info_in row.name) ≡ d →

@@ -1,7 +1,7 @@
 -- What the table of errands says, row by row: where they look, what they act on, and at which turns their calls take effect.
-use Rattle.std.proofs.Common.{ℕ, ◌≡◌, ◌<◌, ◌-◌, inl, inr, List, Option, Some, None, Bool, true, false, is_some, unwrap_or, refl, sym, ap, ◌∙◌, arith}
+use Rattle.std.proofs.Common.{ℕ, ◌≡◌, ◌<◌, inl, inr, List, Option, Some, None, Bool, true, false, is_some, unwrap_or, refl, sym, ap, ◌∙◌, arith}
 use Rattle.std.specs.FinSet as set
-use Rattle.md_core.proofs.Values.{State, Place, Tmp, New, Cur, Row, Info, Answer, DirReply}
+use Rattle.md_core.proofs.Values.{State, Place, Tmp, New, Cur, Info, Answer, DirReply}
 use Rattle.md_name.specs.Letters.{Set}
 use Rattle.md_jobs.specs.declared.call.Call.TheVariants as call
 use Rattle.md_jobs.specs.Tasks.Errand.{Stage}
@@ -64,32 +64,12 @@ pub all-tries : (s : State) (p : Purpose) (folder : ℕ) (u : List ℕ) (tries :
 all-tries s (Seen given) folder u tries some = omega arith
 all-tries s other folder u tries some = omega arith
 
--- after new comes cur, which leaves less
-pub next-left : (both : Bool) (place next : Place) (tries : ℕ) → place_after both place ≡ Some next →
-    (steps_left both (stage.Look next tries) < steps_left both (stage.Look place tries)) × (both ≡ true) × (next ≡ Cur) × (place ≡ New)
-next-left true New Cur tries is = (omega arith, refl, refl, refl)
-next-left true New New tries is = cc
-next-left true New Tmp tries is = cc
-next-left true Tmp next tries is = cc
-next-left true Cur next tries is = cc
-next-left false Tmp next tries is = cc
-next-left false other next tries is = cc
-
-pub act-left : (both : Bool) (place at : Place) (row : Row) (tries : ℕ) →
-    steps_left both (stage.Act at row tries) < steps_left both (stage.Look place tries)
-act-left true Tmp at row tries = omega arith
-act-left false Tmp at row tries = omega arith
-act-left false New at row tries = omega arith
-act-left false Cur at row tries = omega arith
-act-left true other at row tries = omega arith
-
-pub again-left : (both : Bool) (place at : Place) (row : Row) (tries : ℕ) → 1 < tries →
-    steps_left both (stage.Look place (tries - 1)) < steps_left both (stage.Act at row tries)
-again-left true Tmp at row tries more = omega (arith, more)
-again-left false Tmp at row tries more = omega (arith, more)
-again-left false New at row tries more = omega (arith, more)
-again-left false Cur at row tries more = omega (arith, more)
-again-left true other at row tries more = omega (arith, more)
+-- after new comes cur, where cur is looked in too
+pub next-place : (both : Bool) (place next : Place) → place_after both place ≡ Some next → (both ≡ true) × (next ≡ Cur) × (place ≡ New)
+next-place true New Cur is = (refl, refl, refl)
+next-place true New other is = cc
+next-place true other next is = cc
+next-place false place next is = cc
 
 -- ---- what is decided
 
