@@ -15,7 +15,7 @@ use md_jobs::{Answer, Effect, Event, JobId};
 use std::alloc::{AllocError, Global};
 
 impl<D: Dirs> World<D> {
-    /// The steps so far.
+    /// The jobs and moments that the steps so far were given.
     pub fn log(&self) -> &[Event]
         ensures { result.now ≡ log_of self.now }
     {
