@@ -1,4 +1,3 @@
 pub mod Found
 pub mod Places
-pub mod Pieces
 pub mod Permuted

@@ -7,9 +7,7 @@ use Rattle.std.proofs.lemmas.List.{take_all, take-append-le}
 use Rattle.std.proofs.lemmas.List.Sums.{sum_by-append}
 use Rattle.md_core.proofs.Values.{State, Call, Task, Deliver, Errand, Clean}
 use Rattle.md_jobs.specs.declared.answer.Answer.{Answer}
-use Rattle.md_jobs.specs.Tasks.Delivery.{Stage, Start, Writing, Linked, Undo}
 use Rattle.md_jobs.specs.Tasks.Cleaning as cleaning
-use Rattle.md_jobs.specs.Machines.Deliver as delivered_by
 use Rattle.md_jobs.specs.Machines.Clean as cleaned_by
 use Rattle.md_core.specs.Machine.{Machine, Standing, working, Occurrence, job_at, steps_left, standing_of, new_job, after_event, step_by}
 use Rattle.md_core.specs.Trace.{Step, call_at}
@@ -25,7 +23,7 @@ use Rattle.md_core.proofs.Runs.ByEvent.{at_last, machine-and_event, run_from-non
 use Rattle.md_core.proofs.Induction.Going.{Goes, goes, goes-cases, goes-here, goes-others}
 use Rattle.md_core.proofs.Induction.GoodRuns.{new_at, all-apart, good-beginning, good-machine}
 use Rattle.md_jobs.specs.Machines.Purposes.{searches}
-use Rattle.md_core.proofs.Machines.Errand.Table.Rows.{steps_left-some as errand-some}
+use Rattle.md_jobs.proofs.Replies.{errand-left, delivery-left}
 
 -- a turn leaves less to its job
 pub nearer : (calls : List Call) (m m' : Machine) (what : Step) (g : Goes calls m m' what) →
@@ -51,14 +49,8 @@ fixed-then calls m m' what g = by what.answer g.does.fixed
 
 -- something is left to each task
 pub steps_left-some : (s : State) (task : Task) → 0 < steps_left s (Some (working task))
-steps_left-some s (Deliver d) = by d.stage
-  where
-    by : (stage : Stage) → 0 < delivered_by.steps_left d stage
-    by Start = omega arith
-    by (Writing start k) = omega arith
-    by Linked = omega arith
-    by (Undo a) = omega arith
-steps_left-some s (Errand e) = errand-some (searches e.purpose) e.stage
+steps_left-some s (Deliver d) = delivery-left d d.stage
+steps_left-some s (Errand e) = errand-left (searches e.purpose) e.stage
 steps_left-some s (Clean c) = by c.stage
   where
     by : (stage : cleaning.Stage) → 0 < cleaned_by.steps_left s c.folder stage

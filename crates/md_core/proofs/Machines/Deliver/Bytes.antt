@@ -3,7 +3,7 @@ use Rattle.std.proofs.Common.{ℕ, zero, suc, ◌≡◌, ◌+◌, ◌-◌, ◌<�
 use Rattle.md_jobs.specs.Machines.Deliver.{piece_len, piece}
 use Rattle.md_jobs.specs.Pieces.{pieces_of}
 use Rattle.md_jobs.specs.Tasks.Delivery.{Delivery}
-use Rattle.md_core.proofs.Lists.Pieces.{pieces-less}
+use Rattle.md_jobs.proofs.Pieces.{pieces-less}
 
 take-none : (m : ℕ) → take {A = ℕ} m [] ≡ []
 take-none zero = refl

@@ -28,7 +28,8 @@ use Rattle.md_core.proofs.Mailbox.Shown.{mailbox-shows, shows-mailbox}
 use Rattle.md_core.proofs.Directories.Frames.{task-frame}
 use Rattle.md_core.proofs.Directories.Calls.Link.{Lands, link-lands}
 use Rattle.md_core.proofs.Machines.Errand.Names.{IsCopyName, copy-name}
-use Rattle.md_core.proofs.Machines.Errand.Table.Rows.{not-tmp, steps_left-some, acts-flags}
+use Rattle.md_jobs.proofs.Replies.{errand-left}
+use Rattle.md_core.proofs.Machines.Errand.Table.Rows.{not-tmp, acts-flags}
 
 no-tmp : (place : Place) → is_tmp place ≡ false → place ≢ Tmp
 no-tmp place new_or_cur is = let yes : is_tmp place ≡ true = ap is_tmp is in cc
@@ -152,7 +153,7 @@ module _ (s : State) (number : ℕ) (asked : Call) (folder : ℕ) (v : List ℕ)
       );
     };
     settles = (effect, refl, refl);
-    nearer = steps_left-some true x.stage;
+    nearer = errand-left true x.stage;
     fixed = λ is a b. refl;
   }
 

@@ -28,7 +28,8 @@ use Rattle.md_core.proofs.Mailbox.Renamed.{listed-there}
 use Rattle.md_core.proofs.Mailbox.Shown.{shows-mailbox}
 use Rattle.md_core.proofs.Directories.Frames.{task-stays}
 use Rattle.md_core.proofs.Directories.Calls.Remove.{remove-drops, remove-frame, remove-sound, remove-spares}
-use Rattle.md_core.proofs.Machines.Errand.Table.Rows.{not-tmp, steps_left-some}
+use Rattle.md_jobs.proofs.Replies.{errand-left}
+use Rattle.md_core.proofs.Machines.Errand.Table.Rows.{not-tmp}
 use Rattle.md_core.proofs.Machines.Errand.Marked.{such-there}
 use Rattle.md_core.proofs.Machines.Errand.Table.Calls.{on}
 
@@ -98,6 +99,6 @@ module _ (s : State) (number : ℕ) (asked : Call) (folder : ℕ) (u : List ℕ)
       allowed = allowed;
     };
     settles = subst (λ b. MatchBool b ((e : Effect) × (Some effect ≡ Some e) × (e.answer ≡ a)) (Some effect ≡ None)) (sym success) (effect, refl, refl);
-    nearer = steps_left-some (searches p) x.stage;
+    nearer = errand-left (searches p) x.stage;
     fixed = λ is a b. refl;
   }

@@ -29,7 +29,7 @@ use Rattle.md_core.proofs.Directories.Frames.{Frame, task-stays}
 use Rattle.md_core.proofs.Looking.LookUps.{unique-part, message-name}
 use Rattle.md_core.proofs.Mailbox.WholeName.{whole-name}
 use Rattle.md_core.proofs.Machines.Errand.Moves.{Moves, moves, put_again, info-flagged}
-use Rattle.md_core.proofs.Machines.Errand.Table.Rows.{steps_left-some}
+use Rattle.md_jobs.proofs.Replies.{errand-left}
 
 -- ---- what the two do alone
 
@@ -128,7 +128,7 @@ module _ (s : State) (number : ℕ) (asked : Call) (e : ErrandOf) (sound : IsSou
       );
     };
     settles = (kept number (answer.Flags flags), refl, refl);
-    nearer = steps_left-some _ e.stage;
+    nearer = errand-left _ e.stage;
     fixed = λ none a b. refl;
   }
 
@@ -200,6 +200,6 @@ module _ (s : State) (number : ℕ) (asked : Call) (e : ErrandOf) (sound : IsSou
         allowed = (fits.in_folder, refl, refl, ap (λ (u : List ℕ). flagged u flags) (sym unique), is_there, may);
       };
       settles = (effect, refl, refl);
-      nearer = steps_left-some _ e.stage;
+      nearer = errand-left _ e.stage;
       fixed = λ none a b. refl;
     }

@@ -25,7 +25,8 @@ use Rattle.md_core.proofs.Mailbox.Renamed.{put-again, listed-entry, listed-there
 use Rattle.md_core.proofs.Mailbox.Shown.{shows-mailbox}
 use Rattle.md_core.proofs.Directories.Frames.{task-stays}
 use Rattle.md_core.proofs.Directories.Calls.Rename.{shifted, moved-is, rename-puts, rename-frame, rename-sound, rename-spares}
-use Rattle.md_core.proofs.Machines.Errand.Table.Rows.{not-tmp, steps_left-some}
+use Rattle.md_jobs.proofs.Replies.{errand-left}
+use Rattle.md_core.proofs.Machines.Errand.Table.Rows.{not-tmp}
 
 module _ (s : State) (number : ℕ) (asked : Call) (folder : ℕ) (v : List ℕ) (to : ℕ) (place : Place) (row : Row) (tries k : ℕ) (sound : IsSound s)
     (one : HasOnePath s)
@@ -108,7 +109,7 @@ module _ (s : State) (number : ℕ) (asked : Call) (folder : ℕ) (v : List ℕ)
       allowed = (fits.in_folder, fits.to_folder, fits.is_for, refl, refl, listed-there (mailbox_of s) s o k before);
     };
     settles = (effect, refl, refl);
-    nearer = steps_left-some true x.stage;
+    nearer = errand-left true x.stage;
     fixed = λ is a b. refl;
   }
 

@@ -20,12 +20,12 @@ use Rattle.md_jobs.specs.Asked.{Asked, list, ask_of}
 use Rattle.md_jobs.specs.Machines.Purposes.{first, searches, place_after, info_in, decide, deed_by}
 use Rattle.md_jobs.specs.Machines.Errand.{at_stage, asked_of, taken_by, after_none, after_decision, after_row, look_turn, stage_turn, errand_turn, steps_left}
 use Rattle.md_jobs.specs.Machines.Refusals.{refused_by, refuses}
-use Rattle.md_jobs.proofs.Replies.{next-left, act-left, again-left}
+use Rattle.md_jobs.proofs.Replies.{next-left, act-left, again-left, errand-left}
 use Rattle.md_jobs.specs.Tasks.Deed.{Deed, Rename, Link, Unlink}
 use Rattle.md_core.proofs.Induction.Good.{bytes_at, FoundAt, HasSize, IsOfSize, IsAtStage, ErrandFits, Does}
 use Rattle.md_core.proofs.Looking.LookUps.{IsRow, found-row, row-entry}
 use Rattle.md_core.proofs.Machines.Stays.{as_after, stays-does}
-use Rattle.md_core.proofs.Machines.Errand.Table.Rows.{not-tmp, steps_left-some, next-place, refusal-fails, look-goes, look-refused, IsRefusal, deed-none}
+use Rattle.md_core.proofs.Machines.Errand.Table.Rows.{not-tmp, next-place, refusal-fails, look-goes, look-refused, IsRefusal, deed-none}
 use Rattle.md_core.proofs.Machines.Errand.Table.Calls.{call_by, on}
 use Rattle.md_core.proofs.Machines.Errand.Table.Does.{keep-does, done-does, DoesBy}
 use Rattle.md_core.proofs.Machines.Errand.Table.Deeds.{FitsDeed, deed-fits}
@@ -43,7 +43,7 @@ module _ (s : State) (number : ℕ) (asked : Call) (sound : IsSound s) (one : Ha
   refuses-does a none =
       stays-does s number asked (Errand e) (Errand e) made r (Some (refused_by a)) sound one (λ is. cc)
       (ap (λ (c : Call). is_effect_at c made r (Some (refused_by a))) fits.of ∙ none) refl refl (refusal-fails a)
-      (steps_left-some (searches e.purpose) e.stage) (λ is. cc) (λ v size unanswered its. cc)
+      (errand-left (searches e.purpose) e.stage) (λ is. cc) (λ v size unanswered its. cc)
 
   goes-does : (stage : Stage) → IsAtStage e.unique e.purpose stage →
       is_effect_at (call_by e.folder e.unique e.purpose fits.tries) made r None ≡ false →

@@ -1,7 +1,7 @@
 -- What the table of errands says, row by row: where they look, what they act on, and at which turns their calls take effect.
 use Rattle.std.proofs.Common.{ℕ, ◌≡◌, ◌<◌, inl, inr, List, Option, Some, None, Bool, true, false, is_some, unwrap_or, refl, sym, ap, ◌∙◌, arith}
 use Rattle.std.specs.FinSet as set
-use Rattle.md_core.proofs.Values.{State, Place, Tmp, New, Cur, Info, Answer, DirReply}
+use Rattle.md_core.proofs.Values.{State, Place, New, Cur, Info, Answer, DirReply}
 use Rattle.md_name.specs.Letters.{Set}
 use Rattle.md_jobs.specs.declared.call.Call.TheVariants as call
 use Rattle.md_jobs.specs.Tasks.Errand.{Stage}
@@ -49,14 +49,6 @@ last-place p place both at last = elim at [
 ]
 
 -- ---- what is left
-
-pub steps_left-some : (both : Bool) (s : Stage) → 0 < steps_left both s
-steps_left-some true (stage.Look Tmp tries) = omega arith
-steps_left-some false (stage.Look Tmp tries) = omega arith
-steps_left-some false (stage.Look New tries) = omega arith
-steps_left-some false (stage.Look Cur tries) = omega arith
-steps_left-some false (stage.Act place row tries) = omega arith
-steps_left-some true other = omega arith
 
 -- before its first step, what the call takes at most
 pub all-tries : (s : State) (p : Purpose) (folder : ℕ) (u : List ℕ) (tries : ℕ) → 0 < tries →
