@@ -113,7 +113,7 @@ impl Cleaning {
         }
     }
 
-    /// The directory call that is next, with its paths.
+    /// The directory call that is next, with its path, borrowed from the job. It takes no memory, and changes nothing.
     pub fn request(&self) -> Request<'_>
         ensures { (own : _) → request_view result ≡ (cleaning_turn self.now own).asked }
     {
@@ -128,7 +128,9 @@ impl Cleaning {
         }
     }
 
-    /// Goes on by what the directories replied, whatever it is: of a reading that was done, the names of the old files.
+    /// Goes on by what the directories replied to the call that was next, whatever it is. Of a reading that was done it is given the names
+    /// whose files were not used for 36 hours by the clock of the job, in the order of the reading, and owns them from then on; of any
+    /// other call no name plays a part. It takes no memory, and can't be refused.
     pub fn take(&mut self, reply: DirReply, old: VecDeque<FileName>) -> Turned
         ensures follows { (own : _) → (rows : List RowView) → (reply ≡ DirReply.Ok → old.items ≡ old_names own rows) →
             (cleaning_turn self.old own).follows reply rows ≡

@@ -50,8 +50,8 @@ pub enum DeliveryReady {
 /// A delivery is given up after 24 hours, in seconds.
 const MOST_SECONDS: u64 = 86_400;
 
-/// A delivery of a body, in pieces of `chunk` bytes, by way of a file in tmp. Where one piece is all of the body, the directories may keep
-/// its bytes: then the whole is there for contracts alone.
+/// A delivery of a body, in pieces of `chunk` bytes, at least 1, by way of a file in tmp. Where one piece is all of the body, the
+/// directories may keep its bytes: then the whole is there for contracts alone.
 #[derive(Drop)]
 pub struct Delivery {
     tmp: Path,
@@ -137,7 +137,8 @@ impl Delivery {
         }
     }
 
-    /// Takes the next turn: it asks, makes the call, and takes the reply. It adds its effect, where it is one. After a refusal nothing has changed.
+    /// Takes the next turn: it asks, makes the call, and takes the reply. It adds its effect, where it is one. After a refusal nothing has
+    /// changed.
     pub fn turn<D: Dirs>(
         &mut self,
         alloc: Global,
@@ -168,7 +169,8 @@ impl Delivery {
         Ok(self.take(job, ready, reply, effects))
     }
 
-    /// Makes the next directory call ready, so that it needs no memory, nor what follows it. Nothing has changed.
+    /// Makes the next directory call ready at this moment, so that neither the call nor what follows it needs memory. What it gives goes to
+    /// `request` and `take` of this job as it stands. Refused `NoMemory` only when out of memory. Nothing has changed, whatever it gives.
     pub fn ask(&self, alloc: Global, at: Moment) -> Result<DeliveryReady, CoreError>
         ensures ready { IfOk result (λ ready. IsDeliveryReady self.now ready) }
         ensures turn { IfOk result (λ ready. (job : _) → ready_turn job self.now ready ≡ delivery_turn job self.now at) }
@@ -198,7 +200,7 @@ impl Delivery {
         }
     }
 
-    /// The directory call that is next, with its paths.
+    /// The directory call that is ready, with its paths and bytes, borrowed from the job. It takes no memory, and changes nothing.
     pub fn request<'a>(&'a self, ready: &'a DeliveryReady) -> Request<'a>
         requires { IsDeliveryReady self.now ready.now }
         ensures { (job : _) → request_view result ≡ (ready_turn job self.now ready.now).asked }
@@ -224,7 +226,8 @@ impl Delivery {
         }
     }
 
-    /// Goes on by what the directories replied, whatever it is. Adds the effect, where this is one.
+    /// Goes on by what the directories replied to the call that was ready, whatever it is. Where this is the effect of the job, it is added
+    /// to the effects, which have room for it. It can't be refused.
     pub fn take(
         &mut self,
         job: JobId,

@@ -65,7 +65,8 @@ impl Errand {
         }
     }
 
-    /// Takes the next turn: it asks, makes the call, and takes the reply. It adds its effect, where it is one. After a refusal nothing has changed.
+    /// Takes the next turn: it asks, makes the call, and takes the reply. It adds its effect, where it is one. After a refusal nothing has
+    /// changed.
     pub fn turn<D: Dirs>(
         &mut self,
         alloc: Global,
@@ -91,7 +92,8 @@ impl Errand {
         Ok(self.take(alloc, job, ready, reply, row, effects))
     }
 
-    /// Makes the next directory call ready, so that it needs no memory, nor what follows it. Nothing has changed.
+    /// Makes the next directory call ready, so that neither the call nor what follows it needs memory. What it gives goes to `request` and
+    /// `take` of this job as it stands. Refused `NoMemory` only when out of memory. Nothing has changed, whatever it gives.
     pub fn ask(&self, alloc: Global) -> Result<ErrandReady, CoreError>
         ensures ready { IfOk result (λ ready. IsErrandReady (errand_view self.now) (errand_view self.now).stage ready) }
         ensures memory { IfErr result (λ e. e ≡ CoreError.NoMemory) }
@@ -105,7 +107,7 @@ impl Errand {
         }
     }
 
-    /// The directory call that is next, with its paths.
+    /// The directory call that is ready, with its paths, borrowed from the job. It takes no memory, and changes nothing.
     pub fn request<'a>(&'a self, ready: &'a ErrandReady) -> Request<'a>
         requires { IsErrandReady (errand_view self.now) (errand_view self.now).stage ready.now }
         ensures { (job : _) → request_view result ≡ (errand_turn job (errand_view self.now)).asked }
@@ -146,8 +148,9 @@ impl Errand {
         }
     }
 
-    /// Goes on by what the directories replied, whatever it is: of a reading that was done, the row of the message. Adds the effect, where
-    /// this is one.
+    /// Goes on by what the directories replied to the call that was ready, whatever it is. Of a reading that was done it is given the first
+    /// row that has the unique name of the message, if there is one; of any other call no row plays a part. Where this is the effect of the
+    /// job, it is added to the effects, which have room for it. It can't be refused.
     pub fn take(
         &mut self,
         alloc: Global,

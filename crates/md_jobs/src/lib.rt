@@ -1,4 +1,14 @@
-//! Jobs on directories of mail as machines: what callers ask, the one directory call that each job makes next, and how its answer comes about.
+//! Jobs on directories of mail as machines: what callers ask, the one directory call that each job makes next, and how its answer comes
+//! about.
+//!
+//! A job is driven in one of two ways. `turn` makes its next call of directories in memory (`Dirs`), and goes on by the reply. A program
+//! that makes the calls itself, of a disk say, takes three steps for each: `ask` makes the call ready, `request` lends it with its paths,
+//! and `take` goes on by what was replied. The job owns its names and its body, a request borrows them, and the caller owns the list of
+//! effects. All memory is taken before the call, by `ask` and by the room that the caller makes for one effect: so nothing is refused after
+//! a call that was made, and after a refusal nothing has changed.
+//!
+//! A reply is any `DirReply`: POSIX's EEXIST and ENOENT have replies of their own, and each other error is `Fault`. What holds of a job
+//! whatever is replied is in `laws`.
 #![tactic(auto)]
 
 mod answer;

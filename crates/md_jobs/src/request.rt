@@ -54,19 +54,20 @@ impl<'a> PathRef<'a> {
     }
 }
 
-/// A directory call with its paths, as a job asks for it.
+/// A directory call with its paths, as a job asks for it. Whoever makes it replies `Exists` and `NotFound` where POSIX's call says EEXIST
+/// and ENOENT, and `Fault` at any other error.
 #[derive(Drop)]
 pub enum Request<'a> {
-    /// An empty file is to be made.
+    /// An empty file is to be made, as by open with O_CREAT and O_EXCL.
     Create { path: PathRef<'a> },
-    /// These bytes are to be added at the file's end.
+    /// These bytes are to be added at the file's end: all of them, or the reply is `Fault`.
     Append { path: PathRef<'a>, bytes: &'a [u8] },
-    /// The file is to get a second name.
+    /// The file is to get a second name, as by link.
     Link { old: PathRef<'a>, new: PathRef<'a> },
-    /// The file is to get another name.
+    /// The file is to get another name, as by rename.
     Rename { old: PathRef<'a>, new: PathRef<'a> },
-    /// The name is to go.
+    /// The name is to go, as by unlink.
     Unlink { path: PathRef<'a> },
-    /// The directory is to be read.
+    /// The directory is to be read, as by opendir and readdir.
     List { folder: u32, place: Place },
 }

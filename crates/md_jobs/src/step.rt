@@ -38,9 +38,13 @@ pub enum DirCall {
 /// What the directories answered.
 #[derive(Clone, Copy, Debug, PartialEq, Eq)]
 pub enum DirReply {
+    /// The call was done.
     Ok,
+    /// The name that was to be made is there, as POSIX's EEXIST.
     Exists,
+    /// A name or a directory is not there, as POSIX's ENOENT.
     NotFound,
+    /// The call failed in another way: any other error of POSIX. The job takes it for not done.
     Fault,
 }
 
