@@ -13,6 +13,7 @@ pub mod index;
 pub mod judge;
 pub mod locked;
 pub mod name;
+pub mod replies;
 mod scripts;
 pub mod server;
 
@@ -50,6 +51,7 @@ fn read_words(words: &mut Args) -> Result<Asked> {
 
 fn main(rt: HostRuntime) -> Result<()> {
     files::show_all(&rt)?;
+    replies::show_jobs(&rt)?;
     let Asked { plan, rounds } = read_words(&mut env::args(&rt)?)?;
     let (counts, kept) = serve(&rt, rt.alloc(), plan, rounds, &Unwatched)?;
     Ok(tell(&rt, counts, kept)?)
