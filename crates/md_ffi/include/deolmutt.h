@@ -193,7 +193,7 @@ uint32_t deolmutt_submit(deolmutt_world *world, uint32_t kind, uint32_t folder, 
                          const uint8_t *first, size_t first_length, const uint8_t *second, size_t second_length, uint64_t number,
                          uint64_t *job);
 
-/* One step of a job, at a moment. own: null, or the moment by the clock of the job's host.
+/* One step of a job, at a moment. own: null, or the moment by the clock of the job's host. *step is what the step did.
    Refused: DEOLMUTT_NO_JOB, ANSWERED, NO_MEMORY. */
 uint32_t deolmutt_step(deolmutt_world *world, uint64_t job, uint64_t now, const uint64_t *own, deolmutt_step_out *step);
 
@@ -249,7 +249,7 @@ uint32_t deolmutt_unique(uint64_t sec, uint64_t micro, uint64_t pid, uint64_t co
                          size_t room, size_t *length);
 
 /* The parts of a message's file name. *unique_length: its unique part is so many bytes at its front. *info: 0 no info, 1 flags, in *flags
-   as in DEOLMUTT_FLAGS, 2 other info. *flags is 0 where *info is not 1. Refused: DEOLMUTT_NO_MESSAGE_NAME, NO_MEMORY. */
+   as in DEOLMUTT_FLAGS, 2 other info. *flags is 0 where *info is not 1. Refused: DEOLMUTT_NO_MESSAGE_NAME. */
 uint32_t deolmutt_split(const uint8_t *name, size_t length, size_t *unique_length, uint32_t *info, uint64_t *flags);
 
 /* The summary of a message's header, as the command `summary` prints it: lines `subject=`, `from=`, `message-id=`, `date=` and `seconds=`

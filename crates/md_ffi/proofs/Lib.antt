@@ -1,4 +1,3 @@
-pub mod FlagBits
 pub mod Listed
 pub mod Records
 pub mod Refused

@@ -1,17 +1,20 @@
 -- What a call by a handle does to the world behind it.
-use Rattle.std.specs.Prelude.{◌≡◌, ◌⊎◌, ℕ, ◌+◌, ◌==◌, ◌&&◌, List, length, nat_le, nat_lt, Bool, true, false, Option, Some, None, Result, Ok, Err}
+use Rattle.std.specs.Prelude.{◌≡◌, ◌⊎◌, ℕ, ◌+◌, ◌&&◌, List, length, nat_le, nat_lt, Bool, true, false, Option, Some, None, Result, Ok, Err}
 use Rattle.md_jobs.specs.declared.error.CoreError.{CoreError}
 use Rattle.md_jobs.specs.declared.error.CoreError.TheVariants.{NoJob}
 use Rattle.md_jobs.specs.declared.answer.Answer.{Answer}
+use Rattle.md_jobs.specs.declared.step.StepOut.{StepOut}
+use Rattle.md_jobs.specs.Asked.{is_fault}
 use Rattle.md_core.specs.Machine.{Occurrence}
 use Rattle.md_core.specs.Runs.{Run, and_call, and_event}
 use Rattle.md_core.specs.Settling.{settled}
+use Rattle.md_core.specs.Stepping.{ShowsStep}
 use Rattle.md_core.specs.Submitting.{submit_refusal}
 use Rattle.md_script.specs.Kinds.{core_kind}
 use Rattle.md_script.specs.declared.error.PlayKind.TheVariants.{NoMemory}
 use Rattle.md_ffi.specs.Asking.{and_then, call_at}
 use Rattle.md_ffi.specs.Numbers.{core_number, refusal_number}
-use Rattle.md_ffi.specs.Shown.{answer_shown}
+use Rattle.md_ffi.specs.Shown.{answer_shown, IsShown}
 use Rattle.md_ffi.specs.declared.shown.AnswerShown.{AnswerShown}
 use Rattle.md_ffi.specs.declared.shown.StepShown.{StepShown}
 use Rattle.md_ffi.specs.declared.asked.Asked.{Asked}
@@ -65,10 +68,16 @@ abbrev pub refused_step : Option CoreError → ℕ
 refused_step None = 4
 refused_step (Some error) = core_number error
 
+-- the run goes on by one event, a fault where the reply is one, and what is shown is what that event did
+abbrev pub Takes : Run → Run → (Bool → Occurrence) → StepShown → Type 0
+Takes old new event shown =
+    (out : StepOut) × IsShown out shown × (new ≡ and_event old (event (is_fault out.reply)))
+    × ShowsStep old new (event (is_fault out.reply)) out
+
 -- A step was taken, of this event, and is shown; or it was refused, with the world and what was shown before as they were.
 unfoldable pub Steps : Run → Run → (Bool → Occurrence) → Option CoreError → StepShown → StepShown → ℕ → Type 0
 Steps old new event refusal before after status =
-    ((status ≡ 0) × (refusal ≡ None) × (new ≡ and_event old (event (after.reply == 4))))
+    ((status ≡ 0) × (refusal ≡ None) × Takes old new event after)
     ⊎ ((status ≡ refused_step refusal) × (new ≡ old) × (after ≡ before))
 
 -- A world settles where each job has its answer, and begins again, or is out of memory and as it was. Else it is as it was, and the first

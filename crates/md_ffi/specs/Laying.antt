@@ -1,5 +1,5 @@
 -- What a caller's buffer is given.
-use Rattle.std.specs.Prelude.{◌≡◌, ◌⊎◌, ◌≤◌, ◌<◌, ◌++◌, ℕ, List, Result, Ok, Err, length, drop}
+use Rattle.std.specs.Prelude.{◌≡◌, ◌⊎◌, ◌≤◌, ◌<◌, ◌++◌, ℕ, List, Result, Ok, Err, length, take, drop}
 use Rattle.md_ffi.specs.Numbers.{refusal_number}
 use Rattle.md_ffi.specs.declared.refusal.Refusal.{Refusal}
 
@@ -8,6 +8,10 @@ abbrev pub Lays : List ℕ → List ℕ → List ℕ → ℕ → ℕ → Type 0
 Lays bytes old new whole status =
     (whole ≡ length bytes) × (((status ≡ 0) × (length bytes ≤ length old) × (new ≡ bytes ++ drop (length bytes) old))
     ⊎ ((status ≡ 3) × (length old < length bytes) × (new ≡ old)))
+
+-- as much of bytes as there is room for was laid at the front of a buffer, whose rest is as it was. The whole length is said
+abbrev pub LaysFront : List ℕ → List ℕ → List ℕ → ℕ → Type 0
+LaysFront bytes old new whole = (whole ≡ length bytes) × (new ≡ take (length old) bytes ++ drop (length bytes) old)
 
 -- nothing was laid or said, for this reason
 abbrev pub Keeps : ℕ → List ℕ → List ℕ → ℕ → ℕ → ℕ → Type 0

@@ -2,6 +2,7 @@
 use Rattle.std.specs.Prelude.{◌≡◌, ◌⊎◌, ◌≤◌, ◌<◌, ◌++◌, ℕ, List, Option, Some, None, Result, Ok, Err, length, drop}
 use Rattle.md_name.specs.Made.{make_refusal, made_unique}
 use Rattle.md_name.specs.declared.error.NameError.{NameError}
+use Rattle.md_name.specs.Words.{word_of}
 use Rattle.md_name.specs.declared.info.Info.{Info}
 use Rattle.md_name.specs.declared.info.Info.TheVariants.{Bare, Two, Opaque}
 use Rattle.md_script.specs.Kinds.{at_no_line, name_kind}
@@ -9,7 +10,6 @@ use Rattle.md_script.specs.declared.error.PlayError.{PlayError}
 use Rattle.md_script.specs.declared.error.PlayKind.TheVariants.{NoMemory}
 use Rattle.md_ffi.specs.Laying.{Lays}
 use Rattle.md_ffi.specs.Numbers.{kind_number, refusal_number}
-use Rattle.md_ffi.specs.Shown.{flag_bits}
 use Rattle.md_ffi.specs.declared.refusal.Refusal.{Refusal}
 use Rattle.md_ffi.specs.declared.refusal.Refusal.TheVariants.{Kind, NoMessageName}
 
@@ -58,10 +58,10 @@ info_number Bare = 0
 info_number (Two flags) = 1
 info_number Opaque = 2
 
--- the flags of an info, as bits
+-- the flags of an info, a bit each
 abbrev pub info_flags : Info → ℕ
 info_flags Bare = 0
-info_flags (Two flags) = flag_bits flags
+info_flags (Two flags) = word_of flags
 info_flags Opaque = 0
 
 -- the length of a unique part, which info follows it, and its flags; a name that is no message's is refused, and nothing is said

@@ -1,10 +1,11 @@
--- The numbers of refusals. Those that a part of the store gives are in a range of that part; out of memory is one number, wherever it was
--- met.
-use Rattle.std.specs.Prelude.{ℕ, Result, Ok, Err}
+-- The numbers and the texts of refusals. The numbers that a part of the store gives are in a range of that part; out of memory is one
+-- number, wherever it was met.
+use Rattle.std.specs.Prelude.{ℕ, ◌≡◌, ◌≢◌, ◌⊎◌, List, [], Result, Ok, Err, codes}
 use Rattle.md_name.specs.declared.error.NameError.{NameError}
 use Rattle.md_name.specs.declared.error.NameError.TheVariants as name
 use Rattle.md_jobs.specs.declared.error.CoreError.{CoreError}
 use Rattle.md_jobs.specs.declared.error.CoreError.TheVariants as core
+use Rattle.md_script.specs.Refusals.{kind_text}
 use Rattle.md_script.specs.declared.error.PlayKind.{PlayKind}
 use Rattle.md_script.specs.declared.error.PlayKind.TheVariants as play
 use Rattle.md_ffi.specs.declared.refusal.Refusal.{Refusal}
@@ -67,6 +68,25 @@ refusal_number refusal.NoMessageName = 9
 refusal_number refusal.Unanswered = 10
 refusal_number refusal.Closed = 11
 refusal_number (refusal.Kind kind) = kind_number kind
+
+-- what a refusal says
+abbrev pub refusal_text : Refusal → List ℕ
+refusal_text refusal.Null = codes "null pointer"
+refusal_text refusal.Length = codes "bad length"
+refusal_text refusal.Room = codes "too little room"
+refusal_text refusal.BadKind = codes "bad kind"
+refusal_text refusal.NoPlace = codes "no place"
+refusal_text refusal.BadRecord = codes "bad record"
+refusal_text refusal.NotThere = codes "not there"
+refusal_text refusal.NoMessageName = codes "no message's name"
+refusal_text refusal.Unanswered = codes "unanswered"
+refusal_text refusal.Closed = codes "closed"
+refusal_text (refusal.Kind kind) = kind_text kind
+
+-- the text of the refusal that has this number, and no byte where none has it
+abbrev pub IsTextOf : ℕ → List ℕ → Type 0
+IsTextOf number text =
+    ((r : Refusal) × (refusal_number r ≡ number) × (text ≡ refusal_text r)) ⊎ (((r : Refusal) → refusal_number r ≢ number) × (text ≡ []))
 
 -- 0 where a call is done, else the number of its refusal
 abbrev pub status_number : Result (Unit {0}) Refusal → ℕ

@@ -1,7 +1,5 @@
 -- What C sees of answers and steps.
-use Rattle.std.specs.Prelude.{◌≡◌, ◌+◌, ◌*◌, ℕ, Bool, List, Option, Some, None, if◌then◌else◌, fold, codes}
-use Rattle.std.specs.FinSet as set
-use Rattle.std.specs.Ordering.{nat_cmp}
+use Rattle.std.specs.Prelude.{◌≡◌, ℕ, Bool, Option, Some, None, if◌then◌else◌}
 use Rattle.md_jobs.specs.declared.answer.Answer.{Answer}
 use Rattle.md_jobs.specs.declared.answer.Answer.TheVariants as answer
 use Rattle.md_jobs.specs.declared.step.DirCall.{DirCall}
@@ -9,6 +7,7 @@ use Rattle.md_jobs.specs.declared.step.DirCall.TheVariants as dir
 use Rattle.md_jobs.specs.declared.step.DirReply.{DirReply}
 use Rattle.md_jobs.specs.declared.step.DirReply.TheVariants as reply
 use Rattle.md_jobs.specs.declared.step.StepOut.{StepOut}
+use Rattle.md_name.specs.Words.{word_of}
 use Rattle.md_ffi.specs.Reading.{place_number}
 use Rattle.md_ffi.specs.declared.shown.AnswerShown.{AnswerShown}
 use Rattle.md_ffi.specs.declared.shown.StepShown.{StepShown}
@@ -31,21 +30,9 @@ answer_number (Some answer.TmpGone) = 12
 answer_number (Some answer.NameTaken) = 13
 answer_number (Some answer.Fault) = 14
 
--- 1 where a flag is there, else 0
-abbrev pub bit : Bool → ℕ
-bit is_there = if is_there then 1 else 0
-
--- which of these letters are flags, a bit each, the last one's the lowest
-abbrev pub bits_of : set.FinSet nat_cmp → List ℕ → ℕ
-bits_of flags letters = fold (λ bits letter. bits * 2 + bit (set.contains flags letter)) 0 letters
-
--- flags as bits: bit 0 for A to bit 25 for Z, bit 26 for a to bit 51 for z
-unfoldable pub flag_bits : set.FinSet nat_cmp → ℕ
-flag_bits flags = bits_of flags (codes "zyxwvutsrqponmlkjihgfedcbaZYXWVUTSRQPONMLKJIHGFEDCBA")
-
--- the flags or the count that an answer has, else 0
+-- the flags, bit 0 for A to bit 25 for Z and bit 26 for a to bit 51 for z, or the count that an answer has, else 0
 abbrev pub answer_value : Option Answer → ℕ
-answer_value (Some (answer.Flags flags)) = flag_bits flags
+answer_value (Some (answer.Flags flags)) = word_of flags
 answer_value (Some (answer.Cleaned count)) = count
 answer_value other = 0
 

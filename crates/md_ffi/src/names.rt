@@ -11,7 +11,6 @@ ghost use Rattle.md_ffi.specs.Numbers.{status_number};
 use crate::refusal::{NO_MEMORY, Refusal, status};
 use crate::room::lay;
 use crate::seed::seed_of;
-use crate::shown::flag_bits;
 use md_dirs::{HashSeed, IndexDirs};
 use md_head::summary;
 use md_name::{Info, UniqueParts, make_unique, split};
@@ -120,7 +119,7 @@ pub extern "C" fn md_ffi_split(
     *unique_length = unique.len();
     (*info, *flags) = match said {
         Info::Bare => (0, 0),
-        Info::Two(of) => (1, flag_bits(of)),
+        Info::Two(of) => (1, of.bits()),
         Info::Opaque => (2, 0),
     };
     0

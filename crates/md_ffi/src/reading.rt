@@ -2,7 +2,7 @@
 ghost use Rattle.std.specs.Prelude.{◌≡◌, ◌≤◌, ◌+◌, ◌++◌, ◌⊎◌, Ok, Err, IfSome, IsSome, All, MatchResult, length, take, drop};
 ghost use Rattle.md_script.specs.declared.error.PlayKind.TheVariants.{NoMemory};
 ghost use Rattle.md_ffi.specs.Doing.{OnHeld};
-ghost use Rattle.md_ffi.specs.Laying.{Gives};
+ghost use Rattle.md_ffi.specs.Laying.{Gives, LaysOrRefuses};
 ghost use Rattle.md_ffi.specs.Numbers.{status_number};
 ghost use Rattle.md_ffi.specs.Reading.{four_bytes, eight_bytes, entry_bytes, entries_bytes, HasShortName, listed, message_at, name_at};
 ghost use Rattle.md_ffi.specs.declared.refusal.Refusal.TheVariants.{Kind};
@@ -127,7 +127,7 @@ fn list(
 
 #[tactic(auto, unfolding(crate::specs::Reading::message_at))]
 fn read(held: &Held, unique: &[u8], out: &mut [u8], length: &mut usize) -> Result<(), Refusal>
-    ensures { Gives (message_at held.now.world unique.now) out.old out.new length.old length.new (status_number result) }
+    ensures { LaysOrRefuses (message_at held.now.world unique.now) out.old out.new length.old length.new (status_number result) }
 {
     match held.world.read(unique) {
         Some(bytes) => lay(bytes, out, length),
@@ -145,7 +145,7 @@ fn name(
     length: &mut usize,
 ) -> Result<(), Refusal>
     ensures same { held.new.world ≡ held.old.world }
-    ensures name { Gives (name_at held.old.world folder place at) out.old out.new length.old length.new (status_number result) }
+    ensures name { LaysOrRefuses (name_at held.old.world folder place at) out.old out.new length.old length.new (status_number result) }
 {
     let Some(place) = place_of(place) else {
         return Err(Refusal::NoPlace);
@@ -196,7 +196,7 @@ pub extern "C" fn md_ffi_read(
 ) -> u32
     ensures same { handle.new.slot.held ≡ handle.old.slot.held }
     ensures read { OnHeld handle.old.slot.held handle.new.slot.held result ((out.new ≡ out.old) × (length.new ≡ length.old))
-        (λ run _. Gives (message_at run unique.now) out.old out.new length.old length.new result) }
+        (λ run _. LaysOrRefuses (message_at run unique.now) out.old out.new length.old length.new result) }
 {
     let Some(held) = handle.take(alloc) else {
         return Refusal::Closed.number();
@@ -220,7 +220,7 @@ pub extern "C" fn md_ffi_names(
 ) -> u32
     ensures same { handle.new.slot.held ≡ handle.old.slot.held }
     ensures name { OnHeld handle.old.slot.held handle.new.slot.held result ((out.new ≡ out.old) × (length.new ≡ length.old))
-        (λ run _. Gives (name_at run folder place at) out.old out.new length.old length.new result) }
+        (λ run _. LaysOrRefuses (name_at run folder place at) out.old out.new length.old length.new result) }
 {
     let Some(mut held) = handle.take(alloc) else {
         return Refusal::Closed.number();

@@ -1,7 +1,7 @@
 //! Why a call is refused, and the number and the text of each refusal.
-ghost use Rattle.std.specs.Prelude.{◌≡◌, OnOk, IfSome, MatchResult};
-ghost use Rattle.md_ffi.specs.Numbers.{refusal_number, kind_number, core_number, name_number};
-ghost use Rattle.md_ffi.specs.Numbers.{status_number};
+ghost use Rattle.std.specs.Prelude.{◌≡◌, ◌≢◌, ◌≤◌, ◌<◌, ◌⊎◌, length, OnOk, IfSome, IfNone, MatchResult};
+ghost use Rattle.md_ffi.specs.Numbers.{refusal_number, kind_number, core_number, name_number, refusal_text, status_number, IsTextOf};
+ghost use Rattle.md_ffi.specs.declared.refusal.Refusal.{Refusal};
 
 use md_core::CoreError;
 use md_name::NameError;
@@ -59,7 +59,10 @@ impl Refusal {
     }
 
     /// What a refusal says, in at most 32 bytes.
-    pub(crate) fn text(self) -> &'static str {
+    fn text(self) -> &'static str
+        ensures text { result.now ≡ refusal_text self }
+        ensures short { length result.now ≤ 32 }
+    {
         match self {
             Refusal::Null => "null pointer",
             Refusal::Length => "bad length",
@@ -142,9 +145,21 @@ fn name_number(error: NameError) -> u32
     }
 }
 
-/// The refusal of a number.
-pub(crate) fn refusal_of(number: u32) -> Option<Refusal>
-    ensures { IfSome result (λ refusal. refusal_number refusal ≡ number) }
+/// What the refusal of a number says, and nothing where no refusal has it.
+pub(crate) fn text_of(number: u32) -> &'static str
+    ensures text { IsTextOf number result.now }
+    ensures short { length result.now ≤ 32 }
+{
+    match refusal_of(number) {
+        Some(refusal) => refusal.text(),
+        None => "",
+    }
+}
+
+/// The refusal of a number, or none.
+fn refusal_of(number: u32) -> Option<Refusal>
+    ensures some { IfSome result (λ refusal. refusal_number refusal ≡ number) }
+    ensures none { IfNone result ((r : Refusal) → refusal_number r ≢ number) }
 {
     match number {
         1 => Some(Refusal::Null),
@@ -167,7 +182,8 @@ pub(crate) fn refusal_of(number: u32) -> Option<Refusal>
 }
 
 fn core_of(number: u32) -> Option<Refusal>
-    ensures { IfSome result (λ refusal. refusal_number refusal ≡ number) }
+    ensures some { IfSome result (λ refusal. refusal_number refusal ≡ number) }
+    ensures none { IfNone result ((number < 20) ⊎ (32 < number)) }
 {
     let error = match number {
         20 => CoreError::BadName,
@@ -189,7 +205,8 @@ fn core_of(number: u32) -> Option<Refusal>
 }
 
 fn kind_of(number: u32) -> Option<Refusal>
-    ensures { IfSome result (λ refusal. refusal_number refusal ≡ number) }
+    ensures some { IfSome result (λ refusal. refusal_number refusal ≡ number) }
+    ensures none { IfNone result ((number < 50) ⊎ (63 < number)) }
 {
     let kind = match number {
         50 => PlayKind::BadCommand,

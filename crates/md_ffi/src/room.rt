@@ -1,6 +1,6 @@
 //! What is laid into a caller's buffer.
 ghost use Rattle.std.specs.Prelude.{◌≡◌, ◌≤◌, ◌+◌, ◌++◌, length, take, drop};
-ghost use Rattle.md_ffi.specs.Laying.{Lays};
+ghost use Rattle.md_ffi.specs.Laying.{Lays, LaysFront};
 ghost use Rattle.md_ffi.specs.Numbers.{status_number};
 
 use crate::refusal::Refusal;
@@ -16,6 +16,15 @@ pub(crate) fn lay(bytes: &[u8], out: &mut [u8], whole: &mut usize) -> Result<(),
     }
     lay_at(bytes, out, 0);
     Ok(())
+}
+
+/// Copies as many bytes to the front of a buffer as it has room for, and gives how many there are.
+pub(crate) fn lay_front(bytes: &[u8], out: &mut [u8]) -> usize
+    ensures { LaysFront bytes.now out.old out.new result }
+{
+    let count = bytes.len().min(out.len());
+    lay_at(&bytes[..count], out, 0);
+    bytes.len()
 }
 
 /// Copies bytes to a position of a buffer that has room for them there, and gives the position after them.

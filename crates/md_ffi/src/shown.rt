@@ -1,15 +1,10 @@
 //! What C sees of answers and steps.
-ghost use Rattle.std.specs.Prelude.{◌≡◌, ◌==◌, None, Some};
-ghost use Rattle.md_jobs.specs.Asked.{is_fault};
+ghost use Rattle.std.specs.Prelude.{◌≡◌, None, Some};
 ghost use Rattle.md_ffi.specs.Reading.{place_at, place_number};
-ghost use Rattle.md_ffi.specs.Shown.{answer_shown, call_number, call_value, flag_bits, reply_number, IsShown};
+ghost use Rattle.md_ffi.specs.Shown.{answer_shown, call_number, call_value, reply_number, IsShown};
 
 use md_core::{Answer, DirCall, DirReply, StepOut};
 use md_dirs::Place;
-use md_name::Flags;
-
-/// The letters of flags in falling ASCII order: the first has the highest bit.
-const LETTERS: &[u8; 52] = b"zyxwvutsrqponmlkjihgfedcbaZYXWVUTSRQPONMLKJIHGFEDCBA";
 
 /// How a job ended: a number, 0 for no answer yet, and the flags or the count that the answer has, else 0.
 #[repr(C)]
@@ -55,18 +50,6 @@ pub(crate) fn place_of(number: u32) -> Option<Place>
     }
 }
 
-/// Flags as bits.
-#[tactic(auto, unfolding(crate::specs::Shown::flag_bits))]
-pub(crate) fn flag_bits(flags: Flags) -> u64
-    ensures { result ≡ flag_bits flags }
-{
-    let mut bits = 0;
-    for letter in LETTERS {
-        bits = bits * 2 + u64::from(flags.has(*letter));
-    }
-    bits
-}
-
 impl AnswerShown {
     /// No answer yet.
     pub(crate) fn none() -> AnswerShown
@@ -100,7 +83,7 @@ fn given(answer: Answer) -> AnswerShown
         Answer::Delivered => plain(1),
         Answer::Flags(flags) => AnswerShown {
             kind: 2,
-            value: flag_bits(flags),
+            value: flags.bits(),
         },
         Answer::Moved => plain(3),
         Answer::Expunged => plain(4),
@@ -134,8 +117,7 @@ fn call_shown(call: DirCall) -> (u32, u64)
 }
 
 fn reply_shown(reply: DirReply) -> u32
-    ensures number { result ≡ reply_number reply }
-    ensures fault { (result == 4) ≡ is_fault reply }
+    ensures { result ≡ reply_number reply }
 {
     match reply {
         DirReply::Ok => 1,
@@ -148,8 +130,7 @@ fn reply_shown(reply: DirReply) -> u32
 impl StepShown {
     /// What is shown of a step.
     pub(crate) fn of(step: StepOut) -> StepShown
-        ensures shown { IsShown step result }
-        ensures fault { (result.reply == 4) ≡ is_fault step.reply }
+        ensures { IsShown step result }
     {
         let (call, value) = call_shown(step.call);
         StepShown {

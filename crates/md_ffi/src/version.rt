@@ -1,7 +1,10 @@
 //! The version of the interface, and the texts of its refusals.
-ghost use Rattle.std.specs.Prelude.{◌≡◌, length};
+ghost use Rattle.std.specs.Prelude.{◌≡◌, ◌≤◌, ℕ, List};
+ghost use Rattle.md_ffi.specs.Laying.{LaysFront};
+ghost use Rattle.md_ffi.specs.Numbers.{IsTextOf};
 
-use crate::refusal::refusal_of;
+use crate::refusal::text_of;
+use crate::room::lay_front;
 
 /// The version of the interface.
 #[unsafe(no_mangle)]
@@ -15,13 +18,8 @@ pub extern "C" fn md_ffi_abi() -> u32
 /// refusal's.
 #[unsafe(no_mangle)]
 pub extern "C" fn md_ffi_text(number: u32, out: &mut [u8]) -> usize
-    ensures { length out.new ≡ length out.old }
+    ensures text { (text : List ℕ) × IsTextOf number text × LaysFront text out.old out.new result }
+    ensures short { result ≤ 32 }
 {
-    let Some(refusal) = refusal_of(number) else {
-        return 0;
-    };
-    let text = refusal.text().as_bytes();
-    let count = text.len().min(out.len());
-    out[..count].copy_from_slice(&text[..count]);
-    text.len()
+    lay_front(text_of(number).as_bytes(), out)
 }

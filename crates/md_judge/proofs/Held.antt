@@ -8,6 +8,7 @@ use Rattle.md_log.specs.declared.line.Said.TheVariants as said
 use Rattle.md_log.specs.declared.line.Step.{Step}
 use Rattle.md_name.specs.Letters.{Set, IsOfLetters}
 use Rattle.md_name.specs.Names.{unique_of, info_of, flags_of, split_of, is_message_name}
+use Rattle.md_name.specs.Words.{word_of}
 use Rattle.md_name.specs.declared.info.Info.{Info}
 use Rattle.md_clauses.specs.declared.changes.Spot.{Spot}
 use Rattle.md_clauses.specs.declared.claims.Claim.{Claim}
@@ -15,7 +16,6 @@ use Rattle.md_clauses.specs.declared.claims.Held.{Held}
 use Rattle.md_judge.specs.declared.judge.known.Known.{Known}
 use Rattle.md_judge.specs.declared.judge.tables.Names.{Names}
 use Rattle.md_judge.specs.Claims.{HasFlags, IsLastMoment, RecallsHeld, RecallsSo}
-use Rattle.md_judge.specs.Flags.{bits_of}
 use Rattle.md_judge.specs.Held.{held_both, held_at, held_in, spot_by, held_by, held_said}
 use Rattle.md_judge.specs.Law.{turn}
 use Rattle.md_judge.specs.Known.{file_in}
@@ -172,7 +172,7 @@ module _ (line : ℕ → ℕ) (l : Log) (i : ℕ) (known : Known) (told : IsTold
       (ap (λ b. cond {A = Option (List ℕ × Info)} b (Some (unique_of name, info_of name)) None) shown) number
 
   -- by the number of its name a path of the message in cur with the flags is that of one of the ends that show them
-  forth : (j : ℕ) → j ≤ i → HasFlags (at l j) folder unique flags → (e : ℕ) × IsIn (alike_in names (bits_of flags)) e × Shows e j
+  forth : (j : ℕ) → j ≤ i → HasFlags (at l j) folder unique flags → (e : ℕ) × IsIn (alike_in names (word_of flags)) e × Shows e j
   forth j low has =
       let p = has.0 in
       let message : IsMessageAt (at l j) folder unique p has.1 = has.2 in
@@ -191,7 +191,7 @@ module _ (line : ℕ → ℕ) (l : Log) (i : ℕ) (known : Known) (told : IsTold
         number = subst (IsNumber names p.name) whole number.1;
       } in (
         n % 4294967296,
-        (marked.alike (bits_of flags) (n % 4294967296)).1 (drop (length (unique_of p.name)) p.name, flags, stands.2, said, refl),
+        (marked.alike (word_of flags) (n % 4294967296)).1 (drop (length (unique_of p.name)) p.name, flags, stands.2, said, refl),
         subst (λ q. IsHere l q j) (sym (path-is names numbered p (spot_by folder u (n % 4294967296)) spot)) here,
       )
 
@@ -209,7 +209,7 @@ module _ (line : ℕ → ℕ) (l : Log) (i : ℕ) (known : Known) (told : IsTold
           absurd (nameless names (spot_by folder u e) (λ name of. none (name, of)) number.0 number.1)
 
   -- its name shows the flags
-  spelled : (p : Path) (e : ℕ) → e < 4294967295 → IsIn (alike_in names (bits_of flags)) e → IsNumber names p.name (u * 4294967296 + e)
+  spelled : (p : Path) (e : ℕ) → e < 4294967295 → IsIn (alike_in names (word_of flags)) e → IsNumber names p.name (u * 4294967296 + e)
       → (is_message_name p.name ≡ true) × (unique_of p.name ≡ unique) × (flags_of (info_of p.name) ≡ Some flags)
   spelled p e low some number = by (split_of p.name) refl stands
     where
@@ -229,7 +229,7 @@ module _ (line : ℕ → ℕ) (l : Log) (i : ℕ) (known : Known) (told : IsTold
           → (is_message_name p.name ≡ true) × (unique_of p.name ≡ unique) × (flags_of (info_of p.name) ≡ Some flags)
       by None split s = absurd (let same = s.0 in omega (arith, same, low))
       by (Some parts) split s =
-          let shows = (marked.alike (bits_of flags) e).0 some in
+          let shows = (marked.alike (word_of flags) e).0 some in
           let one : parts.0 ≡ unique_of p.name = split_is p.name parts split in
           let unique-is : parts.0 ≡ unique = (let same : Some parts.0 ≡ Some unique = sym s.1 ∙ is in cc same) in
           let end-is : shows.0 ≡ drop (length (unique_of p.name)) p.name =
@@ -241,13 +241,13 @@ module _ (line : ℕ → ℕ) (l : Log) (i : ℕ) (known : Known) (told : IsTold
             sym (ap (λ (v : List ℕ). flags_of (info_of v)) end-is ∙ ap flags_of (info-rest p.name)) ∙ shows.3 ∙ ap Some flags-is,
           )
 
-  back : (j : ℕ) → j ≤ i → (e : ℕ) × IsIn (alike_in names (bits_of flags)) e × Shows e j → HasFlags (at l j) folder unique flags
+  back : (j : ℕ) → j ≤ i → (e : ℕ) × IsIn (alike_in names (word_of flags)) e × Shows e j → HasFlags (at l j) folder unique flags
   unfolding path_by
   back j low some = by (file_at (at l j) (path some.0)) refl
     where
       below : some.0 < 4294967295
       below =
-          let shows = (marked.alike (bits_of flags) some.0).0 some.1 in
+          let shows = (marked.alike (word_of flags) some.0).0 some.1 in
           let within = slice_get_within names.endings some.0 shows.0 shows.2 in
           let few = numbered.words.1 in
           omega (arith, within, few)
@@ -261,10 +261,10 @@ module _ (line : ℕ → ℕ) (l : Log) (i : ℕ) (known : Known) (told : IsTold
   -- what is kept of the names that show the flags is what the log tells of the message
   pub held-told : ((a b : ℕ) → a < b → line a < line b)
       → RecallsHeld line (λ j. HasFlags (at l j) folder unique flags) i
-      (held_by known.directories.all.items folder u (alike_in names (bits_of flags)))
+      (held_by known.directories.all.items folder u (alike_in names (word_of flags)))
   held-told rises =
       let all = known.directories.all.items in
-      let ends = alike_in names (bits_of flags) in
+      let ends = alike_in names (word_of flags) in
       let each : (e : ℕ) → IsIn ends e → RecallsHeld line (Shows e) i (held_in all (spot_by folder u e)) = λ e there.
       path-held line l i (path_by names) (2 ^ 64) known (known-by line l i known told numbered) (spot_by folder u e) (small e there) in
       held-alike line i (λ j. ⊥ ⊎ OfSome line i rises Shows (λ e. held_in all (spot_by folder u e)) ends j)
@@ -272,9 +272,9 @@ module _ (line : ℕ → ℕ) (l : Log) (i : ℕ) (known : Known) (told : IsTold
       (λ j low. (λ either. elim either [ inl never ↦ absurd never | inr some ↦ back j low some ], λ has. inr (forth j low has)))
       (held-some line i rises Shows (λ e. held_in all (spot_by folder u e)) ends (λ j. ⊥) None each (λ j low never. never))
     where
-      small : (e : ℕ) → IsIn (alike_in names (bits_of flags)) e → u * 4294967296 + e < 2 ^ 64
+      small : (e : ℕ) → IsIn (alike_in names (word_of flags)) e → u * 4294967296 + e < 2 ^ 64
       small e there =
-          let shows = (marked.alike (bits_of flags) e).0 there in
+          let shows = (marked.alike (word_of flags) e).0 there in
           let within = slice_get_within names.endings e shows.0 shows.2 in
           let few = numbered.words.1 in
           let low = slice_get_within names.uniques u unique is in

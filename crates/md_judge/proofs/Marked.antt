@@ -16,11 +16,11 @@ use Rattle.md_dirs.proofs.Sound.{by_number}
 use Rattle.md_name.specs.Letters.{Set}
 use Rattle.md_name.specs.declared.info.Info.{Info}
 use Rattle.md_name.specs.Names.{is_colon, unique_of, info_text, info_by, info_of, flags_of, split_of, is_message_name}
+use Rattle.md_name.specs.Words.{word_of}
 use Rattle.md_dirs.specs.declared.paths.Path.{Path}
 use Rattle.md_clauses.specs.declared.changes.Spot.{Spot}
 use Rattle.md_judge.specs.declared.judge.tables.Names.{Names}
 use Rattle.md_judge.specs.Files.{is_trashed_in}
-use Rattle.md_judge.specs.Flags.{bits_of}
 use Rattle.md_judge.specs.Law.{IsTrashed}
 use Rattle.md_judge.specs.Listings.{IsIn}
 use Rattle.md_judge.specs.Names.{StandFor, has_trashed, alike_in, AddsAlike, NotesAlike, AreMarked}
@@ -142,7 +142,7 @@ pub notes-from : (o : Option Set) (number : ℕ) (old mid new : Names) → mid.a
     → NotesAlike o number old new
 notes-from None number old mid new same noted = λ b. noted b ∙ alike-same old mid same b
 notes-from (Some flags) number old mid new same noted = λ b.
-    noted b ∙ ap (λ (xs : List ℕ). cond (nat_eq b (bits_of flags)) (xs ++ number ∷ []) xs) (alike-same old mid same b)
+    noted b ∙ ap (λ (xs : List ℕ). cond (nat_eq b (word_of flags)) (xs ++ number ∷ []) xs) (alike-same old mid same b)
 
 -- an end that is put with those that show the flags is one more of them
 module _ (old new : Names) (bits number : ℕ) (put : Vec ℕ Global)
@@ -193,7 +193,7 @@ module _ (old new : Names) (ending : List ℕ) (marked : AreMarked old) (ends : 
 
   abbrev Showing : Names → ℕ → ℕ → Type 0
   Showing names bits k = (e : List ℕ) × (flags : Set) × (slice_get names.endings k ≡ Some e) × (flags_of (info_of e) ≡ Some flags)
-      × (bits_of flags ≡ bits)
+      × (word_of flags ≡ bits)
 
   alike-by : (o : Option Set) → flags_of (info_of ending) ≡ o → NotesAlike o (length old.endings) old new → (bits k : ℕ)
       → IsIn (alike_in new bits) k ↔ Showing new bits k
@@ -207,7 +207,7 @@ module _ (old new : Names) (ending : List ℕ) (marked : AreMarked old) (ends : 
     ],
   )
   alike-by (Some flags) is more bits k = (
-    λ some. elim ((more-in (nat_eq bits (bits_of flags)) (alike_in old bits) (length old.endings) k).0
+    λ some. elim ((more-in (nat_eq bits (word_of flags)) (alike_in old bits) (length old.endings) k).0
         (subst (λ xs. IsIn xs k) (more bits) some)) [
           | inl before ↦
               let was = (marked.alike bits k).0 before in
@@ -217,16 +217,16 @@ module _ (old new : Names) (ending : List ℕ) (marked : AreMarked old) (ends : 
             flags,
             ap (slice_get new.endings) now.1 ∙ last,
             is,
-            sym (eqb-true bits (bits_of flags) now.0),
+            sym (eqb-true bits (word_of flags) now.0),
           )
         ],
     λ shows. subst (λ xs. IsIn xs k) (sym (more bits))
-        ((more-in (nat_eq bits (bits_of flags)) (alike_in old bits) (length old.endings) k).1 (elim (from k shows.0 shows.2) [
+        ((more-in (nat_eq bits (word_of flags)) (alike_in old bits) (length old.endings) k).1 (elim (from k shows.0 shows.2) [
           | inl before ↦ inl ((marked.alike bits k).1 (shows.0, shows.1, before, shows.3, shows.4))
           | inr now ↦
               let both : Some flags ≡ Some shows.1 = sym is ∙ ap (λ (v : List ℕ). flags_of (info_of v)) now.1 ∙ shows.3 in
               let one : flags ≡ shows.1 = cc both in
-              inr (eq-eqb bits (bits_of flags) (sym (ap bits_of one ∙ shows.4)), now.0)
+              inr (eq-eqb bits (word_of flags) (sym (ap word_of one ∙ shows.4)), now.0)
         ])),
   )
 

@@ -5,11 +5,11 @@ use Rattle.md_dirs.specs.declared.paths.Place.TheVariants.{Cur}
 use Rattle.md_log.specs.declared.line.Said.{Said}
 use Rattle.md_log.specs.declared.line.Said.TheVariants as said
 use Rattle.md_name.specs.Letters.{Set}
+use Rattle.md_name.specs.Words.{word_of}
 use Rattle.md_judge.specs.declared.judge.directories.Directory.{Directory}
 use Rattle.md_clauses.specs.declared.changes.Spot.{Spot}
 use Rattle.md_clauses.specs.declared.claims.Held.{Held}
 use Rattle.md_judge.specs.declared.judge.known.Known.{Known}
-use Rattle.md_judge.specs.Flags.{bits_of}
 use Rattle.md_judge.specs.Known.{file_in}
 use Rattle.md_judge.specs.Moments.{was_in}
 use Rattle.md_judge.specs.Names.{alike_in}
@@ -40,7 +40,7 @@ held_by all folder u endings = fold (λ held ending. held_both (held_in all (spo
 
 -- by the names of a message that show the flags
 abbrev pub held_of : Known → ℕ → ℕ → Set → Option Held
-held_of known folder u flags = held_by known.directories.all.items folder u (alike_in known.names (bits_of flags))
+held_of known folder u flags = held_by known.directories.all.items folder u (alike_in known.names (word_of flags))
 
 -- by what an answer about a message says
 abbrev pub held_said : Known → ℕ × ℕ → Said → Option Held

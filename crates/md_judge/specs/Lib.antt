@@ -2,7 +2,6 @@ pub mod Logs
 pub mod Told
 pub mod Law
 pub mod Words
-pub mod Flags
 pub mod Names
 pub mod Mixed
 pub mod Changes

@@ -8,9 +8,9 @@ use Rattle.std.specs.declared.vec.Vec.{Vec}
 use Rattle.md_name.specs.declared.info.Info.{Info}
 use Rattle.md_name.specs.Letters.{Set}
 use Rattle.md_name.specs.Names.{split_of, info_of, flags_of}
+use Rattle.md_name.specs.Words.{word_of}
 use Rattle.std.specs.FinSet as set
 use Rattle.md_judge.specs.declared.judge.tables.Names.{Names}
-use Rattle.md_judge.specs.Flags.{bits_of}
 use Rattle.md_judge.specs.Listings.{IsIn}
 use Rattle.md_judge.specs.Words.{AreApart}
 
@@ -54,7 +54,7 @@ AddsAlike bits number old new = (b : ℕ) → alike_in new b ≡ (if b == bits t
 -- and one more shows these flags, where it shows some
 abbrev pub NotesAlike : Option Set → ℕ → Names → Names → Type 0
 NotesAlike None number old new = (b : ℕ) → alike_in new b ≡ alike_in old b
-NotesAlike (Some flags) number old new = AddsAlike (bits_of flags) number old new
+NotesAlike (Some flags) number old new = AddsAlike (word_of flags) number old new
 
 -- Of each end of a message's name it is kept whether it shows the flag T, and of each number of flags which ends show these.
 pub record AreMarked (names : Names) : Type 0 where
@@ -63,7 +63,7 @@ pub record AreMarked (names : Names) : Type 0 where
       → slice_get names.trashed.items k ≡ Some (has_trashed (flags_of (info_of ending)))
   pub alike : (bits k : ℕ) → IsIn (alike_in names bits) k
       ↔ ((ending : List ℕ) × (flags : Set) × (slice_get names.endings k ≡ Some ending) × (flags_of (info_of ending) ≡ Some flags)
-      × (bits_of flags ≡ bits))
+      × (word_of flags ≡ bits))
 
 -- Unique names keep their numbers, and others may get some: still two of them have two. What is kept of ends of names stays so.
 pub record GrowsUniques (old new : Names) : Type 0 where

@@ -25,7 +25,6 @@ mod copied;
 mod directories;
 mod files;
 mod filing;
-mod flags;
 mod goings;
 mod held;
 mod known;

@@ -9,13 +9,13 @@ ghost use Rattle.md_judge.specs.Recalled.{IsToldAt};
 ghost use Rattle.md_judge.specs.Told.{at};
 
 use super::directories::Directories;
-use super::flags::bits_of;
 use super::known::Known;
 use super::mail::Key;
 use super::tables::name_of;
 use md_clauses::{Held, Spot};
 use md_dirs::Place;
 use md_name::Flags;
+use md_name::laws::only_letters;
 
 /// The same by some names and by others.
 fn both(some: Option<Held>, others: Option<Held>) -> Option<Held>
@@ -58,7 +58,8 @@ impl Known {
             → RecallsHeld lines (λ j. HasFlags (at l j) key.0 unique flags) i result }
     {
         self.names.are_numbered();
-        self.held_by(key, self.names.alike(bits_of(flags)))
+        only_letters(flags);
+        self.held_by(key, self.names.alike(flags.bits()))
     }
 
     /// The same by its names that have these endings.

@@ -6,7 +6,6 @@ ghost use Rattle.md_judge.specs.Files.{name_facts, is_trashed_in};
 ghost use Rattle.md_judge.specs.Words.{hash_of, AreApart, Finds};
 ghost use Rattle.md_judge.specs.Names.{StandFor, IsNumber, AreNumbered, KeepNumbers, GrowsUniques, AreMarked, has_trashed, alike_in, AddsAlike, NotesAlike, IsUnique};
 
-use super::flags::bits_of;
 use super::texts::Words;
 use md_clauses::Name;
 use md_name::{Info, split};
@@ -297,7 +296,7 @@ impl Names {
             }
             Some(flags) => {
                 self.trashed.push(flags.has(b'T'))?;
-                self.note_alike(number, bits_of(flags))
+                self.note_alike(number, flags.bits())
             }
         }
     }

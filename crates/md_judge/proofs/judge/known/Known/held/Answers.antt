@@ -14,11 +14,11 @@ returns c =
     let u = c.args.key.1 in
     let kept = c.held_by.ensures
     ∙ ap (λ (ends : List ℕ). held_by known.directories.all.items folder u ends)
-    (c.alike.ensures ∙ ap (λ (bits : ℕ). alike_in known.names bits) c.bits_of.ensures.bits) in
+    (c.alike.ensures ∙ ap (λ (bits : ℕ). alike_in known.names bits) c.bits.ensures) in
     record {
       held = kept;
-      letters = c.bits_of.ensures.letters;
+      letters = c.only_letters.ensures;
       recalls = λ lines l i unique told marked is rises.
           subst (λ (h : Option Held). RecallsHeld lines (λ j. HasFlags (at l j) folder unique c.args.flags) i h) (sym kept)
-          (held-told lines l i known told marked c.are_numbered.ensures folder u unique is c.args.flags c.bits_of.ensures.letters rises);
+          (held-told lines l i known told marked c.are_numbered.ensures folder u unique is c.args.flags c.only_letters.ensures rises);
     }
