@@ -2,6 +2,7 @@
 use Rattle.std.specs.Prelude.{ℕ, List}
 use Rattle.md_name.specs.Letters.{Set}
 
+-- what an errand is for
 pub data Purpose : Type 0 where
   Seen : (flags : Set) → Purpose
   Flag : (add remove : Set) → Purpose
