@@ -11,6 +11,3 @@ pub mod Fresh
 pub mod Submits
 pub mod Ends
 pub mod Last
-pub mod Entering
-pub mod Rolled
-pub mod Ticketed

@@ -19,7 +19,6 @@ use Rattle.md_core.specs.Runs.{Run, dirs_of, jobs_of, and_call, and_event, effec
 use Rattle.md_core.specs.Submitting.{submit_refusal}
 use Rattle.md_store.specs.Calling.{RefusesSince}
 use Rattle.md_store.specs.Locks.{Both, IsSince, SubmitsSince, RefusesCall, ReadsSince, HoldsSince}
-use Rattle.md_store.specs.Tickets.{Issued}
 
 pub since_itself : (begun run : Run) → run ≡ begun → IsSince begun run
 since_itself begun run is = record {
@@ -52,16 +51,6 @@ module _ (begun r : Run) (since : IsSince begun r) (run : IsRun r) where
       → IfOk res (λ job. (s ≡ and_call r call) × (job ≡ length r.calls + 1)) → IfOk res (λ job. SubmitsSince begun call job)
   submits-since s call (Ok job) Why accepted is = record { run = r; since = since; is_run = run; accepted = accepted; number = is.1 }
   submits-since s call (Err e) Why accepted is = tt
-
-  pub issues-since : (s : Run) (call : Call) (res : Result Issued SubmitRefused) (Why : SubmitRefused → Type 0)
-      → MatchResult res (λ _. submit_refusal r call ≡ None) Why
-      → IfOk res (λ t. (s ≡ and_call r call) × (t ≡ record { job = length r.calls + 1; call = call }))
-      → IfOk res (λ t. (t.call ≡ call) × SubmitsSince begun call t.job)
-  issues-since s call (Ok t) Why accepted is = (
-    ap (λ (i : Issued). i.call) is.1,
-    record { run = r; since = since; is_run = run; accepted = accepted; number = ap (λ (i : Issued). i.job) is.1 },
-  )
-  issues-since s call (Err e) Why accepted is = tt
 
   pub refuses-call : {A : Type 0} (call : Call) (res : Result A SubmitRefused) (Accepted : A → Type 0)
       → MatchResult res Accepted (λ y. IsRefusal (submit_refusal r call) y.error) → IfErr res (λ y. RefusesCall begun call y.error)

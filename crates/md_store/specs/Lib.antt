@@ -7,5 +7,3 @@ pub mod Telling
 pub mod Listing
 pub mod Refusals
 pub mod Calling
-pub mod Rolls
-pub mod Tickets

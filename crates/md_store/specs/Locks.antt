@@ -18,7 +18,6 @@ use Rattle.md_jobs.specs.Asked.{is_fault}
 use Rattle.md_replica.specs.Named.{Named, named_of}
 use Rattle.md_store.specs.Pages.{Log, Page, Note}
 use Rattle.md_store.specs.Publishing.{knower, WaitsFor}
-use Rattle.md_store.specs.Rolls.{Called}
 use Rattle.md_store.specs.declared.rule.Knowledge.{Knowledge}
 
 -- all effects are published, or all but the last
@@ -49,20 +48,14 @@ pub record IsLocked (begun : Run) (opening : Named) (book : Book) (run : Run) (s
   pub front_is : (front.log ≡ shown.front.log) ⊎ (front.log ≡ effects_of run)
   pub waits : (pending ≡ []) ⊎ WaitsFor (effects_of run) opening shown pending
 
--- The roll is that of this book, and has the calls since the opening, in their order.
-pub record IsRolled (begun : Run) (book : Book) (run : Run) (roll : Called) : Type 0 where
-  pub book_is : roll.book ≡ book
-  pub calls_are : run.calls ≡ begun.calls ++ roll.calls
-
 -- a world with no event
 abbrev pub IsFresh : Run → Type 0
 IsFresh r = r.events ≡ []
 
--- a store to be opened: its run, the book of its history and that of its calls, and how many passes it gets
+-- a store to be opened: its run, the book of its history, and how many passes it gets
 pub record Ready : Type 0 where
   pub run : Run
   pub book : Book
-  pub roll : Book
   pub passes : ℕ
 
 -- the number is that of a job of this call, which was submitted at some moment since the store was opened

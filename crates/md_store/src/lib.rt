@@ -7,7 +7,6 @@
 
 mod book;
 mod calling;
-mod entered;
 mod error;
 mod locked;
 mod naming;
@@ -16,12 +15,10 @@ mod opening;
 mod pass;
 mod posting;
 mod reading;
-mod roll;
 mod rule;
 mod shown;
 mod step;
 mod store;
-mod ticket;
 mod writing;
 
 pub use calling::CallError;
@@ -34,4 +31,3 @@ pub use pass::Pass;
 pub use reading::FirstReading;
 pub use step::StoreStep;
 pub use store::Store;
-pub use ticket::Ticket;

@@ -9,7 +9,6 @@ ghost use Rattle.md_core.specs.Machine.{occurrence, job_at};
 ghost use Rattle.md_core.specs.Runs.{dirs_of, jobs_of, effects_of, and_event, and_call, step_refusal, steps_left, IsRefusal};
 ghost use Rattle.md_core.specs.Submitting.{submit_refusal};
 ghost use Rattle.md_core.specs.Interleaving.{Interleaves};
-ghost use Rattle.md_core.specs.Trace.{call_at};
 ghost use Rattle.md_core.specs.Tracing.{trace_of, GrowsByStep};
 ghost use Rattle.md_core.specs.Stepping.{IsRun, ShowsStep, Succeeds};
 ghost use Rattle.md_replica.specs.Named.{named_of};
@@ -25,10 +24,8 @@ use crate::naming::Naming;
 use crate::news::News;
 use crate::pass::Pass;
 use crate::posting::post;
-use crate::roll::Roll;
 use crate::rule::StoreWriter;
 use crate::step::StoreStep;
-use crate::ticket::Ticket;
 use crate::writing::publish;
 use md_core::{Call, CoreError, JobId, StepOut, SubmitRefused, World};
 use md_dirs::{Bytes, Dirs};
@@ -43,8 +40,6 @@ pub struct Locked<D: Dirs, J: Naming> {
     head: Head,
     // The published effects, or all.
     front: Front,
-    // The calls since the opening.
-    roll: Roll,
     writer: StoreWriter,
     world: World<D>,
     of: PhantomData<J>,
@@ -57,7 +52,7 @@ impl<D: Dirs, J: Naming> Model for Locked<D, J> {
     ghost use Rattle.md_name.specs.contracts.flags.Flags as flags;
     ghost use Rattle.left_right.specs.Sides.{view as seat_view};
     ghost use Rattle.md_store.specs.Rules.{head_of};
-    ghost use Rattle.md_store.specs.Locks.{Both, IsLocked, IsRolled};
+    ghost use Rattle.md_store.specs.Locks.{Both, IsLocked};
 
     ghost Value = { Both };
 
@@ -67,8 +62,7 @@ impl<D: Dirs, J: Naming> Model for Locked<D, J> {
 
     ghost invariant = { λ l. (l.head ≡ head_of J.book)
         × IsLocked J.begun J.opening J.book l.world l.writer.desk.shown.value (seat_view l.writer.desk.place) l.front
-        (drop l.writer.behind l.writer.log.items)
-        × IsRolled J.begun J.roll l.world l.roll };
+        (drop l.writer.behind l.writer.log.items) };
 }
 
 impl<D: Dirs, J: Naming> Locked<D, J> {
@@ -77,13 +71,11 @@ impl<D: Dirs, J: Naming> Locked<D, J> {
         world: World<D>,
         head: Head,
         front: Front,
-        roll: Roll,
         writer: StoreWriter,
     ) -> Locked<D, J>
         requires begun { world ≡ J.begun }
         requires world { (named_of world.image ≡ J.opening) × (effects_of world ≡ []) }
         requires named { (head ≡ head_of J.book) × (front.book ≡ J.book) × (front.log ≡ []) }
-        requires roll { (roll.book ≡ J.roll) × (roll.calls ≡ []) }
         requires shown { writer.desk.shown.value.front ≡ front }
         requires seat { (view writer.desk.place ≡ knower J.opening writer.desk.shown.value) × (drop writer.behind writer.log.items ≡ []) }
         ensures { (result.run ≡ world) × (result.published ≡ []) }
@@ -93,7 +85,6 @@ impl<D: Dirs, J: Naming> Locked<D, J> {
             world,
             head,
             front,
-            roll,
             writer,
             of: PhantomData,
         }
@@ -110,7 +101,6 @@ impl<D: Dirs, J: Naming> Locked<D, J> {
             world,
             head: _head,
             front: _front,
-            roll: _roll,
             writer,
             of: _,
         } = self;
@@ -198,20 +188,6 @@ impl<D: Dirs, J: Naming> Locked<D, J> {
         }
     }
 
-    /// Submits a call, as `World::submit` does, and gives a ticket of it.
-    pub fn issue(&mut self, call: Call) -> Result<Ticket<J>, SubmitRefused>
-        ensures ok { IfOk result (λ ticket. (self.new.run ≡ and_call self.old.run call) × (ticket ≡ record { job = length self.old.run.calls + 1; call = call })) }
-        ensures effects { OnOk result (effects_of self.new.run ≡ effects_of self.old.run) }
-        ensures refused { MatchResult result (λ _. submit_refusal self.old.run call ≡ None) (λ r. IsRefusal (submit_refusal self.old.run call) r.error) }
-        ensures unchanged { OnErr result (self.new ≡ self.old) }
-        ensures call { IfErr result (λ r. r.call ≡ call) }
-        ensures theorem { OnOk result (Interleaves (trace_of self.new.run)) }
-        ensures published { self.new.published ≡ self.old.published }
-    {
-        let job = self.roll.submit(&mut self.world, call)?;
-        Ok(Ticket::new(job, self.roll.so_far()))
-    }
-
     /// Submits a call, as `World::submit` does.
     pub fn submit(&mut self, call: Call) -> Result<JobId, SubmitRefused>
         ensures ok { IfOk result (λ job. (self.new.run ≡ and_call self.old.run call) × (job ≡ length self.old.run.calls + 1)) }
@@ -222,16 +198,7 @@ impl<D: Dirs, J: Naming> Locked<D, J> {
         ensures theorem { OnOk result (Interleaves (trace_of self.new.run)) }
         ensures published { self.new.published ≡ self.old.published }
     {
-        let ticket = self.issue(call)?;
-        Ok(ticket.job())
-    }
-
-    /// What the store keeps of any ticket of it: the job of its number is there, and is of its call.
-    pub fn recalls(&mut self, ticket: &Ticket<J>)
-        ensures same { self.new ≡ self.old }
-        ensures call { call_at self.new.run.calls ticket.now.job ≡ Some ticket.now.call }
-    {
-        self.roll.covers(ticket.calls());
+        self.world.submit(call)
     }
 
     /// A copy of the bytes of the message of a unique name, in new or cur of any folder. None where there is no such message. It is refused

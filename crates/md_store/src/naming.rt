@@ -1,8 +1,7 @@
 // Which store it is.
 use std::marker::Brand;
 
-/// Names a store: the run that it was opened with, its opening names, the book of its history, and that of its
-/// calls. Each call of a program picks them.
+/// Names a store: the run that it was opened with, its opening names, and the book of its history. Each call of a program picks them.
 pub trait Naming {
     ghost use Rattle.logbook.specs.Pages.{Book};
     ghost use Rattle.md_core.specs.Runs.{Run};
@@ -13,8 +12,6 @@ pub trait Naming {
     ghost opening: { Named };
 
     ghost book: { Book };
-
-    ghost roll: { Book };
 }
 
 impl Naming for Brand {
@@ -25,6 +22,4 @@ impl Naming for Brand {
     ghost opening = { no_names };
 
     ghost book = { no_book };
-
-    ghost roll = { no_book };
 }

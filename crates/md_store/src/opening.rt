@@ -11,7 +11,6 @@ use crate::error::OpenError;
 use crate::locked::Locked;
 use crate::naming::Naming;
 use crate::pass::Pass;
-use crate::roll::Blank;
 use crate::rule::{Seats, StoreWriter};
 use crate::shown::Shown;
 use crate::store::Store;
@@ -33,13 +32,12 @@ pub struct OpenRefused<D: Dirs> {
     pub world: World<D>,
 }
 
-/// A world with no event yet, and books for its history and its calls. `open` makes a store of it under a name.
+/// A world with no event yet, and a book for its history. `open` makes a store of it under a name.
 pub struct Prepared<D: Dirs> {
     world: World<D>,
     passes: usize,
     head: Head,
     front: Front,
-    blank: Blank,
 }
 
 impl<D: Dirs> Model for Prepared<D> {
@@ -54,9 +52,9 @@ impl<D: Dirs> Model for Prepared<D> {
 
     ghost coded = { Prim.hlevel (codes, state_code, flags.the_row.coded) };
 
-    ghost view = { λ p. record { run = p.world; book = p.front.book; roll = p.blank.book; passes = p.passes } };
+    ghost view = { λ p. record { run = p.world; book = p.front.book; passes = p.passes } };
 
-    ghost invariant = { λ p. IsFresh p.world × (0 < p.passes) × (p.passes ≤ 64) × (p.head ≡ head_of p.front.book) × (p.front.log ≡ []) × (p.blank.calls ≡ []) };
+    ghost invariant = { λ p. IsFresh p.world × (0 < p.passes) × (p.passes ≤ 64) × (p.head ≡ head_of p.front.book) × (p.front.log ≡ []) };
 }
 
 /// Makes a store of a world ready to be opened, with 1 to 64 passes. The world has no event yet; calls may have been submitted. Refused
@@ -78,21 +76,20 @@ pub fn prepare<D: Dirs>(world: World<D>, passes: usize) -> Result<Prepared<D>, O
         passes,
         head,
         front,
-        blank: Blank::open(),
     })
 }
 
 impl<D: Dirs> Prepared<D> {
-    /// Opens the store, with as many passes as were asked for. The naming type names its run, its opening names and its books: it is picked
+    /// Opens the store, with as many passes as were asked for. The naming type names its run, its opening names and its book: it is picked
     /// where this is called, in a function that is generic over it. Refused `NoMemory`, or `NoReader` where a pass is refused its reader; the
-    /// world comes back. It would answer `NoMemory`, too, where the roll of calls had an owner already, which never comes.
+    /// world comes back.
     pub fn open<J: Naming, R: Wait>(
         self,
         rt: &R,
         alloc: Global,
     ) -> Result<(Store<D, J>, Vec<Pass<J>>), OpenRefused<D>>
         requires begun { self.run ≡ J.begun }
-        requires named { (named_of self.run.image ≡ J.opening) × (self.book ≡ J.book) × (self.roll ≡ J.roll) }
+        requires named { (named_of self.run.image ≡ J.opening) × (self.book ≡ J.book) }
         ensures passes { IfOk result (λ r. (length r.1.items ≡ self.passes) × All (λ p. p ≡ []) r.1.items) }
         ensures refused { IfErr result (λ e. (e.world ≡ self.run) × ((e.error ≡ refusal.NoMemory) ⊎ (e.error ≡ refusal.NoReader))) }
     {
@@ -101,14 +98,7 @@ impl<D: Dirs> Prepared<D> {
             passes,
             head,
             front,
-            blank,
         } = self;
-        let Some(roll) = blank.owned() else {
-            return Err(OpenRefused {
-                error: OpenError::NoMemory,
-                world,
-            });
-        };
         let mut writer = match writer_of(rt, alloc, &world, &front, passes) {
             Ok(writer) => writer,
             Err(_) => {
@@ -120,7 +110,7 @@ impl<D: Dirs> Prepared<D> {
         };
         match seats::<J>(alloc, &mut writer, &front, passes) {
             Ok(all) => {
-                let locked = Locked::new(alloc, world, head, front, roll, writer);
+                let locked = Locked::new(alloc, world, head, front, writer);
                 Ok((Store::new(Mutex::new(locked)), all))
             }
             Err(error) => {

@@ -12,7 +12,6 @@ ghost use Rattle.md_store.specs.Listing.{Lists, Finishes, ShowsLast};
 ghost use Rattle.md_store.specs.Locks.{IsSince, SubmitsSince, RefusesCall, ReadsSince, HoldsSince};
 ghost use Rattle.md_store.specs.Refusals.{plain_refusal, IsWhy};
 ghost use Rattle.md_store.specs.Telling.{IsNews, IsTold, TellsSince};
-ghost use Rattle.md_store.specs.Tickets.{StepsFor};
 
 use crate::error::{ListError, StoreError};
 use crate::locked::Locked;
@@ -20,7 +19,6 @@ use crate::naming::Naming;
 use crate::pass::Pass;
 use crate::reading::FirstReading;
 use crate::step::StoreStep;
-use crate::ticket::Ticket;
 use crossbeam_utils::Backoff;
 use md_core::{Call, CoreError, JobId, SubmitRefused, World};
 use md_dirs::{Bytes, Dirs};
@@ -79,22 +77,6 @@ impl<D: Dirs, J: Naming> Store<D, J> {
         made
     }
 
-    /// Submits a call, as `submit` does, and gives a ticket of it, by which `step_of` steps.
-    pub fn issue<R: Wait>(&self, rt: &R, call: Call) -> Result<Ticket<J>, SubmitRefused>
-        ensures ticket { IfOk result (λ t. (t.call ≡ call) × SubmitsSince J.begun call t.job) }
-        ensures call { IfErr result (λ r. r.call ≡ call) }
-        ensures refused { MatchResult result
-            (λ _. plain_refusal J.opening.folders call ≡ None)
-            (λ r. IsWhy call (plain_refusal J.opening.folders call) r.error) }
-        ensures why { IfErr result (λ r. RefusesCall J.begun call r.error) }
-    {
-        let mut guard = self.lock(rt);
-        guard.lags();
-        let made = guard.issue(call);
-        MutexGuard::unlock(guard);
-        made
-    }
-
     /// Makes the next directory call of a job, publishes its effect, and tells the pass of all effects so far; where memory for publishing
     /// runs out, the news is `Later`, and the pass is told nothing.
     ///
@@ -123,35 +105,6 @@ impl<D: Dirs, J: Naming> Store<D, J> {
         guard.lags();
         md_core::laws::each_call_has_its_job();
         let made = guard.step(rt, pass, job, now, own);
-        MutexGuard::unlock(guard);
-        made
-    }
-
-    /// Makes the next directory call of the job of a ticket, as `step` does, and says whose call it steps: the effect and the answer that it
-    /// tells are those of the ticket's own call. Refused `Answered` or `NoMemory`; the job of a ticket is always there.
-    pub fn step_of<R: Wait>(
-        &self,
-        rt: &R,
-        pass: &mut Pass<J>,
-        ticket: &Ticket<J>,
-        now: u64,
-        own: Option<u64>,
-    ) -> Result<StoreStep, CoreError>
-        ensures step { IfOk result (λ s. StepsFor J.begun ticket.now now own s pass.old pass.new) }
-        ensures held { IsPrefix pass.old pass.new }
-        ensures news { IfOk result (λ s. IsNews s.news s.out.effect pass.old pass.new) }
-        ensures told { IfOk result (λ s. IsTold s.news s.out.answer ticket.now.job pass.old pass.new) }
-        ensures legal { IsLegalFrom J.opening pass.new }
-        ensures refused { OnErr result (pass.new ≡ pass.old) }
-        ensures error { IfErr result (λ e. (e ≡ core.Answered) ⊎ (e ≡ core.NoMemory)) }
-        ensures why { IfErr result (RefusesSince J.begun ticket.now.job) }
-    {
-        let mut guard = self.lock(rt);
-        guard.recalls(ticket);
-        guard.lags();
-        md_core::laws::each_call_has_its_job();
-        let made = guard.step(rt, pass, ticket.job(), now, own);
-        guard.lags();
         MutexGuard::unlock(guard);
         made
     }

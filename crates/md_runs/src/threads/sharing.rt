@@ -55,7 +55,7 @@ fn share_opened<J: Naming + Send + Sync, R: Threads + Wait + Sync>(
     jobs: u64,
 ) -> Result<Shared, RunFault>
     requires begun { prepared.run ≡ J.begun }
-    requires named { (named_of prepared.run.image ≡ J.opening) × (prepared.book ≡ J.book) × (prepared.roll ≡ J.roll) }
+    requires named { (named_of prepared.run.image ≡ J.opening) × (prepared.book ≡ J.book) }
     ensures since { IfOk result (λ s. IsSince prepared.run s.world) }
     ensures folders { IfOk result (λ s. s.folders.items ≡ folders_text (mailbox_of (dirs_of s.world)) 0 (names_of names.now)) }
     ensures stop { IfErr result IsStop }

@@ -2,7 +2,6 @@ use Rattle.std.proofs.Common.{ap, ◌∙◌, sym}
 use Rattle.md_core.specs.Runs.{effects_of}
 use Rattle.md_store.specs.Locks.{Both}
 use Rattle.md_store.proofs.Moves.{stepped}
-use Rattle.md_store.proofs.Rolled.{rolled-stepped}
 use Rattle.md_store.proofs.locked.Locked.advance.Goals as goal
 
 pub invariant_of-self : goal.invariant_of-self
@@ -11,5 +10,4 @@ invariant_of-self g c = (
   stepped _ _ _ _ _ _ _ c.self.inside.world _ c.args.job c.args.now c.args.own c.step.result c.step.ensures.event c.step.ensures.shows
       c.step.ensures.unchanged c.self.invariant.1
       (ap (λ (v : Both). v.published) c.self.view_is ∙ (c.requires ∙ sym (ap (λ (v : Both). effects_of v.run) c.self.view_is))),
-  rolled-stepped _ _ c.self.inside.world _ _ c.args.job c.args.now c.args.own c.step.result c.step.ensures.event c.step.ensures.unchanged c.self.invariant.2,
 )

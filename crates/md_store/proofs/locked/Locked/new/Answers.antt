@@ -1,7 +1,6 @@
 use Rattle.std.proofs.Common.{◌≡◌, List, [], ap, sym, ◌∙◌, inl, arith, append-nil}
 use Rattle.md_jobs.specs.declared.effect.Effect.{Effect}
 use Rattle.md_store.specs.Pages.{Log}
-use Rattle.md_store.proofs.Rolled.{rolled-itself}
 use Rattle.md_store.proofs.Since.{since_itself}
 use Rattle.md_store.proofs.locked.Locked.new.Goals as goal
 
@@ -21,5 +20,4 @@ invariant_of-result g c =
         front_is = inl (ap (λ (l : Log). l.log) (sym r.shown));
         waits = inl r.seat.1;
       },
-      rolled-itself _ _ _ _ r.begun r.roll.0 r.roll.1,
     )

@@ -27,5 +27,4 @@ invariant_of-self-2 g c =
           (c.in_ok-post.ensures.book ∙ k.front_book) (c.in_ok-post.ensures.known ∙ c.effects-2.ensures)
           (n.0, n.1, subst (λ (x : Named × Page). CanFollow x.0 x.1 n.0) (λ i. (o i, sym p i)) n.2, n.3 ∙ c.effects-2.ensures)
           c.publish.ensures).0,
-      c.self.invariant.2,
     )
