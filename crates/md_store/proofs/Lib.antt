@@ -1,5 +1,6 @@
 pub mod Beginnings
-pub mod Growing
+pub mod Ongoing
+pub mod Entering
 pub mod Legal
 pub mod Good
 pub mod Looking

@@ -1,3 +1,4 @@
+pub mod Ongoing
 pub mod Rules
 pub mod Pages
 pub mod Histories

@@ -7,6 +7,7 @@
 
 mod book;
 mod calling;
+mod entered;
 mod error;
 mod locked;
 mod naming;
