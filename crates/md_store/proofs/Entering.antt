@@ -3,11 +3,11 @@ use Rattle.std.proofs.lemmas.Bool.Decides.{eqb_tells}
 use Rattle.std.proofs.Common.{◌≡◌, ◌≢◌, ℕ, zero, suc, ◌<◌, ◌≤◌, ◌==◌, ⊎_elim, inl, true, false, true≢false, List, [], ◌∷◌, ◌++◌, length, set, refl, ap, sym, ◌∙◌, subst, arith, None, length-set, append-nil}
 use mathlib.Core.List.{IsPrefix}
 use prog.Atomic.{either}
-use Rattle.logbook.specs.Pages.{Cell, Nib, View, cell, adds, keeps, gives, no_nib, step, Moves, Goes}
+use Rattle.logbook.specs.Pages.{Cell, Nib, View, cell, adds, gives, no_nib, step, Moves, Goes}
 use Rattle.md_core.specs.Runs.{Run}
 use Rattle.md_store.specs.declared.entered.Entered.{Entered}
 use Rattle.md_store.specs.Ongoing.{GoesOn}
-use Rattle.md_store.specs.Rules.{run_in, AreInOrder, no_entry, opening_entries, next_from, Follows, AreUsed, MadeNone, first_pen, IsChained, MayEnter, MakesPen, AddsEntry}
+use Rattle.md_store.specs.Rules.{run_in, no_entry, opening_entries, next_from, Follows, AreUsed, MadeNone, first_pen, IsChained, MayEnter, MakesPen, AddsEntry}
 use Rattle.md_store.proofs.Beginnings.{all_of_it, begins_later, no_longer}
 use Rattle.md_store.proofs.Ongoing.{goes_itself, order-more}
 

@@ -1,5 +1,5 @@
 -- What the value behind the lock keeps at each move.
-use Rattle.std.proofs.Common.{◌≡◌, ℕ, ◌+◌, ◌<◌, ◌≤◌, ◌⊎◌, Bool, true, false, List, [], ◌∷◌, ◌++◌, length, fold, refl, sym, ap, ◌∙◌, subst, ⊎_elim, inl, inr, arith, length-append, Option, Some, None, is_some, IfSome, Ok, Err, Result, MatchResult, IfOk, OnOk, OnErr}
+use Rattle.std.proofs.Common.{◌≡◌, ℕ, ◌+◌, ◌<◌, ◌≤◌, ◌⊎◌, Bool, true, false, List, [], ◌∷◌, ◌++◌, length, fold, refl, sym, ap, ◌∙◌, subst, ⊎_elim, inl, arith, length-append, Option, Some, None, is_some, IfSome, Ok, Err, Result, MatchResult, IfOk, OnOk, OnErr}
 use Rattle.std.specs.Prelude.{slice_index_or}
 use Rattle.std.specs.Option.{option_map, option_to_list}
 use Rattle.std.specs.declared.alloc.AllocError.{AllocError}

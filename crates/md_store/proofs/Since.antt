@@ -1,5 +1,5 @@
 -- Runs that go on from the one that a store was opened with.
-use Rattle.std.proofs.Common.{◌≡◌, ℕ, zero, suc, ◌+◌, ◌<◌, ◌≤◌, ◌⊎◌, ⊎_elim, inl, inr, arith, ◌++◌, List, [], ◌∷◌, Option, Some, None, Result, Ok, Err, IfSome, refl, sym, ap, ◌∙◌, subst, length, length-append, slice_get, get_or, append-nil, append_assoc, MatchResult, IfOk, IfErr, OnOk}
+use Rattle.std.proofs.Common.{◌≡◌, ℕ, zero, suc, ◌+◌, ◌<◌, ◌≤◌, ◌⊎◌, ⊎_elim, inl, inr, arith, List, Option, Some, None, Result, Ok, Err, IfSome, refl, sym, ap, ◌∙◌, subst, length, length-append, slice_get, get_or, MatchResult, IfOk, IfErr, OnOk}
 use Rattle.std.proofs.lemmas.Option.{slice_get_cases}
 use Rattle.std.specs.FinMap.{get}
 use Rattle.std.specs.Option.{option_map}
@@ -7,15 +7,14 @@ use Rattle.md_dirs.specs.State.{State}
 use Rattle.md_jobs.specs.declared.error.CoreError.{CoreError}
 use Rattle.md_jobs.specs.declared.error.CoreError.TheVariants as core
 use Rattle.md_jobs.specs.declared.call.Call.{Call}
-use Rattle.md_jobs.specs.declared.effect.Effect.{Effect}
 use Rattle.md_core.specs.declared.world.submit.SubmitRefused.{SubmitRefused}
 use Rattle.md_core.specs.Stepping.{IsRun}
 use Rattle.md_core.specs.Interleaving.{Interleaves, IsWhole}
 use Rattle.md_core.specs.Mailbox.{Entry, mailbox_of}
 use Rattle.md_core.specs.Tracing.{trace_of, IsShown}
 use Rattle.md_store.specs.declared.error.StoreError.{StoreError}
-use Rattle.md_core.specs.Machine.{Standing, working, answered, Occurrence, job_at}
-use Rattle.md_core.specs.Runs.{Run, dirs_of, jobs_of, and_call, and_event, effects_of, step_refusal, IsRefusal}
+use Rattle.md_core.specs.Machine.{Standing, working, answered, job_at}
+use Rattle.md_core.specs.Runs.{Run, dirs_of, jobs_of, and_call, effects_of, step_refusal, IsRefusal}
 use Rattle.md_core.specs.Submitting.{submit_refusal}
 use Rattle.md_store.specs.Calling.{RefusesSince}
 use Rattle.md_store.specs.Locks.{Both, SubmitsSince, RefusesCall, ReadsSince, HoldsAll}

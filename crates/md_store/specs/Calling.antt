@@ -1,10 +1,9 @@
 -- What a call of a store leaves, from its submission to its answer.
-use Rattle.std.specs.Prelude.{◌≡◌, ◌⊎◌, ℕ, Option, Some, None, Result, Ok, Err, List}
+use Rattle.std.specs.Prelude.{◌≡◌, ◌⊎◌, ℕ, Option, Some, None, Result, Ok, Err}
 use Rattle.md_jobs.specs.declared.error.CoreError.{CoreError}
 use Rattle.md_jobs.specs.declared.error.CoreError.TheVariants as core
 use Rattle.md_jobs.specs.declared.answer.Answer.{Answer}
 use Rattle.md_jobs.specs.declared.call.Call.{Call}
-use Rattle.md_jobs.specs.declared.effect.Effect.{Effect}
 use Rattle.md_jobs.specs.declared.step.StepOut.{StepOut}
 use Rattle.md_core.specs.Answering.{Says}
 use Rattle.md_core.specs.Interleaving.{Acts}

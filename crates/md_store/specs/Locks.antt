@@ -7,7 +7,7 @@ use Rattle.md_jobs.specs.declared.call.Call.{Call}
 use Rattle.md_jobs.specs.declared.effect.Effect.{Effect}
 use Rattle.md_jobs.specs.declared.step.StepOut.{StepOut}
 use Rattle.md_core.specs.Stepping.{IsRun, ShowsStep}
-use Rattle.md_core.specs.Machine.{Occurrence, occurrence, job_at}
+use Rattle.md_core.specs.Machine.{occurrence, job_at}
 use Rattle.md_core.specs.Mailbox.{Entry, mailbox_of}
 use Rattle.md_core.specs.Interleaving.{IsWhole}
 use Rattle.md_core.specs.Tracing.{trace_of}

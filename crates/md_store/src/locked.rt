@@ -1,5 +1,5 @@
 // What is inside the lock: the world, and the writer of what is published.
-ghost use Rattle.std.specs.Prelude.{◌≡◌, ◌≢◌, ◌+◌, ◌<◌, ◌≤◌, ◌⊎◌, ◌++◌, ◌∷◌, [], length, drop, Some, None, IsSome, MatchBool, IfOk, IfErr, OnOk, OnErr, MatchResult, option_map};
+ghost use Rattle.std.specs.Prelude.{◌≡◌, ◌≢◌, ◌+◌, ◌<◌, ◌⊎◌, [], length, drop, Some, None, IsSome, MatchBool, IfOk, IfErr, OnOk, OnErr, MatchResult, option_map};
 ghost use Rattle.std.specs.FinMap as finmap;
 ghost use mathlib.Core.List.{IsPrefix};
 ghost use Rattle.left_right.specs.Sides.{view};

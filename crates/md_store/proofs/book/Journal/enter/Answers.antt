@@ -1,4 +1,4 @@
-use Rattle.std.proofs.Common.{◌≡◌, ◌<◌, List, [], ◌∷◌, ◌++◌, length, sym, ◌∙◌, ap, refl, subst, arith, length-append}
+use Rattle.std.proofs.Common.{◌≡◌, ◌<◌, List, [], ◌∷◌, length, sym, ◌∙◌, ap, refl, subst, arith, length-append}
 use mathlib.Core.List.{IsPrefix}
 use Rattle.md_core.specs.Runs.{Run, effects_of}
 use Rattle.md_store.specs.declared.entered.Entered.{Entered}

@@ -1,4 +1,4 @@
-use Rattle.std.proofs.Common.{◌≡◌, ◌<◌, ◌≤◌, List, length, ap, refl, sym, subst, ◌∙◌, arith, rules}
+use Rattle.std.proofs.Common.{◌<◌, ◌≤◌, List, ap, refl, sym, subst, ◌∙◌, arith, rules}
 use mathlib.Core.List.{IsPrefix}
 use Rattle.md_store.specs.declared.entered.Entered.{Entered}
 use Rattle.md_store.specs.Ongoing.{GoesOn}

@@ -1,4 +1,4 @@
-use Rattle.std.proofs.Common.{◌≡◌, List, [], ap, sym, ◌∙◌, inl, arith, append-nil}
+use Rattle.std.proofs.Common.{List, [], ap, sym, ◌∙◌, inl, arith, append-nil}
 use Rattle.md_jobs.specs.declared.effect.Effect.{Effect}
 use Rattle.md_core.specs.Runs.{effects_of}
 use Rattle.md_store.proofs.Ongoing.{since_itself, goes_itself}

@@ -1,4 +1,4 @@
-use Rattle.std.proofs.Common.{Option, None, Result, refl, subst, arith}
+use Rattle.std.proofs.Common.{Option, Result, refl, subst, arith}
 use Rattle.md_jobs.specs.declared.answer.Answer.{Answer}
 use Rattle.md_jobs.specs.declared.error.CoreError.TheVariants as core
 use Rattle.md_store.specs.declared.calling.CallError.{CallError}
