@@ -241,7 +241,7 @@ fn round_in<J: Naming + Send + Sync, W: Watch, R: Threads + Wait + Sync>(
     watch: &W,
 ) -> Result<(World<IndexDirs>, Counts)>
     requires begun { prepared.run ≡ J.begun }
-    requires named { (named_of prepared.run.image ≡ J.opening) × (prepared.book ≡ J.book) × (prepared.roll ≡ J.roll) }
+    requires named { (named_of prepared.run.image ≡ J.opening) × (prepared.book ≡ J.book) }
 {
     let (store, passes) = match prepared.open::<J, R>(rt, alloc) {
         Ok(opened) => opened,

@@ -12,7 +12,8 @@ use Rattle.md_jobs.specs.declared.step.Event.{Event}
 use Rattle.md_core.specs.Stepping.{IsRun}
 use Rattle.md_core.specs.Machine.{Standing, Occurrence, job_at}
 use Rattle.md_core.specs.Runs.{Run, answer_of, and_events, failures_of, log_of}
-use Rattle.md_store.specs.Locks.{IsFresh, IsSince}
+use Rattle.md_store.specs.Locks.{IsFresh}
+use Rattle.md_store.specs.Ongoing.{IsSince}
 use Rattle.md_script.specs.declared.error.PlayError.{PlayError}
 use Rattle.md_script.specs.Reading.{IsReadWhole}
 use Rattle.md_script.specs.Sinks.{Sink, Untouched}

@@ -1,12 +1,15 @@
--- What the steps of a roll do to its entries.
+-- What the steps at the head of a book do to its entries.
 use Rattle.std.proofs.lemmas.Bool.Decides.{eqb_tells}
-use Rattle.std.proofs.Common.{◌≡◌, ◌≢◌, ℕ, zero, suc, ◌<◌, ◌==◌, ⊎_elim, inl, true, false, true≢false, List, [], ◌∷◌, ◌++◌, length, set, refl, ap, sym, ◌∙◌, subst, arith, None, length-set, append-nil, append_assoc}
+use Rattle.std.proofs.Common.{◌≡◌, ◌≢◌, ℕ, zero, suc, ◌<◌, ◌≤◌, ◌==◌, ⊎_elim, inl, true, false, true≢false, List, [], ◌∷◌, ◌++◌, length, set, refl, ap, sym, ◌∙◌, subst, arith, None, length-set, append-nil}
 use mathlib.Core.List.{IsPrefix}
 use prog.Atomic.{either}
-use Rattle.logbook.specs.Pages.{Cell, Nib, View, cell, adds, keeps, gives, no_nib, step, Moves, Goes}
-use Rattle.md_jobs.specs.declared.call.Call.{Call}
+use Rattle.logbook.specs.Pages.{Cell, Nib, View, cell, adds, gives, no_nib, step, Moves, Goes}
+use Rattle.md_core.specs.Runs.{Run}
 use Rattle.md_store.specs.declared.entered.Entered.{Entered}
-use Rattle.md_store.specs.Rolls.{calls_of, no_entry, next_from, Follows, AreUsed, MadeNone, first_pen, IsChained, MayEnter, MakesPen, FindsAll, AddsCall}
+use Rattle.md_store.specs.Ongoing.{GoesOn}
+use Rattle.md_store.specs.Rules.{run_in, no_entry, opening_entries, next_from, Follows, AreUsed, MadeNone, first_pen, IsChained, MayEnter, MakesPen, AddsEntry}
+use Rattle.md_store.proofs.Beginnings.{all_of_it, begins_later, no_longer}
+use Rattle.md_store.proofs.Ongoing.{goes_itself, order-more}
 
 -- who has the next pen has seen all entries: what a longer list had behind these, another pen made
 pub sole : (pen from : ℕ) (entries more : List Entered) → Follows from (entries ++ more) → MadeNone pen (entries ++ more) → pen ≡ next_from from entries → more ≡ []
@@ -39,10 +42,6 @@ follows-more from e (x ∷ entries) follows next = (follows.0, follows-more x.ne
 pub next-more : (from : ℕ) (e : Entered) (entries : List Entered) → next_from from (entries ++ e ∷ []) ≡ e.next
 next-more from e [] = refl
 next-more from e (x ∷ entries) = next-more x.next e entries
-
-pub calls-append : (entries more : List Entered) → calls_of (entries ++ more) ≡ calls_of entries ++ calls_of more
-calls-append [] more = refl
-calls-append (x ∷ entries) more = ap (λ (cs : List Call). x.call ∷ cs) (calls-append entries more)
 
 -- what a step does to the cells that the book holds
 more-cells : (cells : List Cell) (c : Cell) (k : ℕ) → Holds cells k → Holds (cells ++ c ∷ []) k
@@ -106,7 +105,7 @@ module _ (seen : List Entered) where
   abbrev Makes : List Cell → List Entered → Type 0
   Makes cells entries = (0 < length cells) × ((cell cells 0).1 ≡ true) × Goes IsChained none_shown any_move 0 penless (headed 1) makes_told cells entries
 
-  -- whatever the roll is, a pen can be made
+  -- whatever the book is, a pen can be made
   pub makes : Moves IsChained none_shown any_move 0 penless (headed 1) makes_told
   makes cells entries kept begun away =
       let same = kept.cells_are in
@@ -122,64 +121,50 @@ module _ (seen : List Entered) where
         none_yet = λ none. head-not-0 kept.head none;
         follows = kept.follows;
         used = used-later here later (λ k held. more-cells ((headed 1 kept.head, true) ∷ kept.others) (0, false) k (set-cell here 0 (headed 1 kept.head) k held)) entries used;
+        start = kept.start;
+        order = kept.order;
       } in
       subst (λ (cs : List Cell). Makes cs entries) (sym same)
       (omega arith, refl, (adds, [], None, tt, subst (λ (es : List Entered). IsChained later es) all chained, inl (refl, refl), (refl, none_yet)))
 
-module _ (seen : List Entered) (pen : Nib) (ask : Entered) (may : MayEnter pen) where
+-- the cells after an exchange that changes nothing
+same-cells : (head : ℕ) (others : List Cell) → set ((head, true) ∷ others) 0 (headed 0 head, true) ≡ (head, true) ∷ others
+same-cells head others = ap (λ (n : ℕ). (n, true) ∷ others) (head-same head)
+
+-- who has the next pen has seen all entries, and so whoever has seen no fewer has seen just these
+pub all-seen : (own seen : List Entered) (pen : ℕ) → IsPrefix own seen → Follows 0 seen → MadeNone pen seen → pen ≡ next_from 0 own → seen ≡ own
+all-seen own seen pen begins follows none mine =
+    let nothing : begins.0 ≡ [] = sole pen 0 own begins.0 (subst (Follows 0) (sym begins.1) follows) (subst (MadeNone pen) (sym begins.1) none) mine in
+    sym begins.1 ∙ ap (λ (more : List Entered). own ++ more) nothing ∙ append-nil own
+
+module _ (own seen : List Entered) (begins : IsPrefix own seen) (some : 0 < length own) (pen : Nib) (ask : Entered) (may : MayEnter pen)
+    (mine : pen.key ≡ next_from 0 own) (by : ask.by ≡ pen.key) (goes : GoesOn (run_in own) ask.world) where
   abbrev holder : View Entered ℕ
   holder = (seen, (pen, None))
 
-  abbrev Looking : List Cell → List Entered → Type 0
-  Looking cells entries = (0 < length cells) × ((cell cells 0).1 ≡ true) × Goes IsChained none_shown any_move 0 holder (headed 0) (FindsAll (step 0 0 0 ask) holder) cells entries
+  abbrev adds_told : ℕ → View Entered ℕ → Type 0
+  adds_told = AddsEntry (step 0 0 0 ask) holder
 
-  -- the cells after an exchange that changes nothing
-  same-cells : (head : ℕ) (others : List Cell) → set ((head, true) ∷ others) 0 (headed 0 head, true) ≡ (head, true) ∷ others
-  same-cells head others = ap (λ (n : ℕ). (n, true) ∷ others) (head-same head)
-
-  -- whatever the roll is, who has a pen can look
-  pub looks : Moves IsChained none_shown any_move 0 holder (headed 0) (FindsAll (step 0 0 0 ask) holder)
-  looks cells entries kept begun away =
-      let same = kept.cells_are in
-      let here : List Cell = (kept.head, true) ∷ kept.others in
-      let all : entries ≡ entries ++ [] = sym (append-nil entries) in
-      let none : MadeNone pen.key entries = made-none cells pen.key entries kept.used (away may).1 in
-      let chained : IsChained (set here 0 (headed 0 kept.head, true)) (entries ++ []) =
-      subst (λ (x : List Cell × List Entered). IsChained x.0 x.1) (λ i. ((same ∙ sym (same-cells kept.head kept.others)) i, all i)) kept in
-      subst (λ (cs : List Cell). Looking cs entries) (sym same) (
-        omega arith,
-        refl,
-        (
-          keeps,
-          [],
-          None,
-          tt,
-          chained,
-          inl (refl, refl),
-          (refl, subst (Follows first_pen) all kept.follows, subst (MadeNone pen.key) all none),
-        ),
-      )
-
-module _ (seen : List Entered) (pen : Nib) (ask : Entered) (may : MayEnter pen) (mine : pen.key ≡ next_from first_pen seen) (by : ask.by ≡ pen.key) where
   abbrev Entering : List Cell → List Entered → Type 0
-  Entering cells entries = (0 < length cells) × ((cell cells 0).1 ≡ true) × Goes IsChained none_shown any_move 0 (holder seen pen ask may) (headed 0) (AddsCall (step 0 0 0 ask) (holder seen pen ask may)) cells entries
+  Entering cells entries = (0 < length cells) × ((cell cells 0).1 ≡ true) × Goes IsChained none_shown any_move 0 holder (headed 0) adds_told cells entries
 
-  -- whatever the roll is, who has the next pen enters a call behind all that was seen
-  pub enters : Moves IsChained none_shown any_move 0 (holder seen pen ask may) (headed 0) (AddsCall (step 0 0 0 ask) (holder seen pen ask may))
+  -- whatever the book is, who has the next pen makes an entry behind all that was seen
+  pub enters : Moves IsChained none_shown any_move 0 holder (headed 0) adds_told
   enters cells entries kept begun away =
       let same = kept.cells_are in
       let here : List Cell = (kept.head, true) ∷ kept.others in
       let unheld : (pen.key < length cells) × ((cell cells pen.key).1 ≡ false) = away may in
       let none : MadeNone pen.key entries = made-none cells pen.key entries kept.used unheld.1 in
-      let nothing : begun.0 ≡ [] = sole pen.key first_pen seen begun.0 (subst (Follows first_pen) (sym begun.1) kept.follows) (subst (MadeNone pen.key) (sym begun.1) none) mine in
-      let whole : seen ≡ entries = sym (append-nil seen) ∙ ap (λ (more : List Entered). seen ++ more) (sym nothing) ∙ begun.1 in
-      let next : ask.by ≡ next_from first_pen entries = by ∙ mine ∙ ap (next_from first_pen) whole in
+      let from : IsPrefix own entries = begins_later own seen entries begins begun in
+      let whole : entries ≡ own = all-seen own entries pen.key from kept.follows none mine in
+      let seen-whole : seen ≡ entries = all_of_it seen entries begun (subst (λ (es : List Entered). length es ≤ length seen) (sym whole) (no_longer own seen begins)) in
+      let next : ask.by ≡ next_from 0 entries = by ∙ mine ∙ ap (next_from 0) (sym whole) in
       let unheld-here : (pen.key < length here) × ((cell here pen.key).1 ≡ false) = subst (λ (cs : List Cell). (pen.key < length cs) × ((cell cs pen.key).1 ≡ false)) same unheld in
       let given = gives-cell kept.head kept.others pen.key pen.value unheld-here.1 in
       let headed-cells : List Cell = set here 0 (headed 0 kept.head, true) in
       let later : List Cell = set headed-cells pen.key (pen.value, true) in
       let less : pen.key < length headed-cells = unheld-here.0 in
-      let are : later ≡ (kept.head, true) ∷ given.0 = ap (λ (cs : List Cell). set cs pen.key (pen.value, true)) (same-cells seen pen ask may kept.head kept.others) ∙ given.1 in
+      let are : later ≡ (kept.head, true) ∷ given.0 = ap (λ (cs : List Cell). set cs pen.key (pen.value, true)) (same-cells kept.head kept.others) ∙ given.1 in
       let none_yet : kept.head ≡ 0 → length here ≡ first_pen = subst (λ (cs : List Cell). kept.head ≡ 0 → length cs ≡ first_pen) same kept.none_yet in
       let used : AreUsed here entries = subst (λ (cs : List Cell). AreUsed cs entries) same kept.used in
       let used-now : AreUsed later entries = used-later here later (λ k held. set-cell headed-cells pen.key pen.value k (set-cell here 0 (headed 0 kept.head) k held)) entries used in
@@ -188,19 +173,35 @@ module _ (seen : List Entered) (pen : Nib) (ask : Entered) (may : MayEnter pen) 
         others = given.0;
         cells_are = are;
         none_yet = λ none. ap length are ∙ ap suc given.2 ∙ none_yet none;
-        follows = follows-more first_pen ask entries kept.follows next;
+        follows = follows-more 0 ask entries kept.follows next;
         used = used-more later ask entries used-now (subst (Holds later) (sym by) (set-it headed-cells pen.key pen.value less));
+        start = kept.start;
+        order = order-more kept.start entries ask (subst (λ (es : List Entered). 0 < length es) (sym whole) some) kept.order
+            (subst (λ (es : List Entered). GoesOn (run_in es) ask.world) (sym whole) goes);
       } in
-      subst (λ (cs : List Cell). Entering cs entries) (sym same)
-      (omega arith, refl, (gives, ask ∷ [], None, may, chained, inl (refl, refl), ap (λ (es : List Entered). es ++ ask ∷ []) (sym whole)))
+      subst (λ (cs : List Cell). Entering cs entries) (sym same) (
+        omega arith,
+        refl,
+        (
+          gives,
+          ask ∷ [],
+          None,
+          may,
+          chained,
+          inl (refl, refl),
+          (ap (λ (es : List Entered). es ++ ask ∷ []) (sym seen-whole), subst (Follows 0) (sym seen-whole) kept.follows, subst (MadeNone pen.key) (sym seen-whole) none),
+        ),
+      )
 
--- what was seen by one who has the next pen is all, so each beginning begins it
-pub covers-all : (pen : ℕ) (mine theirs both all : List Entered) → IsPrefix mine both → IsPrefix theirs both → IsPrefix both all → Follows first_pen all
-    → MadeNone pen all → pen ≡ next_from first_pen mine → IsPrefix (calls_of theirs) (calls_of mine)
-covers-all pen mine theirs both all m t b follows none next =
-    let split : mine ++ (m.0 ++ b.0) ≡ all = sym (append_assoc mine m.0 b.0) ∙ ap (λ (es : List Entered). es ++ b.0) m.1 ∙ b.1 in
-    let nothing : m.0 ++ b.0 ≡ [] = sole pen first_pen mine (m.0 ++ b.0) (subst (Follows first_pen) (sym split) follows) (subst (MadeNone pen) (sym split) none) next in
-    let whole : all ≡ mine = sym split ∙ ap (λ (es : List Entered). mine ++ es) nothing ∙ append-nil mine in
-    let rest = t.0 ++ b.0 in
-    let begins : theirs ++ rest ≡ mine = sym (append_assoc theirs t.0 b.0) ∙ ap (λ (es : List Entered). es ++ b.0) t.1 ∙ b.1 ∙ whole in
-    (calls_of rest, sym (calls-append theirs rest) ∙ ap calls_of begins)
+-- what a book opens with
+pub opens : (run : Run) → IsChained ((0, true) ∷ []) (opening_entries run)
+opens run = record {
+  head = 0;
+  others = [];
+  cells_are = refl;
+  none_yet = λ none. refl;
+  follows = (refl, tt);
+  used = ((omega arith, refl), tt);
+  start = run;
+  order = (goes_itself run run refl, tt);
+}

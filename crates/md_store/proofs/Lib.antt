@@ -1,5 +1,6 @@
 pub mod Beginnings
-pub mod Growing
+pub mod Ongoing
+pub mod Entering
 pub mod Legal
 pub mod Good
 pub mod Looking
@@ -11,6 +12,3 @@ pub mod Fresh
 pub mod Submits
 pub mod Ends
 pub mod Last
-pub mod Entering
-pub mod Rolled
-pub mod Ticketed

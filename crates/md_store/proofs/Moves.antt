@@ -1,5 +1,5 @@
 -- What the value behind the lock keeps at each move.
-use Rattle.std.proofs.Common.{◌≡◌, ℕ, ◌+◌, ◌<◌, ◌≤◌, ◌⊎◌, Bool, true, false, List, [], ◌∷◌, ◌++◌, length, fold, refl, sym, ap, ◌∙◌, subst, ⊎_elim, inl, inr, arith, length-append, Option, Some, None, is_some, IfSome, Ok, Err, Result, MatchResult, IfOk, OnOk, OnErr}
+use Rattle.std.proofs.Common.{◌≡◌, ℕ, ◌+◌, ◌<◌, ◌≤◌, ◌⊎◌, Bool, true, false, List, [], ◌∷◌, ◌++◌, length, fold, refl, sym, ap, ◌∙◌, subst, ⊎_elim, inl, arith, length-append, Option, Some, None, is_some, IfSome, Ok, Err, Result, MatchResult, IfOk, OnOk, OnErr}
 use Rattle.std.specs.Prelude.{slice_index_or}
 use Rattle.std.specs.Option.{option_map, option_to_list}
 use Rattle.std.specs.declared.alloc.AllocError.{AllocError}
@@ -18,12 +18,12 @@ use Rattle.md_core.specs.Runs.{Run, machine_of, and_event, and_call, effects_of}
 use Rattle.md_core.specs.Stepping.{ShowsStep}
 use Rattle.md_replica.specs.Named.{Named, named_of}
 use Rattle.md_store.specs.declared.rule.Knowledge.{Knowledge}
-use Rattle.md_store.specs.Pages.{Log, Page, Note}
-use Rattle.md_store.specs.Locks.{IsLocked, IsSince, Lags}
+use Rattle.md_store.specs.Ongoing.{IsSince, GoesOn}
+use Rattle.md_store.specs.Pages.{Course, Page, Note}
+use Rattle.md_store.specs.Locks.{IsLocked, Lags}
 use Rattle.md_store.specs.Publishing.{CanFollow, Publishes, page_after, knower}
 use mathlib.Core.List.{IsPrefix}
-use Rattle.md_store.proofs.Beginnings.{all_of_it}
-use Rattle.md_store.proofs.Since.{since-event, since-call}
+use Rattle.md_store.proofs.Ongoing.{since_itself, since-event, since-call, goes_itself, goes_later}
 
 -- the effects after a step, by whether it was one
 abbrev Grows : Run → Run → ℕ → Bool → Type 0
@@ -61,53 +61,85 @@ one_effect r s e out h on = subst (Grows r s e.event.job) on (grows r s e out h)
 none_waits : (all shown : List Effect) (e : Effect) → shown ≡ all → all ≡ shown ++ e ∷ [] → {A : Type 0} → A
 none_waits all shown e a b = absurd (omega (arith, ap length a, ap length b, length-append shown (e ∷ [])))
 
-module _ (begun : Run) (opening : Named) (book : Book) (shown : Page) (seat : Knowledge) (front : Log) (pending : List Note) where
-  nothing : (r : Run) → IsLocked begun opening book r shown seat front pending → shown.front.log ≡ effects_of r → pending ≡ []
-  nothing r k all = ⊎_elim (λ (e : pending ≡ []). e)
+-- a run goes on by a step, whose effect is behind those before it
+goes-event : (r s : Run) (e : Occurrence) (job : ℕ) (b : Bool) → s ≡ and_event r e → Grows r s job b → GoesOn r s
+goes-event r s e job b event g = record { since = since-event r r s e (since_itself r r refl) event; history = by b g }
+  where
+    by : (b : Bool) → Grows r s job b → IsPrefix (effects_of r) (effects_of s)
+    by true g = (g.0 ∷ [], sym g.1)
+    by false g = ([], append-nil (effects_of r) ∙ sym g)
+
+-- whether a step is taken or not, the run goes on from what was entered
+pub goes-made : (r s noted : Run) (job now : ℕ) (own : Option ℕ) (res : Result StepOut CoreError) → GoesOn noted r
+    → IfOk res (λ out. s ≡ and_event r (occurrence job now own (is_fault out.reply)))
+    → IfOk res (λ out. ShowsStep r s (occurrence job now own (is_fault out.reply)) out) → OnErr res (s ≡ r) → GoesOn noted s
+goes-made r s noted job now own (Ok out) goes event shows same = goes_later noted r s goes
+    (goes-event r s (occurrence job now own (is_fault out.reply)) job out.effect event (grows r s (occurrence job now own (is_fault out.reply)) out shows))
+goes-made r s noted job now own (Err e) goes event shows same = goes_later noted r s goes (goes_itself r s same)
+
+module _ (begun : Run) (opening : Named) (book : Book) (shown : Page) (seat : Knowledge) (pending : List Note) where
+  nothing : (r : Run) (journal : Course) → IsLocked begun opening book r shown seat journal pending → shown.front.log ≡ effects_of r → pending ≡ []
+  nothing r journal k all = ⊎_elim (λ (e : pending ≡ []). e)
       (λ (n : (n : Note) × (pending ≡ n ∷ []) × CanFollow opening shown n × (n.front.log ≡ effects_of r)). none_waits
       (effects_of r) shown.front.log n.0.effect all (sym n.3 ∙ n.2.1)) k.waits
 
-  advances : (r s : Run) (job : ℕ) (b : Bool) → IsLocked begun opening book r shown seat front pending → shown.front.log ≡ effects_of r →
-      IsSince begun s → named_of s.image ≡ named_of r.image → Grows r s job b → IsLocked begun opening book s shown seat front pending
-  advances r s job b k all since image t = record {
-    since = since;
-    image = image ∙ k.image;
+  -- the run is entered
+  pub noted : (r : Run) (before after : Course) → IsLocked begun opening book r shown seat before pending → after.book ≡ before.book → after.run ≡ r
+      → IsLocked begun opening book r shown seat after pending
+  noted r before after k of is = record {
+    since = k.since;
+    image = k.image;
     book_is = k.book_is;
     seat_is = k.seat_is;
-    lag = subst (Lags (effects_of s)) (sym all) (lags_by r s job b t);
-    front_book = k.front_book;
-    front_is = inl (⊎_elim (λ (e : front.log ≡ shown.front.log). e) (λ (e : front.log ≡ effects_of r). e ∙ sym all) k.front_is);
-    waits = inl (nothing r k all);
+    lag = k.lag;
+    journal_book = of ∙ k.journal_book;
+    goes = goes_itself after.run r (sym is);
+    entered = ap effects_of (sym is);
+    waits = k.waits;
   }
 
-  pub stepped : (r s : Run) (job now : ℕ) (own : Option ℕ) (res : Result StepOut CoreError) →
-      IfOk res (λ out. s ≡ and_event r (occurrence job now own (is_fault out.reply)))
+  -- a step is taken or not, and the run is entered
+  pub stepped : (r s : Run) (before after : Course) (job now : ℕ) (own : Option ℕ) (res : Result StepOut CoreError)
+      → IfOk res (λ out. s ≡ and_event r (occurrence job now own (is_fault out.reply)))
       → IfOk res (λ out. ShowsStep r s (occurrence job now own (is_fault out.reply)) out) → OnErr res (s ≡ r)
-      → IsLocked begun opening book r shown seat front pending → shown.front.log ≡ effects_of r → IsLocked begun opening book s shown seat front pending
-  stepped r s job now own (Ok out) event shows same k all =
-      advances r s job out.effect k all (since-event begun r s (occurrence job now own (is_fault out.reply)) k.since event) (ap (λ (x : Run). named_of x.image) event) (grows r s (occurrence job now own (is_fault out.reply)) out shows)
-  stepped r s job now own (Err e) event shows same k all = subst (λ (x : Run). IsLocked begun opening book x shown seat front pending) (sym same) k
+      → IsLocked begun opening book r shown seat before pending → shown.front.log ≡ effects_of r → after.book ≡ before.book → after.run ≡ s
+      → IsLocked begun opening book s shown seat after pending
+  stepped r s before after job now own (Ok out) event shows same k all of is = record {
+    since = since-event begun r s (occurrence job now own (is_fault out.reply)) k.since event;
+    image = ap (λ (x : Run). named_of x.image) event ∙ k.image;
+    book_is = k.book_is;
+    seat_is = k.seat_is;
+    lag = subst (Lags (effects_of s)) (sym all) (lags_by r s job out.effect (grows r s (occurrence job now own (is_fault out.reply)) out shows));
+    journal_book = of ∙ k.journal_book;
+    goes = goes_itself after.run s (sym is);
+    entered = ap effects_of (sym is);
+    waits = inl (nothing r before k all);
+  }
+  stepped r s before after job now own (Err e) event shows same k all of is =
+      subst (λ (x : Run). IsLocked begun opening book x shown seat after pending) (sym same) (noted r before after k of (is ∙ same))
 
-  -- where image and effects stay
-  pub stays : (r s : Run) → IsLocked begun opening book r shown seat front pending → IsSince begun s → s.image ≡ r.image → effects_of s ≡ effects_of r →
-      IsLocked begun opening book s shown seat front pending
-  stays r s k since image same = record {
+  -- where image and effects stay, and the run goes on
+  stays : (r s : Run) (journal : Course) → IsLocked begun opening book r shown seat journal pending → IsSince begun s → IsSince r s → s.image ≡ r.image
+      → effects_of s ≡ effects_of r → IsLocked begun opening book s shown seat journal pending
+  stays r s journal k since later image same = record {
     since = since;
     image = ap named_of image ∙ k.image;
     book_is = k.book_is;
     seat_is = k.seat_is;
     lag = subst (λ (l : List Effect). Lags l shown.front.log) (sym same) k.lag;
-    front_book = k.front_book;
-    front_is = subst (λ (l : List Effect). (front.log ≡ shown.front.log) ⊎ (front.log ≡ l)) (sym same) k.front_is;
+    journal_book = k.journal_book;
+    goes = goes_later journal.run r s k.goes (record { since = later; history = ([], append-nil (effects_of r) ∙ sym same) });
+    entered = same ∙ k.entered;
     waits = subst (λ (l : List Effect). (pending ≡ []) ⊎ ((n : Note) × (pending ≡ n ∷ []) × CanFollow opening shown n × (n.front.log ≡ l))) (sym same) k.waits;
   }
 
   -- a call that is submitted changes neither image nor effects
-  pub submitted : (r s : Run) (call : Call) (res : Result ℕ SubmitRefused) → IfOk res (λ job. (s ≡ and_call r call) × (job ≡ length r.calls + 1))
-      → OnOk res (effects_of s ≡ effects_of r) → OnErr res (s ≡ r) → IsLocked begun opening book r shown seat front pending →
-      IsLocked begun opening book s shown seat front pending
-  submitted r s call (Ok job) is effects same k = stays r s k (since-call begun r s call k.since is.0) (ap (λ (x : Run). x.image) is.0) effects
-  submitted r s call (Err e) is effects same k = subst (λ (x : Run). IsLocked begun opening book x shown seat front pending) (sym same) k
+  pub submitted : (r s : Run) (journal : Course) (call : Call) (res : Result ℕ SubmitRefused) → IfOk res (λ job. (s ≡ and_call r call) × (job ≡ length r.calls + 1))
+      → OnOk res (effects_of s ≡ effects_of r) → OnErr res (s ≡ r) → IsLocked begun opening book r shown seat journal pending →
+      IsLocked begun opening book s shown seat journal pending
+  submitted r s journal call (Ok job) is effects same k = stays r s journal k (since-call begun r s call k.since is.0)
+      (since-call r r s call (since_itself r r refl) is.0) (ap (λ (x : Run). x.image) is.0) effects
+  submitted r s journal call (Err e) is effects same k = subst (λ (x : Run). IsLocked begun opening book x shown seat journal pending) (sym same) k
 
 -- a beginning as long as all is all
 pub whole : (all shown : List Effect) → Lags all shown → length all ≤ length shown → all ≡ shown
@@ -131,38 +163,28 @@ seat_after opening shown shown' seat seat' is s =
     let same : opening ≡ s.0 = sym (ap (λ (v : Knowledge). v.opening) is) ∙ s.2 (ap (λ (v : Knowledge). v.opened) is) in
     s.1 ∙ ap (λ (o : Named). knower o shown') (sym same)
 
-pub catches : (begun : Run) (opening : Named) (book : Book) (r : Run) (front : Log) (shown shown' : Page) (seat seat' : Knowledge) (pend pend' : List Note)
+pub catches : (begun : Run) (opening : Named) (book : Book) (r : Run) (journal : Course) (shown shown' : Page) (seat seat' : Knowledge) (pend pend' : List Note)
     (res : Result (Unit {0}) AllocError)
-    → IsSince begun r → named_of r.image ≡ opening → shown.front.book ≡ book → seat ≡ knower opening shown → Lags (effects_of r) shown.front.log → front.book ≡ book →
-    front.log ≡ effects_of r
+    → IsLocked begun opening book r shown seat journal pend
     → ((n : Note) × (pend ≡ n ∷ []) × CanFollow opening shown n × (n.front.log ≡ effects_of r))
     → MatchResult res (λ _. (shown' ≡ fold page_after shown pend) × (pend' ≡ []) × Publishes seat shown' seat')
     (λ _. (shown' ≡ shown) × (pend' ≡ pend) × (seat' ≡ seat))
-    → IsLocked begun opening book r shown' seat' front pend' × MatchResult res (λ _. shown'.front.log ≡ effects_of r) (λ _. shown'.front.log ≡ shown.front.log)
-catches begun opening book r front shown shown' seat seat' pend pend' (Ok u) since image b s lag fb f w t =
+    → IsLocked begun opening book r shown' seat' journal pend'
+catches begun opening book r journal shown shown' seat seat' pend pend' (Ok u) k w t =
     let n = w.0 in
     let now : shown' ≡ page_after shown n = t.0 ∙ ap (fold page_after shown) w.1 in
-    let all : shown'.front.log ≡ effects_of r = ap (λ (p : Page). p.front.log) now ∙ w.3 in (
-      record {
-        since = since;
-        image = image;
-        book_is = ap (λ (p : Page). p.front.book) now ∙ (w.2.0 ∙ b);
-        seat_is = seat_after opening shown shown' seat seat' s t.2;
-        lag = ([], sym all ∙ sym (append-nil shown'.front.log), omega arith);
-        front_book = fb;
-        front_is = inr f;
-        waits = inl t.1;
-      },
-      all,
-    )
-catches begun opening book r front shown shown' seat seat' pend pend' (Err e) since image b s lag fb f w t =
-    let P : Page × (List Note × Knowledge) → Type 0 = λ x. IsLocked begun opening book r x.0 x.1.1 front x.1.0 in
-    let here : P (shown, (pend, seat)) = record { since = since; image = image; book_is = b; seat_is = s; lag = lag; front_book = fb; front_is = inr f; waits = inr w } in
-    (subst P (λ i. (sym t.0 i, (sym t.1 i, sym t.2 i))) here, ap (λ (p : Page). p.front.log) t.0)
-
--- what is held and is as much as all is all
-pub held_whole : (all shown held : List Effect) → Lags all shown → length all ≤ length shown → length all ≤ length held → IsPrefix held shown →
-    held ≡ all
-held_whole all shown held lags less much begun =
-    let same : all ≡ shown = whole all shown lags less in
-    all_of_it held shown begun (omega (arith, much, ap length same)) ∙ sym same
+    let all : shown'.front.log ≡ effects_of r = ap (λ (p : Page). p.front.log) now ∙ w.3 in
+    record {
+      since = k.since;
+      image = k.image;
+      book_is = ap (λ (p : Page). p.front.book) now ∙ (w.2.0 ∙ k.book_is);
+      seat_is = seat_after opening shown shown' seat seat' k.seat_is t.2;
+      lag = ([], sym all ∙ sym (append-nil shown'.front.log), omega arith);
+      journal_book = k.journal_book;
+      goes = k.goes;
+      entered = k.entered;
+      waits = inl t.1;
+    }
+catches begun opening book r journal shown shown' seat seat' pend pend' (Err e) k w t =
+    let P : Page × (List Note × Knowledge) → Type 0 = λ x. IsLocked begun opening book r x.0 x.1.1 journal x.1.0 in
+    subst P (λ i. (sym t.0 i, (sym t.1 i, sym t.2 i))) k

@@ -1,5 +1,5 @@
 -- Runs that go on from the one that a store was opened with.
-use Rattle.std.proofs.Common.{◌≡◌, ℕ, zero, suc, ◌+◌, ◌<◌, ◌≤◌, ◌⊎◌, ⊎_elim, inl, inr, arith, ◌++◌, List, [], ◌∷◌, Option, Some, None, Result, Ok, Err, IfSome, refl, sym, ap, ◌∙◌, subst, length, length-append, slice_get, get_or, append-nil, append_assoc, MatchResult, IfOk, IfErr, OnOk}
+use Rattle.std.proofs.Common.{◌≡◌, ℕ, zero, suc, ◌+◌, ◌<◌, ◌≤◌, ◌⊎◌, ⊎_elim, inl, inr, arith, List, Option, Some, None, Result, Ok, Err, IfSome, refl, sym, ap, ◌∙◌, subst, length, length-append, slice_get, get_or, MatchResult, IfOk, IfErr, OnOk}
 use Rattle.std.proofs.lemmas.Option.{slice_get_cases}
 use Rattle.std.specs.FinMap.{get}
 use Rattle.std.specs.Option.{option_map}
@@ -7,44 +7,19 @@ use Rattle.md_dirs.specs.State.{State}
 use Rattle.md_jobs.specs.declared.error.CoreError.{CoreError}
 use Rattle.md_jobs.specs.declared.error.CoreError.TheVariants as core
 use Rattle.md_jobs.specs.declared.call.Call.{Call}
-use Rattle.md_jobs.specs.declared.effect.Effect.{Effect}
 use Rattle.md_core.specs.declared.world.submit.SubmitRefused.{SubmitRefused}
 use Rattle.md_core.specs.Stepping.{IsRun}
 use Rattle.md_core.specs.Interleaving.{Interleaves, IsWhole}
 use Rattle.md_core.specs.Mailbox.{Entry, mailbox_of}
 use Rattle.md_core.specs.Tracing.{trace_of, IsShown}
 use Rattle.md_store.specs.declared.error.StoreError.{StoreError}
-use Rattle.md_core.specs.Machine.{Standing, working, answered, Occurrence, job_at}
-use Rattle.md_core.specs.Runs.{Run, dirs_of, jobs_of, and_call, and_event, effects_of, step_refusal, IsRefusal}
+use Rattle.md_core.specs.Machine.{Standing, working, answered, job_at}
+use Rattle.md_core.specs.Runs.{Run, dirs_of, jobs_of, and_call, effects_of, step_refusal, IsRefusal}
 use Rattle.md_core.specs.Submitting.{submit_refusal}
 use Rattle.md_store.specs.Calling.{RefusesSince}
-use Rattle.md_store.specs.Locks.{Both, IsSince, SubmitsSince, RefusesCall, ReadsSince, HoldsSince}
-use Rattle.md_store.specs.Tickets.{Issued}
-
-pub since_itself : (begun run : Run) → run ≡ begun → IsSince begun run
-since_itself begun run is = record {
-  calls = [];
-  events = [];
-  is = is ∙ (λ i. record begun { calls = sym (append-nil begun.calls) i; events = sym (append-nil begun.events) i });
-}
-
-pub since-event : (begun r s : Run) (e : Occurrence) → IsSince begun r → s ≡ and_event r e → IsSince begun s
-since-event begun r s e k is = record {
-  calls = k.calls;
-  events = k.events ++ e ∷ [];
-  is = is
-      ∙ ap (λ (x : Run). and_event x e) k.is
-      ∙ ap (λ (es : List Occurrence). record begun { calls = begun.calls ++ k.calls; events = es }) (append_assoc begun.events k.events (e ∷ []));
-}
-
-pub since-call : (begun r s : Run) (call : Call) → IsSince begun r → s ≡ and_call r call → IsSince begun s
-since-call begun r s call k is = record {
-  calls = k.calls ++ call ∷ [];
-  events = k.events;
-  is = is
-      ∙ ap (λ (x : Run). and_call x call) k.is
-      ∙ ap (λ (cs : List Call). record begun { calls = cs; events = begun.events ++ k.events }) (append_assoc begun.calls k.calls (call ∷ []));
-}
+use Rattle.md_store.specs.Locks.{Both, SubmitsSince, RefusesCall, ReadsSince, HoldsAll}
+use Rattle.md_store.specs.Ongoing.{IsSince, GoesOn}
+use Rattle.md_store.specs.Pages.{Held}
 
 module _ (begun r : Run) (since : IsSince begun r) (run : IsRun r) where
   pub submits-since : (s : Run) (call : Call) (res : Result ℕ SubmitRefused) (Why : SubmitRefused → Type 0)
@@ -53,25 +28,10 @@ module _ (begun r : Run) (since : IsSince begun r) (run : IsRun r) where
   submits-since s call (Ok job) Why accepted is = record { run = r; since = since; is_run = run; accepted = accepted; number = is.1 }
   submits-since s call (Err e) Why accepted is = tt
 
-  pub issues-since : (s : Run) (call : Call) (res : Result Issued SubmitRefused) (Why : SubmitRefused → Type 0)
-      → MatchResult res (λ _. submit_refusal r call ≡ None) Why
-      → IfOk res (λ t. (s ≡ and_call r call) × (t ≡ record { job = length r.calls + 1; call = call }))
-      → IfOk res (λ t. (t.call ≡ call) × SubmitsSince begun call t.job)
-  issues-since s call (Ok t) Why accepted is = (
-    ap (λ (i : Issued). i.call) is.1,
-    record { run = r; since = since; is_run = run; accepted = accepted; number = ap (λ (i : Issued). i.job) is.1 },
-  )
-  issues-since s call (Err e) Why accepted is = tt
-
   pub refuses-call : {A : Type 0} (call : Call) (res : Result A SubmitRefused) (Accepted : A → Type 0)
       → MatchResult res Accepted (λ y. IsRefusal (submit_refusal r call) y.error) → IfErr res (λ y. RefusesCall begun call y.error)
   refuses-call call (Ok job) Accepted why = tt
   refuses-call call (Err y) Accepted why = record { run = r; since = since; is_run = run; refused = why }
-
-  pub holds-since : (s : Both) → s.run ≡ r → (held : List Effect) (res : Result (Unit {0}) StoreError)
-      → OnOk res ((s.published ≡ effects_of s.run) × (held ≡ s.published)) → OnOk res (HoldsSince begun held)
-  holds-since s same held (Ok u) is = record { run = r; since = since; is_run = run; all = is.1 ∙ (is.0 ∙ ap effects_of same) }
-  holds-since s same held (Err e) is = tt
 
   pub reads-since : IsShown r → Interleaves (trace_of r) → (unique : List ℕ) (res : Result (Option (List ℕ)) StoreError)
       → IfOk res (λ bytes. bytes ≡ option_map (λ (e : Entry). e.bytes) (get (mailbox_of (dirs_of r)) unique))
@@ -120,7 +80,12 @@ no-job-since each begun r since run job (Err e) Taken why = λ none. no-job each
     by None memory none = let never : core.NoMemory ≡ core.NoJob = sym memory ∙ none in cc
     by (Some x) is none = ap Some (sym is ∙ none)
 
-pub refuses-since : {A : Type 0} (begun r : Run) → IsSince begun r → IsRun r → (job : ℕ) (res : Result A CoreError) (Taken : A → Type 0)
-    → MatchResult res Taken (IsRefusal (step_refusal (job_at (jobs_of r) job))) → IfErr res (RefusesSince begun job)
-refuses-since begun r since run job (Ok x) Taken why = tt
-refuses-since begun r since run job (Err e) Taken why = record { run = r; since = since; is_run = run; refused = why }
+pub refuses-since : {A : Type 0} (begun held r : Run) → IsSince begun r → GoesOn held r → IsRun r → (job : ℕ) (res : Result A CoreError) (Taken : A → Type 0)
+    → MatchResult res Taken (IsRefusal (step_refusal (job_at (jobs_of r) job))) → IfErr res (RefusesSince begun held job)
+refuses-since begun held r since goes run job (Ok x) Taken why = tt
+refuses-since begun held r since goes run job (Err e) Taken why = record { run = r; since = since; goes = goes; is_run = run; refused = why }
+
+pub holds-all : (s : Both) (after : Held) (res : Result (Unit {0}) StoreError) → OnOk res ((s.published ≡ effects_of s.run) × (after.history ≡ s.published))
+    → OnOk res (after.run ≡ s.run) → OnOk res (HoldsAll after)
+holds-all s after (Ok u) all same = all.1 ∙ (all.0 ∙ ap effects_of (sym same))
+holds-all s after (Err e) all same = tt

@@ -1,10 +1,13 @@
 -- What a pass holds after a step.
-use Rattle.std.proofs.Common.{ℕ, zero, suc, ◌≡◌, Bool, true, false, cond, List, [], ◌∷◌, Option, Some, None, filter, slice_get, refl, sym, ap, subst, ◌∙◌, ◌≤◌, ◌⊎◌, ⊎_elim, length, Result, Ok, Err, MatchResult, IfOk, arith}
+use Rattle.std.proofs.Common.{ℕ, zero, suc, ◌≡◌, Bool, true, false, cond, List, [], ◌∷◌, ◌++◌, Option, Some, None, filter, slice_get, refl, sym, ap, subst, ◌∙◌, ◌≤◌, ◌⊎◌, ⊎_elim, length, Result, Ok, Err, MatchResult, IfOk, IfSome, OnOk, arith}
 use Rattle.std.specs.Prelude.{◌==◌}
 use Rattle.std.proofs.lemmas.Bool.Decides.{nat_tests}
 use mathlib.Core.List.{IsPrefix}
 use Rattle.md_jobs.specs.declared.answer.Answer.{Answer}
 use Rattle.md_jobs.specs.declared.effect.Effect.{Effect}
+use Rattle.md_jobs.specs.declared.step.StepOut.{StepOut}
+use Rattle.md_core.specs.Trace.{IsAnswered}
+use Rattle.md_core.specs.Tracing.{trace_of, GrowsByStep}
 use Rattle.md_jobs.specs.Asked.{is_fault}
 use Rattle.md_core.specs.Machine.{Occurrence, occurrence, job_at}
 use Rattle.md_core.specs.Runs.{Run, jobs_of, and_event, effects_of, step_refusal}
@@ -13,7 +16,9 @@ use Rattle.md_jobs.specs.declared.error.CoreError.{CoreError}
 use Rattle.md_store.specs.declared.step.StoreStep.{StoreStep}
 use Rattle.md_store.specs.declared.news.News.{News}
 use Rattle.md_store.specs.declared.news.News.TheVariants.{NoEffect, Told, Later}
-use Rattle.md_store.specs.Locks.{Both, IsSince}
+use Rattle.md_store.specs.Locks.{Both}
+use Rattle.md_store.specs.Ongoing.{IsSince, GoesOn}
+use Rattle.md_store.specs.Pages.{Held}
 use Rattle.md_store.specs.Telling.{Tells, Stands, HoldsAfter, TellsSince}
 use Rattle.md_store.proofs.Beginnings.{all_of_it, no_longer}
 
@@ -52,23 +57,39 @@ holds NoEffect effect s job before now t = t.2 ∙ t.1
 holds Told effect s job before now t = t.3 ∙ t.1
 holds Later effect s job before now t = t.3
 
-module _ (begun r : Run) (s : Both) (since : IsSince begun r) (run : IsRun r) where
-  abbrev pub told-since : (job now : ℕ) (own : Option ℕ) (x : StoreStep) → step_refusal (job_at (jobs_of r) job) ≡ None
-      → s.run ≡ and_event r (occurrence job now own (is_fault x.out.reply))
-      → ShowsStep r s.run (occurrence job now own (is_fault x.out.reply)) x.out
-      → (before held : List Effect) → Tells x.news x.out.effect s job before held → TellsSince begun job now own x before held
-  told-since job now own x taken is shows before held told =
-      let e : Occurrence = occurrence job now own (is_fault x.out.reply) in
-      record {
-        step = record { run = r; since = since; is_run = run; taken = taken; shows = subst (λ (t : Run). ShowsStep r t e x.out) is shows };
-        told = subst (λ (t : Run). HoldsAfter x.news (effects_of t) before held) is (holds x.news x.out.effect s job before held told);
-      }
+pub at-end : {A : Type 0} (xs : List A) (x : A) → slice_get (xs ++ x ∷ []) (length xs) ≡ Some x
+at-end [] x = refl
+at-end (y ∷ xs) x = at-end xs x
 
-  pub tells-since : (job now : ℕ) (own : Option ℕ) (res : Result StoreStep CoreError) (Why : CoreError → Type 0)
-      → MatchResult res (λ _. step_refusal (job_at (jobs_of r) job) ≡ None) Why
-      → IfOk res (λ x. s.run ≡ and_event r (occurrence job now own (is_fault x.out.reply)))
-      → IfOk res (λ x. ShowsStep r s.run (occurrence job now own (is_fault x.out.reply)) x.out)
-      → (before held : List Effect) → IfOk res (λ x. Tells x.news x.out.effect s job before held)
-      → IfOk res (λ x. TellsSince begun job now own x before held)
-  tells-since job now own (Ok x) Why taken is shows before held told = told-since job now own x taken is shows before held told
-  tells-since job now own (Err e) Why taken is shows before held told = tt
+-- an answer that a step gave is that of its job
+answers : (r s : Run) (job : ℕ) (out : StepOut) → GrowsByStep (trace_of r) (trace_of s) job out → IfSome out.answer (IsAnswered (trace_of s) job)
+answers r s job out grows = by out.answer refl
+  where
+    by : (o : Option Answer) → out.answer ≡ o → IfSome o (IsAnswered (trace_of s) job)
+    by None is = tt
+    by (Some a) is =
+        let steps = (trace_of r).steps in
+        record {
+          k = length steps;
+          last = record { step = grows.step; at = ap (λ xs. slice_get xs (length steps)) grows.steps ∙ at-end steps grows.step; own = grows.own };
+          answer = sym grows.shown.answer ∙ is;
+        }
+
+pub tells-since : (begun r : Run) (s : Both) → IsSince begun r → IsRun r → (job now : ℕ) (own : Option ℕ) (res : Result StoreStep CoreError) (Why : CoreError → Type 0)
+    → MatchResult res (λ _. step_refusal (job_at (jobs_of r) job) ≡ None) Why
+    → IfOk res (λ x. s.run ≡ and_event r (occurrence job now own (is_fault x.out.reply)))
+    → IfOk res (λ x. ShowsStep r s.run (occurrence job now own (is_fault x.out.reply)) x.out)
+    → IfOk res (λ x. GrowsByStep (trace_of r) (trace_of s.run) job x.out)
+    → (before after : Held) → GoesOn before.run r → OnOk res (after.run ≡ s.run)
+    → IfOk res (λ x. Tells x.news x.out.effect s job before.history after.history)
+    → IfOk res (λ x. TellsSince begun job now own x before after)
+tells-since begun r s since run job now own (Ok x) Why taken is shows grows before after goes same told =
+    let e : Occurrence = occurrence job now own (is_fault x.out.reply) in
+    record {
+      step = record { run = r; since = since; goes = goes; is_run = run; taken = taken; shows = subst (λ (t : Run). ShowsStep r t e x.out) is shows };
+      run = same ∙ is;
+      told = subst (λ (t : Run). HoldsAfter x.news (effects_of t) before.history after.history) (sym same)
+          (holds x.news x.out.effect s job before.history after.history told);
+      answered = subst (λ (t : Run). IfSome x.out.answer (IsAnswered (trace_of t) job)) (sym same) (answers r s.run job x.out grows);
+    }
+tells-since begun r s since run job now own (Err e) Why taken is shows grows before after goes same told = tt

@@ -1,3 +1,4 @@
+pub mod Ongoing
 pub mod Rules
 pub mod Pages
 pub mod Histories
@@ -7,5 +8,3 @@ pub mod Telling
 pub mod Listing
 pub mod Refusals
 pub mod Calling
-pub mod Rolls
-pub mod Tickets

@@ -7,7 +7,7 @@ use Rattle.md_jobs.specs.declared.call.Call.{Call}
 use Rattle.md_jobs.specs.declared.effect.Effect.{Effect}
 use Rattle.md_jobs.specs.declared.step.StepOut.{StepOut}
 use Rattle.md_core.specs.Stepping.{IsRun, ShowsStep}
-use Rattle.md_core.specs.Machine.{Occurrence, occurrence, job_at}
+use Rattle.md_core.specs.Machine.{occurrence, job_at}
 use Rattle.md_core.specs.Mailbox.{Entry, mailbox_of}
 use Rattle.md_core.specs.Interleaving.{IsWhole}
 use Rattle.md_core.specs.Tracing.{trace_of}
@@ -16,9 +16,9 @@ use Rattle.md_core.specs.Runs.{Run, dirs_of, jobs_of, effects_of, and_event, ste
 use Rattle.md_core.specs.Submitting.{submit_refusal}
 use Rattle.md_jobs.specs.Asked.{is_fault}
 use Rattle.md_replica.specs.Named.{Named, named_of}
-use Rattle.md_store.specs.Pages.{Log, Page, Note}
+use Rattle.md_store.specs.Ongoing.{IsSince, GoesOn}
+use Rattle.md_store.specs.Pages.{Course, Held, Page, Note}
 use Rattle.md_store.specs.Publishing.{knower, WaitsFor}
-use Rattle.md_store.specs.Rolls.{Called}
 use Rattle.md_store.specs.declared.rule.Knowledge.{Knowledge}
 
 -- all effects are published, or all but the last
@@ -30,42 +30,31 @@ pub record Both : Type 0 where
   pub run : Run
   pub published : List Effect
 
--- the run goes on from the one that the store was opened with: calls may have been submitted since, and steps taken
-pub record IsSince (begun run : Run) : Type 0 where
-  pub calls : List Call
-  pub events : List Occurrence
-  pub is : run ≡ record begun { calls = begun.calls ++ calls; events = begun.events ++ events }
-
 -- The run goes on from the one that the store was opened with, which had the opening names. Its effects are published, or all but the
--- last, of which a note may wait. The front has the published effects, or all.
+-- last, of which a note may wait. The journal has all effects, and a beginning of the run.
 pub record IsLocked (begun : Run) (opening : Named) (book : Book) (run : Run) (shown : Page)
-    (seat : Knowledge) (front : Log) (pending : List Note) : Type 0 where
+    (seat : Knowledge) (journal : Course) (pending : List Note) : Type 0 where
   pub since : IsSince begun run
   pub image : named_of run.image ≡ opening
   pub book_is : shown.front.book ≡ book
   pub seat_is : seat ≡ knower opening shown
   pub lag : Lags (effects_of run) shown.front.log
-  pub front_book : front.book ≡ book
-  pub front_is : (front.log ≡ shown.front.log) ⊎ (front.log ≡ effects_of run)
+  pub journal_book : journal.book ≡ book
+  pub goes : GoesOn journal.run run
+  pub entered : effects_of run ≡ effects_of journal.run
   pub waits : (pending ≡ []) ⊎ WaitsFor (effects_of run) opening shown pending
-
--- The roll is that of this book, and has the calls since the opening, in their order.
-pub record IsRolled (begun : Run) (book : Book) (run : Run) (roll : Called) : Type 0 where
-  pub book_is : roll.book ≡ book
-  pub calls_are : run.calls ≡ begun.calls ++ roll.calls
 
 -- a world with no event
 abbrev pub IsFresh : Run → Type 0
 IsFresh r = r.events ≡ []
 
--- a store to be opened: its run, the book of its history and that of its calls, and how many passes it gets
+-- a store to be opened: its run, the book of its history, and how many passes it gets
 pub record Ready : Type 0 where
   pub run : Run
   pub book : Book
-  pub roll : Book
   pub passes : ℕ
 
--- the number is that of a job of this call, which was submitted at some moment since the store was opened
+-- the number is that of a job of this call, which was submitted in some run that goes on from the one that the store was opened with
 pub record SubmitsSince (begun : Run) (call : Call) (job : ℕ) : Type 0 where
   pub run : Run
   pub since : IsSince begun run
@@ -73,15 +62,15 @@ pub record SubmitsSince (begun : Run) (call : Call) (job : ℕ) : Type 0 where
   pub accepted : submit_refusal run call ≡ None
   pub number : job ≡ length run.calls + 1
 
--- the call was refused so at some moment since the store was opened
+-- the call was refused so in some run that goes on from the one that the store was opened with
 pub record RefusesCall (begun : Run) (call : Call) (e : CoreError) : Type 0 where
   pub run : Run
   pub since : IsSince begun run
   pub is_run : IsRun run
   pub refused : IsRefusal (submit_refusal run call) e
 
--- The mailbox had a message of this unique name with these bytes, or none of that name, at some moment since the store was opened. The
--- bytes are whole.
+-- The mailbox had a message of this unique name with these bytes, or none of that name, in some run that goes on from the one that the
+-- store was opened with. The bytes are whole.
 pub record ReadsSince (begun : Run) (unique : List ℕ) (bytes : Option (List ℕ)) : Type 0 where
   pub run : Run
   pub since : IsSince begun run
@@ -89,17 +78,16 @@ pub record ReadsSince (begun : Run) (unique : List ℕ) (bytes : Option (List �
   pub read : bytes ≡ option_map (λ (e : Entry). e.bytes) (finmap.get (mailbox_of (dirs_of run)) unique)
   pub whole : IfSome bytes (λ b. IsWhole (trace_of run) (length run.events) unique b)
 
--- a step of this job was taken at some moment since the store was opened, and showed this
-pub record StepsSince (begun : Run) (job now : ℕ) (own : Option ℕ) (out : StepOut) : Type 0 where
+-- A step of this job was taken, and showed this, in a run that goes on from the one that the store was opened with, and from this one of
+-- the store's own.
+pub record StepsSince (begun held : Run) (job now : ℕ) (own : Option ℕ) (out : StepOut) : Type 0 where
   pub run : Run
   pub since : IsSince begun run
+  pub goes : GoesOn held run
   pub is_run : IsRun run
   pub taken : step_refusal (job_at (jobs_of run) job) ≡ None
   pub shows : ShowsStep run (and_event run (occurrence job now own (is_fault out.reply))) (occurrence job now own (is_fault out.reply)) out
 
--- a pass holds just the effects that there were at some moment since the store was opened
-pub record HoldsSince (begun : Run) (held : List Effect) : Type 0 where
-  pub run : Run
-  pub since : IsSince begun run
-  pub is_run : IsRun run
-  pub all : held ≡ effects_of run
+-- a pass holds just the effects of the run that it holds
+abbrev pub HoldsAll : Held → Type 0
+HoldsAll held = held.history ≡ effects_of held.run

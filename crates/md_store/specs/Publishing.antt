@@ -5,10 +5,7 @@ use mathlib.Core.Option.{some}
 use mathlib.Core.List.{IsPrefix}
 use lib.ListN.{get_elem?}
 use Rattle.logbook.specs.Pages.{Book}
-use Rattle.md_dirs.specs.State.{bare}
-use Rattle.md_dirs.specs.Calls.{fresh}
 use Rattle.md_jobs.specs.declared.effect.Effect.{Effect}
-use Rattle.md_core.specs.Runs.{Run, new_run}
 use Rattle.md_replica.specs.Named.{Named, AreMessages, after_change}
 use Rattle.md_store.specs.Histories.{named_after, IsLegalFrom}
 use Rattle.md_store.specs.Pages.{Page, Note}
@@ -17,10 +14,6 @@ use Rattle.md_store.specs.declared.rule.Knowledge.{Knowledge}
 -- the book of no store
 abbrev pub no_book : Book
 no_book = record { number = 0; log_name = 0; cells_name = 0 }
-
--- the run of no store
-abbrev pub no_run : Run
-no_run = new_run (fresh (bare 0))
 
 -- the names of no store
 abbrev pub no_names : Named

@@ -1,5 +1,5 @@
 -- What a step tells.
-use Rattle.std.specs.Prelude.{◌≡◌, ℕ, Bool, true, false, Option, Some, None, slice_get, List, [], ◌∷◌, ◌++◌}
+use Rattle.std.specs.Prelude.{◌≡◌, ℕ, Bool, true, false, Option, Some, None, IfSome, slice_get, List, [], ◌∷◌, ◌++◌}
 use mathlib.Core.List.{IsPrefix}
 use Rattle.md_jobs.specs.declared.answer.Answer.{Answer}
 use Rattle.md_jobs.specs.declared.effect.Effect.{Effect}
@@ -7,7 +7,10 @@ use Rattle.md_core.specs.Interleaving.{is_success}
 use Rattle.md_jobs.specs.Asked.{is_fault}
 use Rattle.md_core.specs.Machine.{occurrence}
 use Rattle.md_core.specs.Runs.{Run, and_event, effects_of}
+use Rattle.md_core.specs.Trace.{IsAnswered}
+use Rattle.md_core.specs.Tracing.{trace_of}
 use Rattle.md_store.specs.Locks.{Both, StepsSince}
+use Rattle.md_store.specs.Pages.{Held}
 use Rattle.md_store.specs.declared.step.StoreStep.{StoreStep}
 use Rattle.md_store.specs.declared.news.News.{News}
 use Rattle.md_store.specs.declared.news.News.TheVariants.{NoEffect, Told, Later}
@@ -30,7 +33,7 @@ abbrev pub Stands : Option Answer → ℕ → List Effect → Type 0
 Stands None job history = Unit {0}
 Stands (Some a) job history = is_success a ≡ true → (e : Effect) × (k : ℕ) × (slice_get history k ≡ Some e) × (e.job ≡ job) × (e.answer ≡ a)
 
--- What the news of a step says: whether the step was an effect; and where that isn't published yet, the pass was told nothing.
+-- What the news of a step says: whether the step was an effect; and where that isn't published yet, the pass was told of no effect.
 abbrev pub IsNews : News → Bool → List Effect → List Effect → Type 0
 IsNews NoEffect effect before now = effect ≡ false
 IsNews Told effect before now = effect ≡ true
@@ -49,8 +52,10 @@ HoldsAfter NoEffect all before now = now ≡ all
 HoldsAfter Told all before now = now ≡ all
 HoldsAfter Later all before now = now ≡ before
 
--- A step of this job was taken at some moment since the store was opened, and showed this. By its news the pass then holds the effects that
--- there were behind it, or what it held.
-pub record TellsSince (begun : Run) (job now : ℕ) (own : Option ℕ) (s : StoreStep) (before held : List Effect) : Type 0 where
-  pub step : StepsSince begun job now own s.out
-  pub told : HoldsAfter s.news (effects_of (and_event step.run (occurrence job now own (is_fault s.out.reply)))) before held
+-- A step of this job was taken, and showed this. The pass then holds the run behind that step, which goes on from the one that it held. By
+-- its news it holds the effects of that run, or those that it held.
+pub record TellsSince (begun : Run) (job now : ℕ) (own : Option ℕ) (s : StoreStep) (before after : Held) : Type 0 where
+  pub step : StepsSince begun before.run job now own s.out
+  pub run : after.run ≡ and_event step.run (occurrence job now own (is_fault s.out.reply))
+  pub told : HoldsAfter s.news (effects_of after.run) before.history after.history
+  pub answered : IfSome s.out.answer (IsAnswered (trace_of after.run) job)

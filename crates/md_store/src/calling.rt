@@ -1,9 +1,11 @@
 // Calls, each from its submission to its answer.
-ghost use Rattle.std.specs.Prelude.{◌≡◌, ◌⊎◌, Some, None, IfOk, IfErr};
+ghost use Rattle.std.specs.Prelude.{◌≡◌, Some, None, IfOk, IfErr, OnErr};
 ghost use mathlib.Core.List.{IsPrefix};
 ghost use Rattle.md_jobs.specs.declared.error.CoreError.TheVariants as core;
 ghost use Rattle.md_store.specs.declared.calling.CallError.TheVariants as refusal;
-ghost use Rattle.md_store.specs.Calling.{Answers, GivesSince, RefusesSince, Leaves, Ends, Stops};
+ghost use Rattle.md_store.specs.Calling.{Accepts, Answers, GivesSince, Leaves, Ends, Stops};
+ghost use Rattle.md_store.specs.Ongoing.{GoesOn};
+ghost use Rattle.md_store.specs.Refusals.{plain_refusal, IsWhy};
 ghost use Rattle.md_store.specs.Telling.{Stands};
 
 use crate::naming::Naming;
@@ -13,7 +15,7 @@ use crate::step::StoreStep;
 use crate::store::Store;
 use md_core::{Answer, Call, CoreError, JobId, SubmitRefused};
 use md_dirs::Dirs;
-use std::sync::Wait;
+use std::sync::{MutexGuard, Wait};
 use thiserror::Error;
 
 /// No memory holds the log of so many steps.
@@ -39,7 +41,8 @@ pub enum CallError {
 
 impl<D: Dirs, J: Naming> Store<D, J> {
     /// Submits a call and steps its job until that has its answer, each step at the moments `now` and `own`, in seconds, as `step` takes
-    /// them. Other threads may step other jobs between. Where the answer says that the call took effect, the pass was told of that effect.
+    /// them. Other threads may step other jobs between. The answer is one of this call, in the store's own run, of which the pass was told.
+    /// Where it says that the call took effect, the pass was told of that effect, too.
     ///
     /// It takes the lock once for the submission and once a step: as many as the job makes directory calls. Refused `Refused` as `submit`
     /// is, else `NoMemory`, else `Unanswered` where another thread stepped this job to its answer, else `Untold` with the answer where
@@ -52,14 +55,41 @@ impl<D: Dirs, J: Naming> Store<D, J> {
         now: u64,
         own: Option<u64>,
     ) -> Result<Answer, CallError>
-        ensures held { IsPrefix pass.old pass.new }
-        ensures answer { IfOk result (λ a. Answers J.begun J.opening.folders call now own a pass.new) }
+        ensures held { IsPrefix pass.old.history pass.new.history }
+        ensures own { GoesOn pass.old.run pass.new.run }
+        ensures answer { IfOk result (λ a. Answers J.begun J.opening.folders call now own a pass.old pass.new) }
         ensures error { IfErr result (λ e. Leaves J.begun J.opening.folders call now own e pass.old pass.new) }
     {
-        match self.submit(rt, call) {
-            Ok(job) => self.finish(rt, pass, job, now, own),
+        md_core::laws::every_run_interleaves();
+        md_core::laws::each_call_has_its_job();
+        match self.submit_for(rt, pass, call) {
+            Ok(job) => {
+                let ended = self.finish(rt, pass, job, now, own);
+                pass.is_legal();
+                ended
+            }
             Err(refused) => Err(CallError::Refused(refused)),
         }
+    }
+
+    // Submits a call, as `submit` does, and tells the pass of the run, in which its job is of this call.
+    fn submit_for<R: Wait>(
+        &self,
+        rt: &R,
+        pass: &mut Pass<J>,
+        call: Call,
+    ) -> Result<JobId, SubmitRefused>
+        ensures job { IfOk result (λ job. Accepts J.begun pass.new.run J.opening.folders call job) }
+        ensures own { GoesOn pass.old.run pass.new.run }
+        ensures history { pass.new.history ≡ pass.old.history }
+        ensures call { IfErr result (λ r. (r.call ≡ call) × IsWhy call (plain_refusal J.opening.folders call) r.error) }
+        ensures same { OnErr result (pass.new ≡ pass.old) }
+    {
+        let mut guard = self.lock(rt);
+        guard.lags();
+        let made = guard.submit_for(pass, call);
+        MutexGuard::unlock(guard);
+        made
     }
 
     // Steps a job until it has its answer.
@@ -71,9 +101,10 @@ impl<D: Dirs, J: Naming> Store<D, J> {
         now: u64,
         own: Option<u64>,
     ) -> Result<Answer, CallError>
-        ensures held { IsPrefix pass.old pass.new }
-        ensures answer { IfOk result (λ a. GivesSince J.begun job now own a × Stands (Some a) job pass.new) }
-        ensures error { IfErr result (Stops J.begun job now own) }
+        ensures held { IsPrefix pass.old.history pass.new.history }
+        ensures own { GoesOn pass.old.run pass.new.run }
+        ensures answer { IfOk result (λ a. GivesSince J.begun pass.old.run pass.new.run job now own a × Stands (Some a) job pass.new.history) }
+        ensures error { IfErr result (λ e. Stops J.begun job now own e pass.old pass.new) }
     {
         'steps: for _ in 0..MOST_STEPS {
             if let Some(ended) = self.go_on(rt, pass, job, now, own) {
@@ -92,8 +123,9 @@ impl<D: Dirs, J: Naming> Store<D, J> {
         now: u64,
         own: Option<u64>,
     ) -> Option<Result<Answer, CallError>>
-        ensures held { IsPrefix pass.old pass.new }
-        ensures end { Ends J.begun job now own result pass.new }
+        ensures held { IsPrefix pass.old.history pass.new.history }
+        ensures own { GoesOn pass.old.run pass.new.run }
+        ensures end { Ends J.begun job now own result pass.old pass.new }
     {
         let StoreStep { out, news } = match self.step(rt, pass, job, now, own) {
             Ok(step) => step,

@@ -1,9 +1,10 @@
-// The entries of a roll.
-use md_core::Call;
+// The entries of a store's book.
+use md_core::World;
+use md_dirs::PlainDirs;
 
-/// A call, the pen that entered it, and the pen that enters the next. No value of it is made.
+/// A run, as a world has it, the pen that entered it, and the pen that enters the next. No value of it is made.
 pub struct Entered {
-    pub call: Call,
+    pub world: World<PlainDirs>,
     pub by: u64,
     pub next: u64,
 }

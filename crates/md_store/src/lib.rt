@@ -16,12 +16,10 @@ mod opening;
 mod pass;
 mod posting;
 mod reading;
-mod roll;
 mod rule;
 mod shown;
 mod step;
 mod store;
-mod ticket;
 mod writing;
 
 pub use calling::CallError;
@@ -34,4 +32,3 @@ pub use pass::Pass;
 pub use reading::FirstReading;
 pub use step::StoreStep;
 pub use store::Store;
-pub use ticket::Ticket;

@@ -1,5 +1,5 @@
 // What is inside the lock: the world, and the writer of what is published.
-ghost use Rattle.std.specs.Prelude.{◌≡◌, ◌≢◌, ◌+◌, ◌<◌, ◌≤◌, ◌⊎◌, ◌++◌, ◌∷◌, [], length, drop, Some, None, IsSome, IsTrue, IfOk, IfErr, OnOk, OnErr, MatchResult, option_map};
+ghost use Rattle.std.specs.Prelude.{◌≡◌, ◌≢◌, ◌+◌, ◌<◌, ◌⊎◌, [], length, drop, Some, None, IsSome, MatchBool, IfOk, IfErr, OnOk, OnErr, MatchResult, option_map};
 ghost use Rattle.std.specs.FinMap as finmap;
 ghost use mathlib.Core.List.{IsPrefix};
 ghost use Rattle.left_right.specs.Sides.{view};
@@ -9,26 +9,23 @@ ghost use Rattle.md_core.specs.Machine.{occurrence, job_at};
 ghost use Rattle.md_core.specs.Runs.{dirs_of, jobs_of, effects_of, and_event, and_call, step_refusal, steps_left, IsRefusal};
 ghost use Rattle.md_core.specs.Submitting.{submit_refusal};
 ghost use Rattle.md_core.specs.Interleaving.{Interleaves};
-ghost use Rattle.md_core.specs.Trace.{call_at};
 ghost use Rattle.md_core.specs.Tracing.{trace_of, GrowsByStep};
 ghost use Rattle.md_core.specs.Stepping.{IsRun, ShowsStep, Succeeds};
 ghost use Rattle.md_replica.specs.Named.{named_of};
 ghost use Rattle.md_store.specs.Histories.{IsLegalFrom};
-ghost use Rattle.md_store.specs.Rules.{head_of};
 ghost use Rattle.md_store.specs.Publishing.{knower};
-ghost use Rattle.md_store.specs.Locks.{IsSince, Lags};
+ghost use Rattle.md_store.specs.Locks.{Lags};
+ghost use Rattle.md_store.specs.Ongoing.{IsSince, GoesOn};
 ghost use Rattle.md_store.specs.Telling.{Tells, IsTold};
 
-use crate::book::{Front, Head};
+use crate::book::Journal;
 use crate::error::StoreError;
 use crate::naming::Naming;
 use crate::news::News;
 use crate::pass::Pass;
 use crate::posting::post;
-use crate::roll::Roll;
 use crate::rule::StoreWriter;
 use crate::step::StoreStep;
-use crate::ticket::Ticket;
 use crate::writing::publish;
 use md_core::{Call, CoreError, JobId, StepOut, SubmitRefused, World};
 use md_dirs::{Bytes, Dirs};
@@ -40,11 +37,8 @@ use std::sync::Wait;
 /// published effects, and say exactly what a call makes of them.
 pub struct Locked<D: Dirs, J: Naming> {
     alloc: Global,
-    head: Head,
-    // The published effects, or all.
-    front: Front,
-    // The calls since the opening.
-    roll: Roll,
+    // The run, but for the calls that were submitted since it was entered.
+    journal: Journal,
     writer: StoreWriter,
     world: World<D>,
     of: PhantomData<J>,
@@ -56,8 +50,7 @@ impl<D: Dirs, J: Naming> Model for Locked<D, J> {
     ghost use Rattle.md_dirs.specs.State.{state_code};
     ghost use Rattle.md_name.specs.contracts.flags.Flags as flags;
     ghost use Rattle.left_right.specs.Sides.{view as seat_view};
-    ghost use Rattle.md_store.specs.Rules.{head_of};
-    ghost use Rattle.md_store.specs.Locks.{Both, IsLocked, IsRolled};
+    ghost use Rattle.md_store.specs.Locks.{Both, IsLocked};
 
     ghost Value = { Both };
 
@@ -65,35 +58,28 @@ impl<D: Dirs, J: Naming> Model for Locked<D, J> {
 
     ghost view = { λ l. record { run = l.world; published = l.writer.desk.shown.value.front.log } };
 
-    ghost invariant = { λ l. (l.head ≡ head_of J.book)
-        × IsLocked J.begun J.opening J.book l.world l.writer.desk.shown.value (seat_view l.writer.desk.place) l.front
-        (drop l.writer.behind l.writer.log.items)
-        × IsRolled J.begun J.roll l.world l.roll };
+    ghost invariant = { λ l. IsLocked J.begun J.opening J.book l.world l.writer.desk.shown.value (seat_view l.writer.desk.place) l.journal
+        (drop l.writer.behind l.writer.log.items) };
 }
 
 impl<D: Dirs, J: Naming> Locked<D, J> {
     pub(crate) fn new(
         alloc: Global,
         world: World<D>,
-        head: Head,
-        front: Front,
-        roll: Roll,
+        journal: Journal,
         writer: StoreWriter,
     ) -> Locked<D, J>
         requires begun { world ≡ J.begun }
         requires world { (named_of world.image ≡ J.opening) × (effects_of world ≡ []) }
-        requires named { (head ≡ head_of J.book) × (front.book ≡ J.book) × (front.log ≡ []) }
-        requires roll { (roll.book ≡ J.roll) × (roll.calls ≡ []) }
-        requires shown { writer.desk.shown.value.front ≡ front }
+        requires named { (journal.book ≡ J.book) × (journal.run ≡ world) }
+        requires shown { (writer.desk.shown.value.front.book ≡ J.book) × (writer.desk.shown.value.front.log ≡ []) }
         requires seat { (view writer.desk.place ≡ knower J.opening writer.desk.shown.value) × (drop writer.behind writer.log.items ≡ []) }
         ensures { (result.run ≡ world) × (result.published ≡ []) }
     {
         Locked {
             alloc,
             world,
-            head,
-            front,
-            roll,
+            journal,
             writer,
             of: PhantomData,
         }
@@ -108,9 +94,7 @@ impl<D: Dirs, J: Naming> Locked<D, J> {
         let Locked {
             alloc: _,
             world,
-            head: _head,
-            front: _front,
-            roll: _roll,
+            journal: _journal,
             writer,
             of: _,
         } = self;
@@ -128,49 +112,74 @@ impl<D: Dirs, J: Naming> Locked<D, J> {
         ensures theorem { Interleaves (trace_of self.now.run) }
     {
         // A field is looked at, so that what the type keeps is known here.
-        let _kept = &self.front;
+        let _kept = &self.journal;
         self.world.interleaves();
     }
 
-    /// Whether a pass holds all effects.
-    #[tactic(auto, using(crate::proofs::Moves::held_whole))]
-    pub(crate) fn is_held(&self, pass: &Pass<J>) -> bool
-        ensures { IsTrue result → pass.now ≡ effects_of self.now.run }
+    /// Whether a pass holds all effects. It holds no others.
+    #[tactic(auto, using(crate::proofs::Beginnings::all_of_it))]
+    pub(crate) fn is_held(&mut self, pass: &Pass<J>) -> bool
+        ensures same { self.new ≡ self.old }
+        ensures covers { IsPrefix pass.now.history (effects_of self.new.run) }
+        ensures all { MatchBool result (pass.now.history ≡ effects_of self.new.run) (pass.now.history ≢ effects_of self.new.run) }
+        ensures goes { GoesOn pass.now.run self.new.run }
     {
-        // A field is looked at, so that what the type keeps is known here.
-        let _kept = &self.front;
-        let count = self.world.effects().len() as u64;
-        let front = self.writer.published().front();
-        if pass.len() < count || front.len() < count {
-            return false;
+        self.covers(pass);
+        if pass.len() == self.world.effects().len() as u64 {
+            return true;
         }
-        pass.is_within(front)
+        false
     }
 
-    // Whether a pass holds no more than is published. Each does, since it was told of nothing else.
-    fn covers(&self, pass: &Pass<J>) -> bool
-        ensures { IsTrue result → IsPrefix pass.now self.now.published }
+    // Shows that a pass holds no effects but those of the run, in their order, and that the run goes on from the one that it holds.
+    fn covers(&mut self, pass: &Pass<J>)
+        ensures same { self.new ≡ self.old }
+        ensures begins { IsPrefix pass.now.history (effects_of self.new.run) }
+        ensures goes { GoesOn pass.now.run self.new.run }
     {
-        // A field is looked at, so that what the type keeps is known here.
-        let _kept = &self.front;
-        pass.is_within(self.writer.published().front())
+        self.journal.enter(&self.world, pass.front(), pass.moment());
+    }
+
+    // Tells a pass of the run, as it is now, and of no effect.
+    fn tell_run(&mut self, pass: &mut Pass<J>)
+        ensures same { self.new ≡ self.old }
+        ensures run { pass.new.run ≡ self.new.run }
+        ensures own { GoesOn pass.old.run pass.new.run }
+        ensures history { pass.new.history ≡ pass.old.history }
+    {
+        self.world.interleaves();
+        self.journal.enter(&self.world, pass.front(), pass.moment());
+        pass.know(self.journal.moment(&self.world));
     }
 
     // Tells a pass of all effects, where all are published, and it holds no others.
     fn tell(&self, pass: &mut Pass<J>)
         requires all { self.now.published ≡ effects_of self.now.run }
-        requires covers { IsPrefix pass.old self.now.published }
-        ensures told { pass.new ≡ self.now.published }
-        ensures legal { IsLegalFrom J.opening pass.new }
+        requires covers { IsPrefix pass.old.history self.now.published }
+        ensures told { pass.new.history ≡ self.now.published }
+        ensures legal { IsLegalFrom J.opening pass.new.history }
+        ensures run { pass.new.run ≡ pass.old.run }
     {
         self.world.interleaves();
         pass.learn(self.writer.published().front());
     }
 
-    // Makes the next directory call of a job, where all effects are published.
-    fn advance(&mut self, job: JobId, now: u64, own: Option<u64>) -> Result<StepOut, CoreError>
+    // Makes the next directory call of a job, where all effects are published, and tells the pass of the run. It holds no other effects.
+    fn advance(
+        &mut self,
+        pass: &mut Pass<J>,
+        job: JobId,
+        now: u64,
+        own: Option<u64>,
+    ) -> Result<StepOut, CoreError>
         requires { self.old.published ≡ effects_of self.old.run }
         ensures published { self.new.published ≡ self.old.published }
+        ensures covers { OnOk result (IsPrefix pass.old.history self.new.published) }
+        ensures goes { GoesOn pass.old.run self.old.run }
+        ensures run { OnOk result (pass.new.run ≡ self.new.run) }
+        ensures own { GoesOn pass.old.run pass.new.run }
+        ensures history { pass.new.history ≡ pass.old.history }
+        ensures same_pass { OnErr result (pass.new ≡ pass.old) }
         ensures event { IfOk result (λ out. self.new.run ≡ and_event self.old.run (occurrence job now own (is_fault out.reply))) }
         ensures trace { IfOk result (GrowsByStep (trace_of self.old.run) (trace_of self.new.run) job) }
         ensures shows { IfOk result (λ out. ShowsStep self.old.run self.new.run (occurrence job now own (is_fault out.reply)) out) }
@@ -181,7 +190,12 @@ impl<D: Dirs, J: Naming> Locked<D, J> {
         ensures nearer { OnOk result (steps_left self.new.run job < steps_left self.old.run job) }
         ensures others { OnOk result ((n : _) → n ≢ job → job_at (jobs_of self.new.run) n ≡ job_at (jobs_of self.old.run) n) }
     {
-        self.world.step(job, now, own)
+        let made = self.world.step(job, now, own);
+        self.world.interleaves();
+        self.journal.enter(&self.world, pass.front(), pass.moment());
+        let out = made?;
+        pass.know(self.journal.moment(&self.world));
+        Ok(out)
     }
 
     // Refuses a step of a job that isn't there or has its answer.
@@ -191,25 +205,42 @@ impl<D: Dirs, J: Naming> Locked<D, J> {
             (λ e. step_refusal (job_at (jobs_of self.now.run) job) ≡ Some e) }
     {
         // A field is looked at, so that what the type keeps is known here.
-        let _kept = &self.front;
+        let _kept = &self.journal;
         match self.world.refusal(job) {
             Some(error) => Err(error),
             None => Ok(()),
         }
     }
 
-    /// Submits a call, as `World::submit` does, and gives a ticket of it.
-    pub fn issue(&mut self, call: Call) -> Result<Ticket<J>, SubmitRefused>
-        ensures ok { IfOk result (λ ticket. (self.new.run ≡ and_call self.old.run call) × (ticket ≡ record { job = length self.old.run.calls + 1; call = call })) }
-        ensures effects { OnOk result (effects_of self.new.run ≡ effects_of self.old.run) }
-        ensures refused { MatchResult result (λ _. submit_refusal self.old.run call ≡ None) (λ r. IsRefusal (submit_refusal self.old.run call) r.error) }
-        ensures unchanged { OnErr result (self.new ≡ self.old) }
-        ensures call { IfErr result (λ r. r.call ≡ call) }
-        ensures theorem { OnOk result (Interleaves (trace_of self.new.run)) }
-        ensures published { self.new.published ≡ self.old.published }
+    // Refuses a step of a job that isn't there or has its answer, and publishes what is left.
+    fn make_ready<R: Wait>(&mut self, rt: &R, job: JobId) -> Result<(), CoreError>
+        ensures run { self.new.run ≡ self.old.run }
+        ensures published { MatchResult result (λ _. self.new.published ≡ effects_of self.old.run) (λ _. self.new.published ≡ self.old.published) }
+        ensures refused { MatchResult result (λ _. step_refusal (job_at (jobs_of self.old.run) job) ≡ None)
+            (IsRefusal (step_refusal (job_at (jobs_of self.old.run) job))) }
+        ensures unchanged { OnErr result (IsSome (step_refusal (job_at (jobs_of self.old.run) job)) → self.new ≡ self.old) }
     {
-        let job = self.roll.submit(&mut self.world, call)?;
-        Ok(Ticket::new(job, self.roll.so_far()))
+        self.check(job)?;
+        self.publish_left(rt)?;
+        Ok(())
+    }
+
+    // Submits a call, as `submit` does, and tells a pass of the run.
+    pub(crate) fn submit_for(
+        &mut self,
+        pass: &mut Pass<J>,
+        call: Call,
+    ) -> Result<JobId, SubmitRefused>
+        ensures ok { IfOk result (λ job. (pass.new.run ≡ and_call self.old.run call) × (job ≡ length self.old.run.calls + 1)) }
+        ensures refused { MatchResult result (λ _. submit_refusal self.old.run call ≡ None) (λ r. IsRefusal (submit_refusal self.old.run call) r.error) }
+        ensures call { IfErr result (λ r. r.call ≡ call) }
+        ensures own { GoesOn pass.old.run pass.new.run }
+        ensures history { pass.new.history ≡ pass.old.history }
+        ensures same { OnErr result (pass.new ≡ pass.old) }
+    {
+        let job = self.submit(call)?;
+        self.tell_run(pass);
+        Ok(job)
     }
 
     /// Submits a call, as `World::submit` does.
@@ -222,16 +253,7 @@ impl<D: Dirs, J: Naming> Locked<D, J> {
         ensures theorem { OnOk result (Interleaves (trace_of self.new.run)) }
         ensures published { self.new.published ≡ self.old.published }
     {
-        let ticket = self.issue(call)?;
-        Ok(ticket.job())
-    }
-
-    /// What the store keeps of any ticket of it: the job of its number is there, and is of its call.
-    pub fn recalls(&mut self, ticket: &Ticket<J>)
-        ensures same { self.new ≡ self.old }
-        ensures call { call_at self.new.run.calls ticket.now.job ≡ Some ticket.now.call }
-    {
-        self.roll.covers(ticket.calls());
+        self.world.submit(call)
     }
 
     /// A copy of the bytes of the message of a unique name, in new or cur of any folder. None where there is no such message. It is refused
@@ -240,18 +262,17 @@ impl<D: Dirs, J: Naming> Locked<D, J> {
         ensures { IfOk result (λ bytes. bytes ≡ option_map (λ (e : Entry). e.bytes) (finmap.get (mailbox_of (dirs_of self.now.run)) unique.now)) }
     {
         // A field is looked at, so that what the type keeps is known here.
-        let _kept = &self.front;
+        let _kept = &self.journal;
         let Some(bytes) = self.world.read(unique) else {
             return Ok(None);
         };
         Ok(Some(Bytes::copied(alloc, bytes)?))
     }
 
-    /// Makes the next directory call of a job, publishes its effect, and tells the pass of all effects so far.
+    /// Makes the next directory call of a job, publishes its effect, and tells the pass of the run and of all effects so far.
     ///
     /// It is refused as `World::step` is. Behind the checks an effect that is left from before is published first: where memory for that is
-    /// refused, it answers `NoMemory` and no directory call is made. It would answer so, too, where the pass held more than is published,
-    /// which never comes.
+    /// refused, it answers `NoMemory` and no directory call is made.
     pub fn step<R: Wait>(
         &mut self,
         rt: &R,
@@ -260,12 +281,15 @@ impl<D: Dirs, J: Naming> Locked<D, J> {
         now: u64,
         own: Option<u64>,
     ) -> Result<StoreStep, CoreError>
-        ensures held { IsPrefix pass.old pass.new }
+        ensures held { IsPrefix pass.old.history pass.new.history }
+        ensures goes { GoesOn pass.old.run self.old.run }
+        ensures run { OnOk result (pass.new.run ≡ self.new.run) }
+        ensures own { GoesOn pass.old.run pass.new.run }
         ensures refused { MatchResult result (λ _. step_refusal (job_at (jobs_of self.old.run) job) ≡ None)
             (IsRefusal (step_refusal (job_at (jobs_of self.old.run) job))) }
         ensures same_run { OnErr result (self.new.run ≡ self.old.run) }
         ensures same_pass { OnErr result (pass.new ≡ pass.old) }
-        ensures legal { IsLegalFrom J.opening pass.new }
+        ensures legal { IsLegalFrom J.opening pass.new.history }
         // An effect that was left from before is published, or is still left.
         ensures left { OnErr result ((self.new.published ≡ self.old.published) ⊎ (self.new.published ≡ effects_of self.old.run)) }
         // Where the job isn't there, or has its answer, nothing is published either.
@@ -276,16 +300,15 @@ impl<D: Dirs, J: Naming> Locked<D, J> {
         ensures success { IfOk result (λ s. Succeeds self.new.run job s.out.answer) }
         ensures nearer { OnOk result (steps_left self.new.run job < steps_left self.old.run job) }
         ensures others { OnOk result ((n : _) → n ≢ job → job_at (jobs_of self.new.run) n ≡ job_at (jobs_of self.old.run) n) }
-        ensures news { IfOk result (λ s. Tells s.news s.out.effect self.new job pass.old pass.new) }
-        ensures told { IfOk result (λ s. IsTold s.news s.out.answer job pass.old pass.new) }
+        ensures news { IfOk result (λ s. Tells s.news s.out.effect self.new job pass.old.history pass.new.history) }
+        ensures told { IfOk result (λ s. IsTold s.news s.out.answer job pass.old.history pass.new.history) }
     {
         pass.is_legal();
-        self.check(job)?;
-        self.publish_left(rt)?;
-        if !self.covers(pass) {
-            return Err(CoreError::NoMemory);
+        if let Err(error) = self.make_ready(rt, job) {
+            self.covers(pass);
+            return Err(error);
         }
-        let out = self.advance(job, now, own)?;
+        let out = self.advance(pass, job, now, own)?;
         if !out.effect {
             self.tell(pass);
             return Ok(StoreStep {
@@ -306,23 +329,23 @@ impl<D: Dirs, J: Naming> Locked<D, J> {
         })
     }
 
-    /// Publishes an effect that memory refused before, and tells the pass of all effects so far: nothing is left unpublished. It takes no step
-    /// of a job. Refused `NoMemory`, and then nothing has changed. It would answer so, too, where the pass held more than is published, which
-    /// never comes.
+    /// Publishes an effect that memory refused before, and tells the pass of the run and of all effects: nothing is left unpublished. It takes
+    /// no step of a job. Refused `NoMemory`, and then nothing has changed.
     pub fn catch_up<R: Wait>(&mut self, rt: &R, pass: &mut Pass<J>) -> Result<(), StoreError>
         ensures run { self.new.run ≡ self.old.run }
-        ensures all { OnOk result ((self.new.published ≡ effects_of self.new.run) × (pass.new ≡ self.new.published)) }
-        ensures held { IsPrefix pass.old pass.new }
-        ensures legal { IsLegalFrom J.opening pass.new }
+        ensures all { OnOk result ((self.new.published ≡ effects_of self.new.run) × (pass.new.history ≡ self.new.published)) }
+        ensures run_told { OnOk result (pass.new.run ≡ self.new.run) }
+        ensures held { IsPrefix pass.old.history pass.new.history }
+        ensures own { GoesOn pass.old.run pass.new.run }
+        ensures legal { IsLegalFrom J.opening pass.new.history }
         ensures unchanged { OnErr result ((self.new ≡ self.old) × (pass.new ≡ pass.old)) }
     {
         self.lags();
         pass.is_legal();
-        if !self.covers(pass) {
-            return Err(StoreError::NoMemory);
-        }
         self.publish_left(rt)?;
+        self.covers(pass);
         self.tell(pass);
+        self.tell_run(pass);
         Ok(())
     }
 
@@ -337,8 +360,7 @@ impl<D: Dirs, J: Naming> Locked<D, J> {
         self.world.interleaves();
         post(
             self.alloc,
-            &self.head,
-            &mut self.front,
+            self.journal.front(),
             &mut self.writer,
             self.world.effects(),
         )?;

@@ -1,8 +1,7 @@
 // Which store it is.
 use std::marker::Brand;
 
-/// Names a store: the run that it was opened with, its opening names, the book of its history, and that of its
-/// calls. Each call of a program picks them.
+/// Names a store: the run that it was opened with, its opening names, and the book of its run. Each call of a program picks them.
 pub trait Naming {
     ghost use Rattle.logbook.specs.Pages.{Book};
     ghost use Rattle.md_core.specs.Runs.{Run};
@@ -13,18 +12,15 @@ pub trait Naming {
     ghost opening: { Named };
 
     ghost book: { Book };
-
-    ghost roll: { Book };
 }
 
 impl Naming for Brand {
-    ghost use Rattle.md_store.specs.Publishing.{no_run, no_names, no_book};
+    ghost use Rattle.md_store.specs.Ongoing.{no_run};
+    ghost use Rattle.md_store.specs.Publishing.{no_names, no_book};
 
     ghost begun = { no_run };
 
     ghost opening = { no_names };
 
     ghost book = { no_book };
-
-    ghost roll = { no_book };
 }

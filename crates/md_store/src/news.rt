@@ -7,7 +7,7 @@ pub enum News {
     NoEffect,
     /// It is published. The pass was told of all effects so far, of which it is the last.
     Told,
-    /// It took place, and memory for publishing it was refused. The pass was told nothing. A later step of any job publishes it first, and
+    /// It took place, and memory for publishing it was refused. The pass was told of no effect. A later step of any job publishes it first, and
     /// `catch_up` publishes it without one.
     Later,
 }

@@ -4,14 +4,15 @@ ghost use Rattle.left_right.specs.Sides.{view};
 ghost use Rattle.md_replica.specs.Named.{named_of, AreMessages};
 ghost use Rattle.md_store.specs.declared.error.OpenError.TheVariants as refusal;
 ghost use Rattle.md_store.specs.Locks.{IsFresh};
+ghost use Rattle.md_core.specs.Stepping.{IsRun};
+ghost use Rattle.md_store.specs.Pages.{new_to};
 ghost use Rattle.md_store.specs.Publishing.{knower};
 
-use crate::book::{Front, Head};
+use crate::book::{Blank, Front, Moment};
 use crate::error::OpenError;
 use crate::locked::Locked;
 use crate::naming::Naming;
 use crate::pass::Pass;
-use crate::roll::Blank;
 use crate::rule::{Seats, StoreWriter};
 use crate::shown::Shown;
 use crate::store::Store;
@@ -33,30 +34,27 @@ pub struct OpenRefused<D: Dirs> {
     pub world: World<D>,
 }
 
-/// A world with no event yet, and books for its history and its calls. `open` makes a store of it under a name.
+/// A world with no event yet, and a book for its run. `open` makes a store of it under a name.
 pub struct Prepared<D: Dirs> {
     world: World<D>,
     passes: usize,
-    head: Head,
-    front: Front,
     blank: Blank,
 }
 
 impl<D: Dirs> Model for Prepared<D> {
-    ghost use Rattle.std.specs.Prelude.{◌≡◌, ◌<◌, ◌≤◌, []};
+    ghost use Rattle.std.specs.Prelude.{◌≡◌, ◌<◌, ◌≤◌};
     ghost use Rattle.std.specs.Coded.{codes};
     ghost use Rattle.md_dirs.specs.State.{state_code};
     ghost use Rattle.md_name.specs.contracts.flags.Flags as flags;
-    ghost use Rattle.md_store.specs.Rules.{head_of};
     ghost use Rattle.md_store.specs.Locks.{Ready, IsFresh};
 
     ghost Value = { Ready };
 
     ghost coded = { Prim.hlevel (codes, state_code, flags.the_row.coded) };
 
-    ghost view = { λ p. record { run = p.world; book = p.front.book; roll = p.blank.book; passes = p.passes } };
+    ghost view = { λ p. record { run = p.world; book = p.blank.book; passes = p.passes } };
 
-    ghost invariant = { λ p. IsFresh p.world × (0 < p.passes) × (p.passes ≤ 64) × (p.head ≡ head_of p.front.book) × (p.front.log ≡ []) × (p.blank.calls ≡ []) };
+    ghost invariant = { λ p. IsFresh p.world × (0 < p.passes) × (p.passes ≤ 64) × (p.blank.run ≡ p.world) };
 }
 
 /// Makes a store of a world ready to be opened, with 1 to 64 passes. The world has no event yet; calls may have been submitted. Refused
@@ -72,43 +70,41 @@ pub fn prepare<D: Dirs>(world: World<D>, passes: usize) -> Result<Prepared<D>, O
             world,
         });
     }
-    let (head, front) = Front::open();
+    let blank = Blank::open(&world);
     Ok(Prepared {
         world,
         passes,
-        head,
-        front,
-        blank: Blank::open(),
+        blank,
     })
 }
 
 impl<D: Dirs> Prepared<D> {
-    /// Opens the store, with as many passes as were asked for. The naming type names its run, its opening names and its books: it is picked
+    /// Opens the store, with as many passes as were asked for. The naming type names its run, its opening names and its book: it is picked
     /// where this is called, in a function that is generic over it. Refused `NoMemory`, or `NoReader` where a pass is refused its reader; the
-    /// world comes back. It would answer `NoMemory`, too, where the roll of calls had an owner already, which never comes.
+    /// world comes back. It would answer `NoMemory`, too, where the book had an owner already, which never comes.
     pub fn open<J: Naming, R: Wait>(
         self,
         rt: &R,
         alloc: Global,
     ) -> Result<(Store<D, J>, Vec<Pass<J>>), OpenRefused<D>>
         requires begun { self.run ≡ J.begun }
-        requires named { (named_of self.run.image ≡ J.opening) × (self.book ≡ J.book) × (self.roll ≡ J.roll) }
-        ensures passes { IfOk result (λ r. (length r.1.items ≡ self.passes) × All (λ p. p ≡ []) r.1.items) }
+        requires named { (named_of self.run.image ≡ J.opening) × (self.book ≡ J.book) }
+        ensures passes { IfOk result (λ r. (length r.1.items ≡ self.passes) × All (λ p. p ≡ new_to self.run) r.1.items) }
         ensures refused { IfErr result (λ e. (e.world ≡ self.run) × ((e.error ≡ refusal.NoMemory) ⊎ (e.error ≡ refusal.NoReader))) }
     {
         let Prepared {
             world,
             passes,
-            head,
-            front,
             blank,
         } = self;
-        let Some(roll) = blank.owned() else {
+        let Some(journal) = blank.owned() else {
             return Err(OpenRefused {
                 error: OpenError::NoMemory,
                 world,
             });
         };
+        let (front, moment) = (journal.front(), journal.moment(&world));
+        world.interleaves();
         let mut writer = match writer_of(rt, alloc, &world, &front, passes) {
             Ok(writer) => writer,
             Err(_) => {
@@ -118,9 +114,9 @@ impl<D: Dirs> Prepared<D> {
                 });
             }
         };
-        match seats::<J>(alloc, &mut writer, &front, passes) {
+        match seats::<J>(alloc, &mut writer, &front, &moment, passes) {
             Ok(all) => {
-                let locked = Locked::new(alloc, world, head, front, roll, writer);
+                let locked = Locked::new(alloc, world, journal, writer);
                 Ok((Store::new(Mutex::new(locked)), all))
             }
             Err(error) => {
@@ -171,17 +167,22 @@ fn writer_of<D: Dirs, R: Wait>(
 }
 
 // A pass that knows which store it is of.
-fn seat<J: Naming>(writer: &mut StoreWriter, front: &Front) -> Result<Pass<J>, AllocError>
+fn seat<J: Naming>(
+    writer: &mut StoreWriter,
+    front: &Front,
+    moment: &Moment,
+) -> Result<Pass<J>, AllocError>
     requires seat { view writer.old.desk.place ≡ knower J.opening writer.old.desk.shown.value }
     requires named { (writer.old.desk.shown.value.front.book ≡ J.book) × (front.now.book ≡ J.book) }
     requires front { front.now.log ≡ [] }
+    requires moment { (moment.now.book ≡ J.book) × (moment.now.run ≡ J.begun) × IsRun J.begun }
     ensures kept { (writer.new.desk.shown ≡ writer.old.desk.shown) × (view writer.new.desk.place ≡ view writer.old.desk.place) }
     ensures log { (writer.new.log ≡ writer.old.log) × (writer.new.behind ≡ writer.old.behind) }
-    ensures pass { IfOk result (λ p. p ≡ front.now.log) }
+    ensures pass { IfOk result (λ p. p ≡ new_to J.begun) }
 {
     let mut reader = writer.factory().reader()?;
     reader.learn::<Seats>(writer.tell::<Seats>());
-    Ok(Pass::new(reader, front.again()))
+    Ok(Pass::new(reader, front.again(), moment.again()))
 }
 
 // So many passes.
@@ -189,14 +190,16 @@ fn seats<J: Naming>(
     alloc: Global,
     writer: &mut StoreWriter,
     front: &Front,
+    moment: &Moment,
     count: usize,
 ) -> Result<Vec<Pass<J>>, OpenError>
     requires seat { view writer.old.desk.place ≡ knower J.opening writer.old.desk.shown.value }
     requires named { (writer.old.desk.shown.value.front.book ≡ J.book) × (front.now.book ≡ J.book) }
     requires front { front.now.log ≡ [] }
+    requires moment { (moment.now.book ≡ J.book) × (moment.now.run ≡ J.begun) × IsRun J.begun }
     ensures kept { (writer.new.desk.shown ≡ writer.old.desk.shown) × (view writer.new.desk.place ≡ view writer.old.desk.place) }
     ensures log { (writer.new.log ≡ writer.old.log) × (writer.new.behind ≡ writer.old.behind) }
-    ensures passes { IfOk result (λ v. (length v.items ≡ count) × All (λ p. p ≡ []) v.items) }
+    ensures passes { IfOk result (λ v. (length v.items ≡ count) × All (λ p. p ≡ new_to J.begun) v.items) }
     ensures refused { IfErr result (λ e. (e ≡ refusal.NoMemory) ⊎ (e ≡ refusal.NoReader)) }
 {
     let Ok(mut all) = Vec::with_capacity(alloc, count) else {
@@ -204,7 +207,7 @@ fn seats<J: Naming>(
     };
     for made in 0..count {
         prove!(all.len() == made);
-        let Ok(pass) = seat::<J>(writer, front) else {
+        let Ok(pass) = seat::<J>(writer, front, moment) else {
             return Err(OpenError::NoReader);
         };
         if all.push(pass).is_err() {

@@ -6,10 +6,12 @@ ghost use Rattle.md_replica.specs.Named.{AreMessages};
 ghost use Rattle.md_view.specs.Readings.{IsInOrder};
 ghost use Rattle.md_store.specs.declared.error.ListError.TheVariants as refusal;
 ghost use Rattle.md_store.specs.Histories.{named_after, IsLegalFrom};
+ghost use Rattle.md_core.specs.Stepping.{IsRun};
+ghost use Rattle.md_store.specs.Ongoing.{IsSince, GoesOn};
 ghost use Rattle.md_store.specs.Listing.{seen_in, IsLooked, Sees};
 ghost use Rattle.md_store.specs.Publishing.{IsOf};
 
-use crate::book::Front;
+use crate::book::{Front, Moment};
 use crate::error::ListError;
 use crate::naming::Naming;
 use crate::rule::{Learning, StoreReader};
@@ -21,8 +23,9 @@ use md_view::Entry;
 use std::alloc::{AllocError, Global};
 use std::marker::{Model, PhantomData};
 
-/// A caller's token: a reader, and the history that the caller has seen or was told of. Contracts see that history. It is legal, from the
-/// names that the store was opened with.
+/// A caller's token: a reader, the history that the caller has seen or was told of, and the run of the store as far as the caller was told of
+/// it. Contracts see that history, which is legal from the names that the store was opened with, and that run, which is a beginning of the
+/// store's own.
 ///
 /// A pass of another store can't be given to a call: a naming type names one store, so that pass has another type. Nor can one that was
 /// dropped: it was moved away. What it held is lost, unless another pass has learned it, and nobody gets its seat.
@@ -30,50 +33,60 @@ use std::marker::{Model, PhantomData};
 pub struct Pass<J: Naming> {
     reader: StoreReader,
     front: Front,
+    moment: Moment,
     of: PhantomData<J>,
 }
 
 impl<J: Naming> Model for Pass<J> {
-    ghost use Rattle.std.specs.Prelude.{◌≡◌, List};
+    ghost use Rattle.std.specs.Prelude.{◌≡◌};
     ghost use Rattle.std.specs.Coded.{codes};
     ghost use Rattle.md_name.specs.contracts.flags.Flags as flags;
     ghost use Rattle.left_right.specs.Sides.{view as seat_view};
-    ghost use Rattle.md_jobs.specs.declared.effect.Effect.{Effect};
+    ghost use Rattle.md_dirs.specs.State.{state_code};
+    ghost use Rattle.md_core.specs.Stepping.{IsRun};
     ghost use Rattle.md_store.specs.Histories.{IsLegalFrom};
+    ghost use Rattle.md_store.specs.Ongoing.{IsSince};
+    ghost use Rattle.md_store.specs.Pages.{Held};
     ghost use Rattle.md_store.specs.Publishing.{IsOf};
 
-    ghost Value = { List Effect };
+    ghost Value = { Held };
 
-    ghost coded = { Prim.hlevel (codes, flags.the_row.coded) };
+    ghost coded = { Prim.hlevel (codes, state_code, flags.the_row.coded) };
 
-    ghost view = { λ p. p.front.log };
+    ghost view = { λ p. record { history = p.front.log; run = p.moment.run } };
 
-    ghost invariant = { λ p. IsOf J.opening J.book (seat_view p.reader.place) × (p.front.book ≡ J.book) × IsLegalFrom J.opening p.front.log };
+    ghost invariant = { λ p. IsOf J.opening J.book (seat_view p.reader.place) × (p.front.book ≡ J.book) × IsLegalFrom J.opening p.front.log
+        × (p.moment.book ≡ J.book) × IsSince J.begun p.moment.run × IsRun p.moment.run };
 }
 
 impl<J: Naming> Pass<J> {
-    pub(crate) fn new(reader: StoreReader, front: Front) -> Pass<J>
-        requires named { IsOf J.opening J.book (view reader.place) × (front.book ≡ J.book) }
+    pub(crate) fn new(reader: StoreReader, front: Front, moment: Moment) -> Pass<J>
+        requires named { IsOf J.opening J.book (view reader.place) × (front.book ≡ J.book) × (moment.book ≡ J.book) }
         requires legal { IsLegalFrom J.opening front.log }
-        ensures { result ≡ front.log }
+        requires run { IsSince J.begun moment.run × IsRun moment.run }
+        ensures { (result.history ≡ front.log) × (result.run ≡ moment.run) }
     {
         Pass {
             reader,
             front,
+            moment,
             of: PhantomData,
         }
     }
 
     /// How many effects it holds.
     pub fn len(&self) -> u64
-        ensures { result ≡ length self.now }
+        ensures { result ≡ length self.now.history }
     {
         self.front.len()
     }
 
-    /// What the type keeps of any pass: its history is legal, from the names that the store was opened with.
+    /// What the type keeps of any pass: its history is legal, from the names that the store was opened with, and its run goes on from the one
+    /// that the store was opened with.
     pub fn is_legal(&self)
-        ensures { IsLegalFrom J.opening self.now }
+        ensures legal { IsLegalFrom J.opening self.now.history }
+        ensures since { IsSince J.begun self.now.run }
+        ensures run { IsRun self.now.run }
     {
         // A field is looked at, so that what the type keeps is known here.
         let _kept = &self.front;
@@ -82,8 +95,8 @@ impl<J: Naming> Pass<J> {
     /// Whether it holds no more than another pass. Then the other begins with all that it holds; otherwise it begins with all that the other
     /// holds.
     pub fn begins(&self, other: &Pass<J>) -> bool
-        ensures yes { IsTrue result → IsPrefix self.now other.now }
-        ensures no { (result ≡ false) → IsPrefix other.now self.now }
+        ensures yes { IsTrue result → IsPrefix self.now.history other.now.history }
+        ensures no { (result ≡ false) → IsPrefix other.now.history self.now.history }
     {
         self.front.begins(&other.front)
     }
@@ -91,38 +104,50 @@ impl<J: Naming> Pass<J> {
     /// Tells the pass of all that another holds, as a caller that was sent word by another may do: the next listing then begins with that.
     /// It can't be refused.
     pub fn learn_from(&mut self, other: &Pass<J>)
-        ensures held { IsPrefix self.old self.new }
-        ensures told { IsPrefix other.now self.new }
-        ensures one { (self.new ≡ self.old) ⊎ (self.new ≡ other.now) }
-        ensures legal { IsLegalFrom J.opening self.new }
+        ensures held { IsPrefix self.old.history self.new.history }
+        ensures told { IsPrefix other.now.history self.new.history }
+        ensures one { (self.new.history ≡ self.old.history) ⊎ (self.new.history ≡ other.now.history) }
+        ensures legal { IsLegalFrom J.opening self.new.history }
+        ensures own { GoesOn self.old.run self.new.run × GoesOn other.now.run self.new.run }
     {
         other.is_legal();
+        let moment = self.moment.later(&other.moment);
         self.learn(&other.front);
+        self.know(moment);
     }
 
     /// The history that it holds.
     pub(crate) fn front(&self) -> &Front
-        ensures { (result.now.log ≡ self.now) × (result.now.book ≡ J.book) }
+        ensures { (result.now.log ≡ self.now.history) × (result.now.book ≡ J.book) }
     {
         &self.front
     }
 
-    /// Whether it holds no more than a history. Then that begins with all that it holds.
-    pub(crate) fn is_within(&self, front: &Front) -> bool
-        requires { front.now.book ≡ J.book }
-        ensures { IsTrue result → IsPrefix self.now front.now.log }
+    /// The run that it was told of.
+    pub(crate) fn moment(&self) -> &Moment
+        ensures { (result.now.run ≡ self.now.run) × (result.now.book ≡ J.book) }
     {
-        self.front.begins(front)
+        &self.moment
+    }
+
+    /// Tells the pass of the run of its store, which goes on from the one that it holds.
+    pub(crate) fn know(&mut self, moment: Moment)
+        requires book { moment.book ≡ J.book }
+        requires run { IsSince J.begun moment.run × IsRun moment.run }
+        ensures { (self.new.history ≡ self.old.history) × (self.new.run ≡ moment.run) }
+    {
+        self.moment = moment;
     }
 
     /// Tells the pass of a legal history.
     pub(crate) fn learn(&mut self, front: &Front)
         requires book { front.now.book ≡ J.book }
         requires legal { IsLegalFrom J.opening front.now.log }
-        ensures held { IsPrefix self.old self.new }
-        ensures told { IsPrefix front.now.log self.new }
-        ensures one { (self.new ≡ self.old) ⊎ (self.new ≡ front.now.log) }
-        ensures legal { IsLegalFrom J.opening self.new }
+        ensures held { IsPrefix self.old.history self.new.history }
+        ensures told { IsPrefix front.now.log self.new.history }
+        ensures one { (self.new.history ≡ self.old.history) ⊎ (self.new.history ≡ front.now.log) }
+        ensures legal { IsLegalFrom J.opening self.new.history }
+        ensures run { self.new.run ≡ self.old.run }
     {
         self.front = self.front.longer(front);
     }
@@ -138,18 +163,20 @@ impl<J: Naming> Pass<J> {
     ) -> Result<Vec<Entry>, ListError>
         requires order { IfSome first (λ entries. IsInOrder entries.now) }
         requires book { held.now.book ≡ J.book }
-        ensures held { OnOk result (IsPrefix held.now.log self.new) }
-        ensures legal { IsLegalFrom J.opening self.new }
+        ensures held { OnOk result (IsPrefix held.now.log self.new.history) }
+        ensures legal { IsLegalFrom J.opening self.new.history }
+        ensures run { self.new.run ≡ self.old.run }
         ensures messages { OnOk result (AreMessages J.opening) }
         ensures folder { OnOk result (folder < J.opening.folders) }
         ensures no_folder { IfErr result (λ e. e ≡ refusal.NoFolder → J.opening.folders ≤ folder) }
         ensures no_memory { IfErr result (λ e. e ≡ refusal.NoMemory → folder < J.opening.folders) }
-        ensures entries { IfOk result (λ v. v.items ≡ seen_in (option_map (λ entries. entries.now) first.entry) folder (named_after J.opening self.new).names) }
+        ensures entries { IfOk result (λ v. v.items ≡ seen_in (option_map (λ entries. entries.now) first.entry) folder (named_after J.opening self.new.history).names) }
         ensures err { OnErr result (self.new ≡ self.old) }
     {
         let Pass {
             reader,
             front,
+            moment: _,
             of: _,
         } = self;
         let (entries, seen) = replace_with(reader, (alloc, folder, first, held), entered)?;

@@ -1,5 +1,5 @@
 // The store that threads share.
-ghost use Rattle.std.specs.Prelude.{◌≡◌, ◌⊎◌, ◌<◌, ◌≤◌, length, None, IsTrue, IfOk, IfErr, OnOk, OnErr, MatchResult};
+ghost use Rattle.std.specs.Prelude.{◌≡◌, ◌≢◌, ◌⊎◌, ◌<◌, ◌≤◌, length, None, IsTrue, IfOk, IfErr, OnOk, OnErr, MatchBool, MatchResult};
 ghost use mathlib.Core.List.{IsPrefix};
 ghost use Rattle.md_dirs.specs.declared.paths.Place.TheVariants.{New};
 ghost use Rattle.md_jobs.specs.declared.error.CoreError.TheVariants as core;
@@ -9,10 +9,10 @@ ghost use Rattle.md_store.specs.declared.error.ListError.TheVariants as refusal;
 ghost use Rattle.md_store.specs.Calling.{RefusesSince};
 ghost use Rattle.md_store.specs.Histories.{IsLegalFrom, read_at};
 ghost use Rattle.md_store.specs.Listing.{Lists, Finishes, ShowsLast};
-ghost use Rattle.md_store.specs.Locks.{IsSince, SubmitsSince, RefusesCall, ReadsSince, HoldsSince};
+ghost use Rattle.md_store.specs.Locks.{SubmitsSince, RefusesCall, ReadsSince, HoldsAll};
+ghost use Rattle.md_store.specs.Ongoing.{IsSince, GoesOn};
 ghost use Rattle.md_store.specs.Refusals.{plain_refusal, IsWhy};
 ghost use Rattle.md_store.specs.Telling.{IsNews, IsTold, TellsSince};
-ghost use Rattle.md_store.specs.Tickets.{StepsFor};
 
 use crate::error::{ListError, StoreError};
 use crate::locked::Locked;
@@ -20,7 +20,6 @@ use crate::naming::Naming;
 use crate::pass::Pass;
 use crate::reading::FirstReading;
 use crate::step::StoreStep;
-use crate::ticket::Ticket;
 use crossbeam_utils::Backoff;
 use md_core::{Call, CoreError, JobId, SubmitRefused, World};
 use md_dirs::{Bytes, Dirs};
@@ -63,7 +62,8 @@ impl<D: Dirs, J: Naming> Store<D, J> {
         self.lock.lock(rt)
     }
 
-    /// Submits a call, and gives the number of its job. It is refused as `World::submit` is, and a call that is refused comes back.
+    /// Submits a call, and gives the number of its job. It is refused as `World::submit` is, and a call that is refused comes back. The clauses
+    /// speak of some run that goes on from the opening; those of `call` speak of the store's own.
     pub fn submit<R: Wait>(&self, rt: &R, call: Call) -> Result<JobId, SubmitRefused>
         ensures job { IfOk result (λ job. SubmitsSince J.begun call job) }
         ensures call { IfErr result (λ r. r.call ≡ call) }
@@ -79,24 +79,8 @@ impl<D: Dirs, J: Naming> Store<D, J> {
         made
     }
 
-    /// Submits a call, as `submit` does, and gives a ticket of it, by which `step_of` steps.
-    pub fn issue<R: Wait>(&self, rt: &R, call: Call) -> Result<Ticket<J>, SubmitRefused>
-        ensures ticket { IfOk result (λ t. (t.call ≡ call) × SubmitsSince J.begun call t.job) }
-        ensures call { IfErr result (λ r. r.call ≡ call) }
-        ensures refused { MatchResult result
-            (λ _. plain_refusal J.opening.folders call ≡ None)
-            (λ r. IsWhy call (plain_refusal J.opening.folders call) r.error) }
-        ensures why { IfErr result (λ r. RefusesCall J.begun call r.error) }
-    {
-        let mut guard = self.lock(rt);
-        guard.lags();
-        let made = guard.issue(call);
-        MutexGuard::unlock(guard);
-        made
-    }
-
-    /// Makes the next directory call of a job, publishes its effect, and tells the pass of all effects so far; where memory for publishing
-    /// runs out, the news is `Later`, and the pass is told nothing.
+    /// Makes the next directory call of a job, publishes its effect, and tells the pass of the run behind that step, and of all effects so far;
+    /// where memory for publishing runs out, the news is `Later`, and the pass is told of no effect.
     ///
     /// `now` and `own` are in seconds. The store's clock becomes `now` where that is greater; `own` is the moment by the clock of the job's
     /// host, and a job without one goes by the store's. Refused `NoJob`, `Answered`, or `NoMemory`: then no directory call was made, the
@@ -110,14 +94,15 @@ impl<D: Dirs, J: Naming> Store<D, J> {
         own: Option<u64>,
     ) -> Result<StoreStep, CoreError>
         ensures step { IfOk result (λ s. TellsSince J.begun job now own s pass.old pass.new) }
-        ensures held { IsPrefix pass.old pass.new }
-        ensures news { IfOk result (λ s. IsNews s.news s.out.effect pass.old pass.new) }
-        ensures told { IfOk result (λ s. IsTold s.news s.out.answer job pass.old pass.new) }
-        ensures legal { IsLegalFrom J.opening pass.new }
+        ensures held { IsPrefix pass.old.history pass.new.history }
+        ensures own { GoesOn pass.old.run pass.new.run }
+        ensures news { IfOk result (λ s. IsNews s.news s.out.effect pass.old.history pass.new.history) }
+        ensures told { IfOk result (λ s. IsTold s.news s.out.answer job pass.old.history pass.new.history) }
+        ensures legal { IsLegalFrom J.opening pass.new.history }
         ensures refused { OnErr result (pass.new ≡ pass.old) }
         ensures no_job { IfErr result (λ e. e ≡ core.NoJob → (job ≡ 0) ⊎ (length J.begun.calls < job)) }
         ensures error { IfErr result (λ e. (e ≡ core.NoJob) ⊎ (e ≡ core.Answered) ⊎ (e ≡ core.NoMemory)) }
-        ensures why { IfErr result (RefusesSince J.begun job) }
+        ensures why { IfErr result (RefusesSince J.begun pass.old.run job) }
     {
         let mut guard = self.lock(rt);
         guard.lags();
@@ -127,41 +112,13 @@ impl<D: Dirs, J: Naming> Store<D, J> {
         made
     }
 
-    /// Makes the next directory call of the job of a ticket, as `step` does, and says whose call it steps: the effect and the answer that it
-    /// tells are those of the ticket's own call. Refused `Answered` or `NoMemory`; the job of a ticket is always there.
-    pub fn step_of<R: Wait>(
-        &self,
-        rt: &R,
-        pass: &mut Pass<J>,
-        ticket: &Ticket<J>,
-        now: u64,
-        own: Option<u64>,
-    ) -> Result<StoreStep, CoreError>
-        ensures step { IfOk result (λ s. StepsFor J.begun ticket.now now own s pass.old pass.new) }
-        ensures held { IsPrefix pass.old pass.new }
-        ensures news { IfOk result (λ s. IsNews s.news s.out.effect pass.old pass.new) }
-        ensures told { IfOk result (λ s. IsTold s.news s.out.answer ticket.now.job pass.old pass.new) }
-        ensures legal { IsLegalFrom J.opening pass.new }
-        ensures refused { OnErr result (pass.new ≡ pass.old) }
-        ensures error { IfErr result (λ e. (e ≡ core.Answered) ⊎ (e ≡ core.NoMemory)) }
-        ensures why { IfErr result (RefusesSince J.begun ticket.now.job) }
-    {
-        let mut guard = self.lock(rt);
-        guard.recalls(ticket);
-        guard.lags();
-        md_core::laws::each_call_has_its_job();
-        let made = guard.step(rt, pass, ticket.job(), now, own);
-        guard.lags();
-        MutexGuard::unlock(guard);
-        made
-    }
-
-    /// Publishes an effect that memory refused before, and tells the pass of all effects so far. It takes no step of a job. Refused `NoMemory`,
-    /// and then the pass holds what it held.
+    /// Publishes an effect that memory refused before, and tells the pass of the run and of all effects so far. It takes no step of a job.
+    /// Refused `NoMemory`, and then the pass holds what it held.
     pub fn catch_up<R: Wait>(&self, rt: &R, pass: &mut Pass<J>) -> Result<(), StoreError>
-        ensures held { IsPrefix pass.old pass.new }
-        ensures all { OnOk result (HoldsSince J.begun pass.new) }
-        ensures legal { IsLegalFrom J.opening pass.new }
+        ensures held { IsPrefix pass.old.history pass.new.history }
+        ensures own { GoesOn pass.old.run pass.new.run }
+        ensures all { OnOk result (HoldsAll pass.new) }
+        ensures legal { IsLegalFrom J.opening pass.new.history }
         ensures unchanged { OnErr result (pass.new ≡ pass.old) }
     {
         let mut guard = self.lock(rt);
@@ -172,7 +129,8 @@ impl<D: Dirs, J: Naming> Store<D, J> {
     }
 
     /// A copy of the bytes of the message of a unique name, in new or cur of any folder: they are whole, as they were delivered, copied, or
-    /// there when the store was opened. None where there is no such message. It is refused only when out of memory.
+    /// there when the store was opened. None where there is no such message. It is refused only when out of memory. The clause speaks of some
+    /// run that goes on from the opening.
     pub fn read<R: Wait>(
         &self,
         rt: &R,
@@ -198,8 +156,9 @@ impl<D: Dirs, J: Naming> Store<D, J> {
         pass: &mut Pass<J>,
         folder: u32,
     ) -> Result<Vec<Entry>, ListError>
-        ensures held { IsPrefix pass.old pass.new }
-        ensures entries { IfOk result (λ v. Lists folder J.opening pass.old pass.new v.items) }
+        ensures held { IsPrefix pass.old.history pass.new.history }
+        ensures own { pass.new.run ≡ pass.old.run }
+        ensures entries { IfOk result (λ v. Lists folder J.opening pass.old.history pass.new.history v.items) }
         ensures folder { OnOk result (folder < J.opening.folders) }
         ensures no_folder { IfErr result (λ e. e ≡ refusal.NoFolder → J.opening.folders ≤ folder) }
         ensures no_memory { IfErr result (λ e. e ≡ refusal.NoMemory → folder < J.opening.folders) }
@@ -216,13 +175,14 @@ impl<D: Dirs, J: Naming> Store<D, J> {
         pass: &mut Pass<J>,
         folder: u32,
     ) -> Result<FirstReading<J>, ListError>
-        ensures held { IsPrefix pass.old pass.new }
-        ensures legal { IsLegalFrom J.opening pass.new }
+        ensures held { IsPrefix pass.old.history pass.new.history }
+        ensures own { pass.new.run ≡ pass.old.run }
+        ensures legal { IsLegalFrom J.opening pass.new.history }
         ensures folder { OnOk result (folder < J.opening.folders) }
         ensures no_folder { IfErr result (λ e. e ≡ refusal.NoFolder → J.opening.folders ≤ folder) }
         ensures no_memory { IfErr result (λ e. e ≡ refusal.NoMemory → folder < J.opening.folders) }
         ensures unchanged { OnErr result (pass.new ≡ pass.old) }
-        ensures entries { IfOk result (λ f. (f.folder ≡ folder) × (f.history ≡ pass.new) × (f.entries ≡ read_at folder New J.opening pass.new)) }
+        ensures entries { IfOk result (λ f. (f.folder ≡ folder) × (f.history ≡ pass.new.history) × (f.entries ≡ read_at folder New J.opening pass.new.history)) }
     {
         let held = pass.front().again();
         let entries = pass.read(alloc, folder, None, &held)?;
@@ -238,14 +198,15 @@ impl<D: Dirs, J: Naming> Store<D, J> {
         pass: &mut Pass<J>,
         first: &FirstReading<J>,
     ) -> Result<Vec<Entry>, ListError>
-        ensures held { IsPrefix pass.old pass.new }
-        ensures legal { IsLegalFrom J.opening pass.new }
+        ensures held { IsPrefix pass.old.history pass.new.history }
+        ensures own { pass.new.run ≡ pass.old.run }
+        ensures legal { IsLegalFrom J.opening pass.new.history }
         ensures folder { OnOk result (first.now.folder < J.opening.folders) }
         ensures no_folder { IfErr result (λ e. e ≡ refusal.NoFolder → J.opening.folders ≤ first.now.folder) }
         ensures no_memory { IfErr result (λ e. e ≡ refusal.NoMemory → first.now.folder < J.opening.folders) }
         ensures unchanged { OnErr result (pass.new ≡ pass.old) }
-        ensures told { OnOk result (IsPrefix first.now.history pass.new) }
-        ensures entries { IfOk result (λ v. Finishes J.opening first.now pass.new v.items) }
+        ensures told { OnOk result (IsPrefix first.now.history pass.new.history) }
+        ensures entries { IfOk result (λ v. Finishes J.opening first.now pass.new.history v.items) }
     {
         md_core::laws::legal_histories_keep_messages_out_of_new();
         first.is_read();
@@ -253,17 +214,19 @@ impl<D: Dirs, J: Naming> Store<D, J> {
         pass.read(alloc, first.folder(), Some(first.entries()), &held)
     }
 
-    /// The world, as `close` gives it, and whether a pass holds all effects of it. Where it does, what was listed with the pass when it held
-    /// as many is what the folder shows at the end.
+    /// The world, as `close` gives it, and whether a pass holds all effects of it; it holds no others. Where it does, what was listed with the
+    /// pass when it held as many is what the folder shows at the end.
     #[tactic(auto, using(crate::proofs::Last::shows_last))]
     pub fn close_with<R: Wait>(self, rt: &R, pass: &Pass<J>) -> (World<D>, bool)
         ensures since { IsSince J.begun result.0 }
         ensures image { named_of result.0.image ≡ J.opening }
-        ensures all { IsTrue result.1 → pass.now ≡ effects_of result.0 }
-        ensures shown { IsTrue result.1 → ShowsLast J.opening pass.now result.0 }
+        ensures covers { IsPrefix pass.now.history (effects_of result.0) }
+        ensures all { MatchBool result.1 (pass.now.history ≡ effects_of result.0) (pass.now.history ≢ effects_of result.0) }
+        ensures goes { GoesOn pass.now.run result.0 }
+        ensures shown { IsTrue result.1 → ShowsLast J.opening pass.now.history result.0 }
     {
         let Store { lock } = self;
-        let locked = lock.into_inner();
+        let mut locked = lock.into_inner();
         let all = locked.is_held(pass);
         let world = locked.close(rt);
         world.interleaves();

@@ -11,4 +11,3 @@ mod scene;
 mod stages;
 mod stampede;
 mod threads;
-mod tickets;

@@ -5,7 +5,7 @@ ghost use mathlib.Core.List.{IsPrefix};
 ghost use Rattle.md_core.specs.Mailbox.{mailbox_of};
 ghost use Rattle.md_core.specs.Runs.{Run, dirs_of};
 ghost use Rattle.md_store.specs.Listing.{ShowsLast};
-ghost use Rattle.md_store.specs.Locks.{IsSince};
+ghost use Rattle.md_store.specs.Ongoing.{IsSince};
 ghost use Rattle.md_script.specs.Folders.{names_of};
 ghost use Rattle.md_script.specs.Texts.{line_end};
 ghost use Rattle.md_runs.specs.Threading.{folder_text, folders_text, IsStop};
@@ -49,7 +49,7 @@ fn list_all<J: Naming, R: Wait>(
     pass: &mut Pass<J>,
     names: &[Vec<u8>],
 ) -> Result<Vec<u8>, RunFault>
-    ensures last { IfOk result (λ text. (r : Run) → ShowsLast J.opening pass.new r
+    ensures last { IfOk result (λ text. (r : Run) → ShowsLast J.opening pass.new.history r
         → text.items ≡ folders_text (mailbox_of (dirs_of r)) 0 (names_of names.now)) }
     ensures stop { IfErr result IsStop }
 {
@@ -72,8 +72,8 @@ fn push_listings<J: Naming>(
     pass: &mut Pass<J>,
     names: &[Vec<u8>],
 ) -> Result<(), RunFault>
-    ensures held { IsPrefix pass.old pass.new }
-    ensures last { OnOk result (length pass.new ≡ length pass.old → (r : Run) → ShowsLast J.opening pass.new r
+    ensures held { IsPrefix pass.old.history pass.new.history }
+    ensures last { OnOk result (length pass.new.history ≡ length pass.old.history → (r : Run) → ShowsLast J.opening pass.new.history r
         → text.new.items ≡ text.old.items ++ folders_text (mailbox_of (dirs_of r)) 0 (names_of names.now)) }
     ensures stop { IfErr result IsStop }
 {
@@ -100,8 +100,8 @@ fn push_listing<J: Naming>(
     folder: u32,
     name: &[u8],
 ) -> Result<(), RunFault>
-    ensures held { IsPrefix pass.old pass.new }
-    ensures last { OnOk result (length pass.new ≡ length pass.old → (r : Run) → ShowsLast J.opening pass.new r
+    ensures held { IsPrefix pass.old.history pass.new.history }
+    ensures last { OnOk result (length pass.new.history ≡ length pass.old.history → (r : Run) → ShowsLast J.opening pass.new.history r
         → text.new.items ≡ text.old.items ++ folder_text (mailbox_of (dirs_of r)) folder name.now) }
     ensures stop { IfErr result IsStop }
 {

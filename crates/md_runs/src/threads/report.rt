@@ -3,7 +3,8 @@
 ghost use Rattle.std.specs.Prelude.{◌≡◌, ◌++◌, length, IfOk, IfErr, OnOk};
 ghost use Rattle.std.specs.List.{list_all};
 ghost use Rattle.md_core.specs.Runs.{Run, jobs_of};
-ghost use Rattle.md_store.specs.Locks.{IsFresh, IsSince};
+ghost use Rattle.md_store.specs.Locks.{IsFresh};
+ghost use Rattle.md_store.specs.Ongoing.{IsSince};
 ghost use Rattle.md_runs.specs.Threading.{answers_text, is_at_zero, AllAnswered, Interleaving, IsStop};
 
 use crate::fault::RunFault;

@@ -3,7 +3,8 @@
 ghost use Rattle.std.specs.Prelude.{◌≡◌, ◌<◌, ◌≤◌, IfOk, IfErr};
 ghost use Rattle.md_core.specs.Mailbox.{mailbox_of};
 ghost use Rattle.md_core.specs.Runs.{dirs_of};
-ghost use Rattle.md_store.specs.Locks.{IsFresh, IsSince};
+ghost use Rattle.md_store.specs.Locks.{IsFresh};
+ghost use Rattle.md_store.specs.Ongoing.{IsSince};
 ghost use Rattle.md_replica.specs.Named.{named_of};
 ghost use Rattle.md_script.specs.Folders.{names_of};
 ghost use Rattle.md_runs.specs.Threading.{folders_text, IsStop};
@@ -55,7 +56,7 @@ fn share_opened<J: Naming + Send + Sync, R: Threads + Wait + Sync>(
     jobs: u64,
 ) -> Result<Shared, RunFault>
     requires begun { prepared.run ≡ J.begun }
-    requires named { (named_of prepared.run.image ≡ J.opening) × (prepared.book ≡ J.book) × (prepared.roll ≡ J.roll) }
+    requires named { (named_of prepared.run.image ≡ J.opening) × (prepared.book ≡ J.book) }
     ensures since { IfOk result (λ s. IsSince prepared.run s.world) }
     ensures folders { IfOk result (λ s. s.folders.items ≡ folders_text (mailbox_of (dirs_of s.world)) 0 (names_of names.now)) }
     ensures stop { IfErr result IsStop }

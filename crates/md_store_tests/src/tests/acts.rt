@@ -2,7 +2,6 @@
 use super::fixtures::{call, cut, finish, flags, lists, number, shows_all, step};
 use super::gated::{Gate, Gated, peeks, shuts};
 use super::locked::act_locked;
-use super::tickets::step_by_tickets;
 use md_core::{Answer, Call, CoreError, JobId, SubmitRefused};
 use md_store::{CallError, FirstReading, ListError, Naming, News, Pass, Store, StoreError};
 use std::alloc::Global;
@@ -276,7 +275,6 @@ fn ask<J: Naming, R: Wait>(
         "shuts" => shuts(on.gate),
         "peeks" => peeks(on.alloc, on.store, pass, on.gate),
         "locked" => act_locked(rt, on.alloc, on.store, pass),
-        "tickets" => step_by_tickets(rt, on.alloc, on.store, pass),
         _ => false,
     }
 }

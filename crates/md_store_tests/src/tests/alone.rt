@@ -53,20 +53,6 @@ fn a_refused_call_comes_back(rt: HostRuntime) {
     plays(&rt, rt.alloc(), &plan);
 }
 
-// Two calls are stepped by their tickets, the later one first.
-#[test]
-fn a_ticket_steps_its_own_call(rt: HostRuntime) {
-    let plan = Plan {
-        scene: Scene::Acts("0 tickets", 0),
-        folders: 1,
-        passes: 1,
-        files: "",
-        calls: "",
-        wanted: (2, 8, 2),
-    };
-    plays(&rt, rt.alloc(), &plan);
-}
-
 #[test]
 fn one_lock_holds_a_whole_delivery(rt: HostRuntime) {
     let plan = Plan {

@@ -156,7 +156,7 @@ fn play_in<J: Naming + Send + Sync, R: Threads + Wait + Abort + Sync>(
     plan: &Plan<'_>,
 ) -> Option<OpenError>
     requires begun { prepared.run ≡ J.begun }
-    requires named { (named_of prepared.run.image ≡ J.opening) × (prepared.book ≡ J.book) × (prepared.roll ≡ J.roll) }
+    requires named { (named_of prepared.run.image ≡ J.opening) × (prepared.book ≡ J.book) }
 {
     match prepared.open::<J, R>(rt, alloc) {
         Ok((store, mut passes)) => {

@@ -10,8 +10,8 @@ use Rattle.md_runs.proofs.threads.listings.push_listings.Given as goal
 -- While the pass is told of nothing, the text so far and what is left are the whole.
 abbrev pub invariant-loop-left : goal.invariant-loop-left
 invariant-loop-left g l = record {
-  held : IsPrefix l.fn.pass l.pass;
-  last : length l.pass ≡ length l.fn.pass → (r : Run) → ShowsLast g.J.Naming.opening l.pass r →
+  held : IsPrefix l.fn.pass.history l.pass.history;
+  last : length l.pass.history ≡ length l.fn.pass.history → (r : Run) → ShowsLast g.J.Naming.opening l.pass.history r →
       l.text.items ++ folders_text (mailbox_of (dirs_of r)) l.folder (names_of l.left)
       ≡ l.fn.text.items ++ folders_text (mailbox_of (dirs_of r)) 0 (names_of l.names);
 }

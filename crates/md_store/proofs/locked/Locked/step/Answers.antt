@@ -1,31 +1,38 @@
-use Rattle.std.proofs.Common.{◌≡◌, true, false, ◌∙◌, sym, List, subst, rules}
+use Rattle.std.proofs.Common.{◌≡◌, true, false, ◌∙◌, sym, List, [], append-nil, refl, subst, rules}
 use mathlib.Core.List.{IsPrefix}
 use Rattle.md_jobs.specs.declared.effect.Effect.{Effect}
 use Rattle.md_core.specs.Machine.{occurrence}
 use Rattle.md_jobs.specs.Asked.{is_fault}
 use Rattle.md_core.specs.Runs.{effects_of}
 use Rattle.md_store.proofs.Moves.{no_effect, one_effect}
+use Rattle.md_store.proofs.Ongoing.{goes_itself}
 use Rattle.md_store.proofs.Told.{stands}
 use Rattle.md_store.proofs.locked.Locked.step.Goals as goal
 
 pub returns-then-not-out-clause-told : goal.returns-then-not-out-clause-told
 returns-then-not-out-clause-told g c =
-    let before : c.publish_left.new.self.published ≡ effects_of c.publish_left.new.self.run = search rules in
+    let before : c.make_ready.new.self.published ≡ effects_of c.make_ready.new.self.run = search rules in
     let off : c.in_ok-out.out.effect ≡ false = search rules in
     let out = c.in_ok-out.out in
     let a = c.in_ok-out.ensures in
-    let none = no_effect c.publish_left.new.self.run c.advance.new.self.run (occurrence c.args.job c.args.now c.args.own (is_fault out.reply)) out a.shows off in
-    stands c.advance.new.self.run c.args.job out.answer c.tell.new.pass a.success (c.tell.ensures.told ∙ (a.published ∙ (before ∙ sym none)))
+    let none = no_effect c.make_ready.new.self.run c.advance.new.self.run (occurrence c.args.job c.args.now c.args.own (is_fault out.reply)) out a.shows off in
+    stands c.advance.new.self.run c.args.job out.answer c.tell.new.pass.history a.success (c.tell.ensures.told ∙ (a.published ∙ (before ∙ sym none)))
 
 pub returns-clause-told : goal.returns-clause-told
 returns-clause-told g c =
     let on : c.in_ok-out.out.effect ≡ true = search rules in
     let out = c.in_ok-out.out in
     let a = c.in_ok-out.ensures in
-    let e = one_effect c.publish_left.new.self.run c.advance.new.self.run (occurrence c.args.job c.args.now c.args.own (is_fault out.reply)) out a.shows on in
-    let before : c.publish_left.new.self.published ≡ effects_of c.publish_left.new.self.run = search rules in
-    let all : c.publish_left-2.new.self.published ≡ effects_of c.advance.new.self.run = search rules in
-    let covered : IsPrefix c.args.pass.now c.publish_left.new.self.published = search rules in (
-      (effects_of c.publish_left.new.self.run, e.0, c.tell-2.ensures.told ∙ (all ∙ e.1), e.2, subst (λ (l : List Effect). IsPrefix c.args.pass.now l) before covered),
-      stands c.advance.new.self.run c.args.job out.answer c.tell-2.new.pass a.success (c.tell-2.ensures.told ∙ all),
+    let e = one_effect c.make_ready.new.self.run c.advance.new.self.run (occurrence c.args.job c.args.now c.args.own (is_fault out.reply)) out a.shows on in
+    let before : c.make_ready.new.self.published ≡ effects_of c.make_ready.new.self.run = search rules in
+    let all : c.publish_left.new.self.published ≡ effects_of c.advance.new.self.run = search rules in
+    let covered : IsPrefix c.args.pass.now.history c.make_ready.new.self.published = subst (λ (l : List Effect). IsPrefix c.args.pass.now.history l) a.published a.covers in (
+      (effects_of c.make_ready.new.self.run, e.0, c.tell-2.ensures.told ∙ (all ∙ e.1), e.2, subst (λ (l : List Effect). IsPrefix c.args.pass.now.history l) before covered),
+      stands c.advance.new.self.run c.args.job out.answer c.tell-2.new.pass.history a.success (c.tell-2.ensures.told ∙ all),
     )
+
+pub returns-then-is_err-clause-held : goal.returns-then-is_err-clause-held
+returns-then-is_err-clause-held g c = ([], append-nil c.args.pass.now.history ∙ sym c.advance.ensures.history)
+
+pub returns-in-Err-clause-own : goal.returns-in-Err-clause-own
+returns-in-Err-clause-own g c = goes_itself _ _ refl

@@ -8,4 +8,4 @@ use Rattle.md_store.proofs.store.Store.first.Goals as goal
 
 pub new-requires-clause-order : goal.new-requires-clause-order
 new-requires-clause-order g c = subst (λ (es : List Entry). IsInOrder es) (sym c.in_ok-entries.ensures.entries)
-    (reading-in_order (named_after g.J.Naming.opening c.read.new.self).names c.args.folder New)
+    (reading-in_order (named_after g.J.Naming.opening c.read.new.self.history).names c.args.folder New)

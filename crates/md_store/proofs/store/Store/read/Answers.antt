@@ -2,7 +2,8 @@ use Rattle.std.proofs.Common.{◌≡◌, sym, subst, rules}
 use Rattle.md_core.specs.Interleaving.{Interleaves}
 use Rattle.md_core.specs.Stepping.{IsRun}
 use Rattle.md_core.specs.Tracing.{trace_of}
-use Rattle.md_store.specs.Locks.{Both, IsSince}
+use Rattle.md_store.specs.Locks.{Both}
+use Rattle.md_store.specs.Ongoing.{IsSince}
 use Rattle.md_store.proofs.Since.{reads-since}
 use Rattle.md_store.proofs.store.Store.read.Goals as goal
 

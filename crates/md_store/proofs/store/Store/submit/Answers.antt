@@ -1,7 +1,8 @@
 use Rattle.std.proofs.Common.{◌≡◌, ap, ◌∙◌, sym, subst, rules}
 use Rattle.md_core.specs.Stepping.{IsRun}
 use Rattle.md_replica.specs.Named.{Named}
-use Rattle.md_store.specs.Locks.{Both, IsSince}
+use Rattle.md_store.specs.Locks.{Both}
+use Rattle.md_store.specs.Ongoing.{IsSince}
 use Rattle.md_store.proofs.Since.{submits-since, refuses-call}
 use Rattle.md_store.proofs.Submits.{submits}
 use Rattle.md_store.proofs.store.Store.submit.Goals as goal

@@ -1,6 +1,6 @@
 use Rattle.std.proofs.Common.{◌≡◌, sym, ◌∙◌, ap}
 use Rattle.md_store.proofs.Entering.{makes}
-use Rattle.md_store.proofs.roll.new_pen.Goals as goal
+use Rattle.md_store.proofs.book.new_pen.Goals as goal
 
 pub compare_exchange-found-requires : goal.compare_exchange-found-requires
 compare_exchange-found-requires c =
