@@ -73,7 +73,10 @@ fn lists_old<D: Dirs>(
         };
         if now.saturating_sub(row.stamp()) >= seconds {
             let name = old.pop_front();
-            assert!(rt; name.is_some_and(|name| name.as_slice() == row.name()), "row {at}");
+            assert!(rt;
+                name.is_some_and(|name| name.as_slice() == row.name()),
+                "row {at}"
+            );
         }
     }
     assert!(rt; old.is_empty(), "old at {now}");
