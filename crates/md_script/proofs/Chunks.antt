@@ -1,12 +1,12 @@
 -- A read behind the bytes that are there.
-use Rattle.std.proofs.Common.{◌≡◌, ℕ, ◌+◌, ◌-◌, ◌≤◌, List, ◌++◌, Option, Some, None, length, take, drop, sym, ap, subst, ◌∙◌, arith, append_assoc}
+use Rattle.std.proofs.Common.{◌≡◌, ℕ, ◌+◌, ◌-◌, ◌<◌, ◌≤◌, List, ◌++◌, Option, Some, None, length, take, drop, sym, ap, subst, ◌∙◌, arith, append_assoc}
 use Rattle.std.proofs.lemmas.List.{take-append-drop, drop-take, length-drop}
 use Rattle.std.proofs.lemmas.List.Edits.{take-paste}
 use Rattle.std.proofs.Math.Seq.{take-take}
 use Rattle.std.specs.List.{copy_within}
 use Rattle.std.specs.Io.KnownBytes.{Consumes, Keeps}
 use Rattle.md_script.specs.Sources.{Source, Gave, Paused}
-use Rattle.md_script.specs.Reading.{Sound}
+use Rattle.md_script.specs.Reading.{Sound, Endless}
 
 pub Consumes-append : (a b c : Option (List ℕ)) (xs ys : List ℕ) → Consumes a b xs → Consumes b c ys → Consumes a c (xs ++ ys)
 Consumes-append None b c xs ys first second = tt
@@ -32,25 +32,28 @@ Consumes-kept (Some s) None c xs before kept = absurd before
 Consumes-kept (Some s) (Some t) None xs before kept = absurd kept
 Consumes-kept (Some s) (Some t) (Some u) xs before kept = before ∙ ap (λ z. xs ++ z) (sym kept)
 
--- what reading has come to: the filled front was given, and no read failed
+-- what reading has come to: the filled front was given, and no read failed or found the end
 pub record Filled (old now : Source) (script : List ℕ) (filled : ℕ) : Type 0 where
   pub given : Consumes old.remaining now.remaining (take filled script)
   pub sound : Sound old now
+  pub endless : Endless old now
 
 module _ (a b d : Source) (old new : List ℕ) (f : ℕ) (so_far : Filled a b old f) (front : take f new ≡ take f old) where
   pub more_fits : (n : ℕ) → f ≤ length new → Gave b d (drop f new) n → f + n ≤ length new
   more_fits n there gave = let long = length-drop f new in omega (arith, long, gave.fits)
 
-  pub filled_more : (n filled : ℕ) → f ≤ length new → Gave b d (drop f new) n → filled ≡ f + n → Filled a d new filled
-  filled_more n filled there gave is = rw is (record {
+  pub filled_more : (n filled : ℕ) → 0 < n → f ≤ length new → Gave b d (drop f new) n → filled ≡ f + n → Filled a d new filled
+  filled_more n filled some there gave is = rw is (record {
     given = consumes_more a.remaining b.remaining d.remaining old new f n (more_fits n there gave) front so_far.given gave.bytes;
     sound = gave.failed ∙ so_far.sound;
+    endless = gave.goes_on some ∙ so_far.endless;
   })
 
   pub filled_same : (filled : ℕ) → Paused b d → filled ≡ f → Filled a d new filled
   filled_same filled paused is = rw is (record {
     given = subst (Consumes a.remaining d.remaining) (sym front) (Consumes-kept a.remaining b.remaining d.remaining _ so_far.given paused.bytes);
     sound = paused.failed ∙ so_far.sound;
+    endless = paused.goes_on ∙ so_far.endless;
   })
 
 -- what was moved to the front

@@ -49,16 +49,17 @@ module _ {S : Type 0} (step : S → List ℕ → Result (S × List ℕ) PlayKind
         let e = so_far.counted in
         omega arith
 
-    pub too_much : most_bytes < i.given + n → GivesTooMuch old now
-    too_much beyond = record {
+    pub too_much : 0 < n → most_bytes < i.given + n → GivesTooMuch old now
+    too_much some beyond = record {
       bytes = so_far.front ++ take (i.filled + n) new;
       given = given_more;
       beyond = omega (arith, counted_more);
+      endless = gave.goes_on some ∙ so_far.endless;
       sound = gave.failed ∙ so_far.sound;
     }
 
-    pub taken_more : (after : Incoming) (u : S) → TakesIn step i.progress t (take (i.filled + n) new) after u → after.given ≡ i.given + n → Underway step s old now after u
-    taken_more after u taken is =
+    pub taken_more : 0 < n → (after : Incoming) (u : S) → TakesIn step i.progress t (take (i.filled + n) new) after u → after.given ≡ i.given + n → Underway step s old now after u
+    taken_more some after u taken is =
         let parts : so_far.front ++ take (i.filled + n) new ≡ (so_far.front ++ taken.front) ++ line_so_far after =
         ap (λ xs. so_far.front ++ xs) taken.parts ∙ sym (append_assoc so_far.front taken.front (line_so_far after)) in
         record {
@@ -66,6 +67,7 @@ module _ {S : Type 0} (step : S → List ℕ → Result (S × List ℕ) PlayKind
           given = subst (Consumes old.remaining now.remaining) parts given_more;
           counted = sym (ap length parts) ∙ counted_more ∙ sym is;
           sound = gave.failed ∙ so_far.sound;
+          endless = gave.goes_on some ∙ so_far.endless;
           same = λ more. taken.same more ∙ so_far.same (taken.front ++ more)
               ∙ ap (λ script. usable_of step s script) (sym (append_assoc so_far.front taken.front more));
         }
@@ -81,6 +83,7 @@ module _ {S : Type 0} (step : S → List ℕ → Result (S × List ℕ) PlayKind
         whole = record {
           given = subst (λ k. Consumes old.remaining now.remaining (so_far.front ++ take k new)) zero (given_more 0 gave (omega arith));
           ended = gave.ended refl;
+          found = gave.found refl ∙ ap (λ k. k + 1) so_far.endless;
           within = let long = counted_more 0 gave (omega arith) in
               let same = ap (λ k. length (so_far.front ++ take k new)) zero in omega arith;
           sound = gave.failed ∙ so_far.sound;
@@ -98,5 +101,6 @@ module _ {S : Type 0} (step : S → List ℕ → Result (S × List ℕ) PlayKind
         given = subst (λ xs. Consumes old.remaining now.remaining (so_far.front ++ xs)) (sym same) (Consumes-kept old.remaining before.remaining now.remaining _ so_far.given paused.bytes);
         counted = ap (λ xs. length (so_far.front ++ xs)) same ∙ so_far.counted ∙ sym given;
         sound = paused.failed ∙ so_far.sound;
+        endless = paused.goes_on ∙ so_far.endless;
         same = λ more. ap (λ p. outcome step p t (lines_of more)) progress ∙ so_far.same more;
       }

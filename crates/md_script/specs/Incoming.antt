@@ -6,7 +6,7 @@ use Rattle.md_script.specs.declared.error.PlayKind.{PlayKind}
 use Rattle.md_script.specs.declared.incoming.Incoming.{Incoming}
 use Rattle.md_script.specs.declared.run.Progress.{Progress}
 use Rattle.md_script.specs.Sources.{Source}
-use Rattle.md_script.specs.Reading.{IsReadWhole, Sound, Unread, most_bytes}
+use Rattle.md_script.specs.Reading.{IsReadWhole, Sound, Endless, Unread, most_bytes}
 use Rattle.md_script.specs.Transcript.{transcript_of}
 use Rattle.md_script.specs.Printed.{Tells}
 use Rattle.md_script.specs.Progress.{IsFresh, outcome, usable_of}
@@ -43,6 +43,7 @@ pub record Underway {S : Type 0} (step : S → List ℕ → Result (S × List �
   pub given : Consumes old.remaining now.remaining (front ++ line_so_far i)
   pub counted : length (front ++ line_so_far i) ≡ i.given
   pub sound : Sound old now
+  pub endless : Endless old now
   pub same : (more : List ℕ) → outcome step i.progress t (lines_of more) ≡ usable_of step s (front ++ more)
 
 -- A whole script was read, and this was printed and refused of it; each of its lines was passed, unless one was refused.

@@ -1,5 +1,5 @@
 -- What reading a script whole comes to.
-use Rattle.std.specs.Prelude.{◌≡◌, ℕ, ◌+◌, ◌<◌, ◌≤◌, true, List, length, Result, Ok, Err}
+use Rattle.std.specs.Prelude.{◌≡◌, ℕ, ◌+◌, ◌<◌, ◌≤◌, List, length, Result, Ok, Err}
 use Rattle.std.specs.Global.{Vec}
 use Rattle.std.specs.Io.KnownBytes.{Consumes, IsAtEnd}
 use Rattle.md_script.specs.declared.error.PlayKind.{PlayKind}
@@ -16,12 +16,17 @@ most_reads = 1048576
 
 -- no read failed
 abbrev pub Sound : Source → Source → Type 0
-Sound old new = new.has_failed ≡ old.has_failed
+Sound old new = new.failures ≡ old.failures
 
--- the source gave a script to its end, within the limit
+-- no read found the end
+abbrev pub Endless : Source → Source → Type 0
+Endless old new = new.ends ≡ old.ends
+
+-- the source gave a script to its end, within the limit; the last read found the end, and none before it
 pub record IsReadWhole (old new : Source) (script : List ℕ) : Type 0 where
   pub given : Consumes old.remaining new.remaining script
   pub ended : IsAtEnd new.remaining
+  pub found : new.ends ≡ old.ends + 1
   pub within : length script ≤ most_bytes
   pub sound : Sound old new
 
@@ -30,6 +35,7 @@ pub record GivesTooMuch (old new : Source) : Type 0 where
   pub bytes : List ℕ
   pub given : Consumes old.remaining new.remaining bytes
   pub beyond : most_bytes < length bytes
+  pub endless : Endless old new
   pub sound : Sound old new
 
 -- So many reads were made without coming to an end, interrupted ones counted.
@@ -38,11 +44,12 @@ pub record ReadsOn (old new : Source) : Type 0 where
   pub given : Consumes old.remaining new.remaining bytes
   pub within : length bytes ≤ most_bytes
   pub counted : new.reads ≡ old.reads + most_reads
+  pub endless : Endless old new
   pub sound : Sound old new
 
 -- why a script was not read whole
 abbrev pub Unread : Source → Source → PlayKind → Type 0
-Unread old new ReadFault = new.has_failed ≡ true
+Unread old new ReadFault = new.failures ≡ old.failures + 1
 Unread old new TooLong = GivesTooMuch old new
 Unread old new TooManyReads = ReadsOn old new
 Unread old new NoMemory = Sound old new

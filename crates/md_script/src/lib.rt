@@ -38,7 +38,7 @@ pub use player::{play, play_last, transcript, transcript_over, write_whole};
 pub use reading::read_script;
 pub use run::Printed;
 pub use setup::{ReadSetup, Setup, image, read_image};
-pub use sink::{Put, Sink, Writer};
+pub use sink::{InMemory, Put, Sink, Writer};
 pub use source::{Got, Reader, Source};
 pub use storage::Storage;
 pub use store::{open_store, push_answer_line};

@@ -1,7 +1,9 @@
 //! What a transcript is written to.
-ghost use Rattle.std.specs.Prelude.{◌≡◌, Some, false};
+ghost use Rattle.std.specs.Prelude.{◌≡◌, Some, []};
 ghost use Rattle.md_script.specs.Sinks.{Puts};
 
+use md_dirs::Count;
+use std::alloc::Global;
 use std::io::Write;
 
 /// What writing a text came to.
@@ -14,8 +16,8 @@ pub enum Put {
     NoMemory,
 }
 
-/// Bytes that are written, as to std's `Write`, of which contracts see whether a write failed. A `Vec` is one that never fails, and
-/// `Writer` makes one of any `Write`.
+/// Bytes that are written, as to std's `Write`, of which contracts see how many writes failed and to how many memory was refused. `Writer`
+/// makes one of any `Write`, and `InMemory` holds what is written.
 pub trait Sink {
     ghost use Rattle.md_script.specs.Sinks.{Sink as State};
 
@@ -26,13 +28,44 @@ pub trait Sink {
         ensures { Puts (state self.old) (state self.new) text.now result };
 }
 
-impl Sink for Vec<u8> {
-    ghost state = { λ v. record { contents = Some v.items; has_failed = false } };
+/// A sink in memory, which never fails.
+#[derive(Drop)]
+pub struct InMemory {
+    text: Vec<u8>,
+    refusals: Count,
+}
+
+impl InMemory {
+    /// A sink that holds nothing yet.
+    pub fn new(alloc: Global) -> Self
+        ensures text { result.text.items ≡ [] }
+        ensures refusals { result.refusals.value ≡ 0 }
+    {
+        InMemory {
+            text: Vec::new(alloc),
+            refusals: Count::zero(),
+        }
+    }
+
+    /// What was written to it.
+    pub fn into_text(self) -> Vec<u8>
+        ensures { result ≡ self.text }
+    {
+        let InMemory { text, refusals: _ } = self;
+        text
+    }
+}
+
+impl Sink for InMemory {
+    ghost state = { λ s. record { contents = Some s.text.items; failures = 0; refusals = s.refusals.value } };
 
     fn put(&mut self, text: &[u8]) -> Put {
-        match self.extend_from_slice(text) {
+        match self.text.extend_from_slice(text) {
             Ok(()) => Put::Done,
-            Err(_) => Put::NoMemory,
+            Err(_) => {
+                self.refusals.raise();
+                Put::NoMemory
+            }
         }
     }
 }
@@ -41,17 +74,18 @@ impl Sink for Vec<u8> {
 #[derive(Drop)]
 pub struct Writer<W> {
     inner: W,
-    has_failed: bool,
+    failures: Count,
 }
 
 impl<W: Write> Writer<W> {
     /// A sink that was not written to yet.
     pub fn new(inner: W) -> Self
-        ensures { result ≡ record { inner = inner; has_failed = false } }
+        ensures inner { result.inner ≡ inner }
+        ensures failures { result.failures.value ≡ 0 }
     {
         Writer {
             inner,
-            has_failed: false,
+            failures: Count::zero(),
         }
     }
 
@@ -59,20 +93,17 @@ impl<W: Write> Writer<W> {
     pub fn into_inner(self) -> W
         ensures { result ≡ self.inner }
     {
-        let Writer {
-            inner,
-            has_failed: _,
-        } = self;
+        let Writer { inner, failures: _ } = self;
         inner
     }
 }
 
 impl<W: Write> Sink for Writer<W> {
-    ghost state = { λ s. record { contents = W.contents s.inner; has_failed = s.has_failed } };
+    ghost state = { λ s. record { contents = W.contents s.inner; failures = s.failures.value; refusals = 0 } };
 
     fn put(&mut self, text: &[u8]) -> Put {
         if self.inner.write_all(text).is_err() || self.inner.flush().is_err() {
-            self.has_failed = true;
+            self.failures.raise();
             return Put::Failed;
         }
         Put::Done

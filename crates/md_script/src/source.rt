@@ -1,7 +1,8 @@
 //! What a script is read from.
-ghost use Rattle.std.specs.Prelude.{◌≡◌, ◌+◌, ◌≤◌, false, length};
+ghost use Rattle.std.specs.Prelude.{◌≡◌, ◌+◌, ◌≤◌, length};
 ghost use Rattle.md_script.specs.Sources.{Reads, least_room};
 
+use md_dirs::Count;
 use std::io::{ErrorKind, Read};
 
 /// The least room that a read is offered, in bytes.
@@ -18,8 +19,9 @@ pub enum Got {
     Failed,
 }
 
-/// Bytes that come in reads, as from std's `Read`, of which contracts see how many reads there were and whether one failed. A read that
-/// was interrupted counts, and so does the one that finds the end; a failed one may. `Reader` makes one of any `Read`.
+/// Bytes that come in reads, as from std's `Read`, of which contracts see how many reads there were, how many of them found the end and how
+/// many failed. A read that was interrupted counts, and so does the one that finds the end; a failed one may. `Reader` makes one of any
+/// `Read`.
 pub trait Source {
     ghost use Rattle.md_script.specs.Sources.{Source as State};
 
@@ -37,18 +39,23 @@ pub trait Source {
 pub struct Reader<R> {
     inner: R,
     reads: u64,
-    has_failed: bool,
+    ends: Count,
+    failures: Count,
 }
 
 impl<R: Read> Reader<R> {
     /// A source that was not read from yet.
     pub fn new(inner: R) -> Self
-        ensures { result ≡ record { inner = inner; reads = 0; has_failed = false } }
+        ensures inner { result.inner ≡ inner }
+        ensures reads { result.reads ≡ 0 }
+        ensures ends { result.ends.value ≡ 0 }
+        ensures failures { result.failures.value ≡ 0 }
     {
         Reader {
             inner,
             reads: 0,
-            has_failed: false,
+            ends: Count::zero(),
+            failures: Count::zero(),
         }
     }
 
@@ -59,26 +66,31 @@ impl<R: Read> Reader<R> {
         let Reader {
             inner,
             reads: _,
-            has_failed: _,
+            ends: _,
+            failures: _,
         } = self;
         inner
     }
 }
 
 impl<R: Read> Source for Reader<R> {
-    ghost state = { λ s. record { remaining = R.remaining s.inner; reads = s.reads; has_failed = s.has_failed } };
+    ghost state = { λ s. record { remaining = R.remaining s.inner; reads = s.reads; ends = s.ends.value; failures = s.failures.value } };
 
     fn read(&mut self, room: &mut [u8]) -> Got {
         let Some(reads) = self.reads.checked_add(1) else {
-            self.has_failed = true;
+            self.failures.raise();
             return Got::Failed;
         };
         self.reads = reads;
         match self.inner.read(room) {
+            Ok(0) => {
+                self.ends.raise();
+                Got::Bytes(0)
+            }
             Ok(count) => Got::Bytes(count),
             Err(error) if error.kind() == ErrorKind::Interrupted => Got::Interrupted,
             Err(_) => {
-                self.has_failed = true;
+                self.failures.raise();
                 Got::Failed
             }
         }

@@ -1,7 +1,7 @@
 //! A script that is played to its end, and one whose text is taken and not passed on. How the streams of a process fail is in
 //! tools/check_face.
 
-use md_script::{PlayKind, Reader, Writer, play};
+use md_script::{InMemory, PlayKind, Reader, Writer, play};
 use std::alloc::Global;
 use std::io;
 use std::io::Write;
@@ -27,9 +27,9 @@ impl Write for Unflushed {
 
 /// Whether a script prints one line, up to its end.
 fn is_played(alloc: Global, script: &[u8]) -> bool {
-    let mut out = Vec::new(alloc);
+    let mut out = InMemory::new(alloc);
     match play(alloc, &mut Reader::new(script), &mut out) {
-        Ok(()) => out.as_slice() == PRINTS,
+        Ok(()) => out.into_text().as_slice() == PRINTS,
         Err(_) => false,
     }
 }

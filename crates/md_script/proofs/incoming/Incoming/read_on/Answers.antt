@@ -25,7 +25,7 @@ returns-then-self-gt-MOST_BYTES-clause-on g c = λ s start so_far.
     let long = length-drop i.filled new in
     too_much g.S.Session.step s start (g.R.Source.state c.args.source.now) (g.R.Source.state c.read_behind.new.source) i c.args.session.now so_far
     (omega arith) new (c.read_behind.ensures.front ∙ c.make_room.ensures.front) c.in-Bytes.count c.in-Bytes.ensures.read
-    (omega (arith, long, c.in-Bytes.ensures.read.fits, c.in_ok-make_room.ensures.room, c.read_behind.ensures.len)) (omega arith)
+    (omega (arith, long, c.in-Bytes.ensures.read.fits, c.in_ok-make_room.ensures.room, c.read_behind.ensures.len)) (omega arith) (omega arith)
 
 pub returns-in_ok-take_in-in-Bytes-clause-on : goal.returns-in_ok-take_in-in-Bytes-clause-on
 returns-in_ok-take_in-in-Bytes-clause-on g c = λ s start so_far.
@@ -36,7 +36,7 @@ returns-in_ok-take_in-in-Bytes-clause-on g c = λ s start so_far.
       underway = taken_more g.S.Session.step s start (g.R.Source.state c.args.source.now) (g.R.Source.state c.read_behind.new.source) i c.args.session.now so_far
           (omega arith) new (c.read_behind.ensures.front ∙ c.make_room.ensures.front) c.in-Bytes.count c.in-Bytes.ensures.read
           (omega (arith, long, c.in-Bytes.ensures.read.fits, c.in_ok-make_room.ensures.room, c.read_behind.ensures.len))
-          c.take_in.new.self c.take_in.new.session c.in_ok-take_in-in-Bytes.ensures.taken c.in_ok-take_in-in-Bytes.ensures.given;
+          (omega arith) c.take_in.new.self c.take_in.new.session c.in_ok-take_in-in-Bytes.ensures.taken c.in_ok-take_in-in-Bytes.ensures.given;
       counted = c.in-Bytes.ensures.read.counted;
     }
 
