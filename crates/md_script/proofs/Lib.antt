@@ -11,6 +11,7 @@ pub mod Underway
 pub mod Acts
 pub mod Opening
 pub mod Finishing
+pub mod Growing
 pub mod Spelled
 pub mod Written
 pub mod Made

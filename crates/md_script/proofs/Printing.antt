@@ -1,5 +1,6 @@
 -- Bytes written with escapes, from one byte that is escaped to the next.
 use Rattle.std.proofs.Common.{◌≡◌, ℕ, ◌+◌, ◌-◌, ◌<◌, ◌≤◌, Bool, true, false, ◌||◌, nat_eq, List, [], ◌∷◌, ◌++◌, length, get_or, take, drop, refl, sym, ap, ◌∙◌, arith, add-one, length-take-le, append_assoc, cond, is_ok, OnOk, Result, Ok, Err}
+use mathlib.Core.List.{IsPrefix}
 use Rattle.std.proofs.lemmas.Bool.Decides.{nat_tests}
 use Rattle.std.proofs.lemmas.List.{take-append-drop, get_or-take, get_or-drop, drop-drop}
 use Rattle.std.proofs.lemmas.List.Elements.{All-from_get_or, All-head, All-tail}
@@ -86,6 +87,7 @@ pub record SoFar (before text out : List ℕ) (done : ℕ) (marks : List ℕ) : 
   pub within : done ≤ length text
   pub left : marks ≡ places_from (is_byte3 92 10 13) text done (length text - done)
   pub written : out ++ escape_all (drop done text) ≡ before ++ escape_all text
+  pub kept : IsPrefix before out
 
 module _ (before text out : List ℕ) (done : ℕ) (marks : List ℕ) (so_far : SoFar before text out done marks) where
   -- the next mark

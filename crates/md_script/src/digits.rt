@@ -1,5 +1,6 @@
 //! Numbers in decimal, printed without an allocation of their own.
 ghost use Rattle.std.specs.Prelude.{◌≡◌, ◌++◌, ◌∷◌, [], ◌≤◌, drop, OnOk};
+ghost use mathlib.Core.List.{IsPrefix};
 ghost use Rattle.std.specs.Fmt.{decimal, signed_decimal};
 
 use crate::few::push_two;
@@ -24,9 +25,10 @@ pub(crate) fn push_number(out: &mut Vec<u8>, number: u64) -> Result<(), AllocErr
 }
 
 /// Appends a number in decimal and one byte behind it, at once.
-#[tactic(auto, using(crate::proofs::Decimals::short_decimal))]
+#[tactic(auto, using(crate::proofs::Decimals::short_decimal, crate::proofs::Growing::grown, crate::proofs::Growing::grown_if, crate::proofs::Growing::grown_on))]
 pub(crate) fn push_number_and(out: &mut Vec<u8>, number: u64, behind: u8) -> Result<(), AllocError>
-    ensures { OnOk result (out.new.items ≡ out.old.items ++ decimal number ++ behind ∷ []) }
+    ensures text { OnOk result (out.new.items ≡ out.old.items ++ decimal number ++ behind ∷ []) }
+    ensures kept { IsPrefix out.old.items out.new.items }
 {
     // One digit and the byte are two bytes, with no buffer to print in.
     if number < 10 {
@@ -40,14 +42,15 @@ pub(crate) fn push_number_and(out: &mut Vec<u8>, number: u64, behind: u8) -> Res
 
 /// Appends a number in decimal and, at once, a text that stands behind room for its digits.
 #[inline(always)]
-#[tactic(auto, using(crate::proofs::Decimals::short_decimal))]
+#[tactic(auto, using(crate::proofs::Decimals::short_decimal, crate::proofs::Growing::grown, crate::proofs::Growing::grown_if, crate::proofs::Growing::grown_on))]
 pub(crate) fn push_line<const N: usize>(
     out: &mut Vec<u8>,
     number: u64,
     line: [u8; N],
 ) -> Result<(), AllocError>
     requires { 20 ≤ N }
-    ensures { OnOk result (out.new.items ≡ out.old.items ++ decimal number ++ drop 20 line.entry) }
+    ensures text { OnOk result (out.new.items ≡ out.old.items ++ decimal number ++ drop 20 line.entry) }
+    ensures kept { IsPrefix out.old.items out.new.items }
 {
     let mut line = line;
     let whole = &mut line[..];
@@ -56,8 +59,10 @@ pub(crate) fn push_line<const N: usize>(
 }
 
 /// Appends a number in decimal, with a minus sign where it is negative.
+#[tactic(auto, using(crate::proofs::Growing::grown, crate::proofs::Growing::grown_if, crate::proofs::Growing::grown_on))]
 pub(crate) fn push_signed(out: &mut Vec<u8>, number: i64) -> Result<(), AllocError>
-    ensures { OnOk result (out.new.items ≡ out.old.items ++ signed_decimal number) }
+    ensures text { OnOk result (out.new.items ≡ out.old.items ++ signed_decimal number) }
+    ensures kept { IsPrefix out.old.items out.new.items }
 {
     let mut buffer = Buffer::new();
     out.extend_from_slice(buffer.format(number).as_bytes())

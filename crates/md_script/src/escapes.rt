@@ -1,5 +1,6 @@
 //! The escapes of bytes that are in one line.
 ghost use Rattle.std.specs.Prelude.{◌≡◌, ◌<◌, ◌++◌, true, length, Ok, Err, OnOk, IfOk, IfSome, MatchResult, MatchOption};
+ghost use mathlib.Core.List.{IsPrefix};
 ghost use Rattle.md_script.specs.Words.{Gives};
 ghost use Rattle.md_script.specs.Escapes.{escape, escape_all, meant_by, onto, byte_by_letter, unescaped};
 ghost use Rattle.std.specs.List.{list_any};
@@ -11,8 +12,10 @@ use std::alloc::{AllocError, Global};
 
 /// Appends bytes in one line: a backslash, a line feed and a carriage return as `\\`, `\n` and `\r`, and any other
 /// byte as it is. Where memory runs out, some of it may have been appended.
+#[tactic(auto, using(crate::proofs::Growing::grown, crate::proofs::Growing::grown_if, crate::proofs::Growing::grown_on))]
 pub(crate) fn push_escaped(out: &mut Vec<u8>, bytes: &[u8]) -> Result<(), AllocError>
-    ensures { OnOk result (out.new.items ≡ out.old.items ++ escape_all bytes.now) }
+    ensures text { OnOk result (out.new.items ≡ out.old.items ++ escape_all bytes.now) }
+    ensures kept { IsPrefix out.old.items out.new.items }
 {
     if has_mark(bytes) {
         return push_marked(out, bytes);
@@ -32,8 +35,10 @@ fn has_mark(bytes: &[u8]) -> bool
 }
 
 /// The same of any bytes, from one mark to the next. Apart, since most bytes have none.
+#[tactic(auto, using(crate::proofs::Growing::grown, crate::proofs::Growing::grown_if, crate::proofs::Growing::grown_on))]
 fn push_marked(out: &mut Vec<u8>, bytes: &[u8]) -> Result<(), AllocError>
-    ensures { OnOk result (out.new.items ≡ out.old.items ++ escape_all bytes.now) }
+    ensures text { OnOk result (out.new.items ≡ out.old.items ++ escape_all bytes.now) }
+    ensures kept { IsPrefix out.old.items out.new.items }
 {
     let mut marks = memchr3_iter(b'\\', b'\n', b'\r', bytes);
     let mut done = 0;

@@ -1,11 +1,14 @@
 //! Few bytes, appended.
 ghost use Rattle.std.specs.Prelude.{◌≡◌, ◌++◌, ◌∷◌, [], OnOk, codes};
+ghost use mathlib.Core.List.{IsPrefix};
 
 use std::alloc::AllocError;
 
 /// Appends bytes one by one. Where they are few, this costs less than to copy them at once.
+#[tactic(auto, using(crate::proofs::Growing::grown, crate::proofs::Growing::grown_if, crate::proofs::Growing::grown_on))]
 pub(crate) fn push_few(out: &mut Vec<u8>, bytes: &[u8]) -> Result<(), AllocError>
-    ensures { OnOk result (out.new.items ≡ out.old.items ++ bytes.now) }
+    ensures text { OnOk result (out.new.items ≡ out.old.items ++ bytes.now) }
+    ensures kept { IsPrefix out.old.items out.new.items }
 {
     for byte in bytes {
         out.push(*byte)?;
@@ -14,8 +17,10 @@ pub(crate) fn push_few(out: &mut Vec<u8>, bytes: &[u8]) -> Result<(), AllocError
 }
 
 /// Appends two bytes, with one look for room.
+#[tactic(auto, using(crate::proofs::Growing::grown, crate::proofs::Growing::grown_if, crate::proofs::Growing::grown_on))]
 pub(crate) fn push_two(out: &mut Vec<u8>, first: u8, second: u8) -> Result<(), AllocError>
-    ensures { OnOk result (out.new.items ≡ out.old.items ++ first ∷ second ∷ []) }
+    ensures text { OnOk result (out.new.items ≡ out.old.items ++ first ∷ second ∷ []) }
+    ensures kept { IsPrefix out.old.items out.new.items }
 {
     out.reserve(2)?;
     out.push_reserved(first);
@@ -24,8 +29,10 @@ pub(crate) fn push_two(out: &mut Vec<u8>, first: u8, second: u8) -> Result<(), A
 }
 
 /// Appends a byte between two spaces, with one look for room.
+#[tactic(auto, using(crate::proofs::Growing::grown, crate::proofs::Growing::grown_if, crate::proofs::Growing::grown_on))]
 pub(crate) fn push_spaced_byte(out: &mut Vec<u8>, byte: u8) -> Result<(), AllocError>
-    ensures { OnOk result (out.new.items ≡ out.old.items ++ codes " " ++ byte ∷ codes " ") }
+    ensures text { OnOk result (out.new.items ≡ out.old.items ++ codes " " ++ byte ∷ codes " ") }
+    ensures kept { IsPrefix out.old.items out.new.items }
 {
     out.reserve(3)?;
     out.push_reserved(b' ');
@@ -35,13 +42,15 @@ pub(crate) fn push_spaced_byte(out: &mut Vec<u8>, byte: u8) -> Result<(), AllocE
 }
 
 /// Appends a word of three letters and a space, with one look for room.
+#[tactic(auto, using(crate::proofs::Growing::grown, crate::proofs::Growing::grown_if, crate::proofs::Growing::grown_on))]
 pub(crate) fn push_word(
     out: &mut Vec<u8>,
     first: u8,
     second: u8,
     third: u8,
 ) -> Result<(), AllocError>
-    ensures { OnOk result (out.new.items ≡ out.old.items ++ first ∷ second ∷ third ∷ codes " ") }
+    ensures text { OnOk result (out.new.items ≡ out.old.items ++ first ∷ second ∷ third ∷ codes " ") }
+    ensures kept { IsPrefix out.old.items out.new.items }
 {
     out.reserve(4)?;
     out.push_reserved(first);

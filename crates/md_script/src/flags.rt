@@ -1,5 +1,6 @@
 //! The flags of a message, as they print.
 ghost use Rattle.std.specs.Prelude.{ℕ, suc, ◌≡◌, ◌<◌, ◌++◌, length, position, slice_index, IfSome, IsTrue, OnOk, codes};
+ghost use mathlib.Core.List.{IsPrefix};
 ghost use Rattle.std.specs.List.{list_all};
 ghost use Rattle.md_name.specs.Letters.{is_letter, spelling};
 ghost use Rattle.md_name.specs.Names.{is_colon, split_of, flags_of, info_by};
@@ -17,6 +18,7 @@ const OTHER_INFO: u8 = b'?';
 
 /// Appends the flags of a message by its name, whose first colon is there, or that its info is other than flags: between two spaces, which
 /// are appended with them at once where there is one flag or none.
+#[tactic(auto, using(crate::proofs::Growing::grown, crate::proofs::Growing::grown_if, crate::proofs::Growing::grown_on))]
 pub(crate) fn push_spaced_flags(
     out: &mut Vec<u8>,
     name: &[u8],
@@ -24,7 +26,8 @@ pub(crate) fn push_spaced_flags(
 ) -> Result<(), AllocError>
     requires colon { colon ≡ position is_colon name.now }
     requires within { IfSome colon (λ at. at < length name.now) }
-    ensures { OnOk result (out.new.items ≡ out.old.items ++ codes " " ++ flags_text (flags_by (split_of name.now)) ++ codes " ") }
+    ensures text { OnOk result (out.new.items ≡ out.old.items ++ codes " " ++ flags_text (flags_by (split_of name.now)) ++ codes " ") }
+    ensures kept { IsPrefix out.old.items out.new.items }
 {
     match written_flags(name, colon) {
         Some(letters) => push_spaced(out, letters),
@@ -37,9 +40,10 @@ pub(crate) fn push_spaced_flags(
 }
 
 /// The same of any name, whatever its flags are written like.
-#[tactic(auto, using(crate::proofs::Spelled::spelled_none))]
+#[tactic(auto, using(crate::proofs::Spelled::spelled_none, crate::proofs::Growing::grown, crate::proofs::Growing::grown_if, crate::proofs::Growing::grown_on))]
 fn push_read_flags(out: &mut Vec<u8>, name: &[u8]) -> Result<(), AllocError>
-    ensures { OnOk result (out.new.items ≡ out.old.items ++ flags_text (flags_by (split_of name.now))) }
+    ensures text { OnOk result (out.new.items ≡ out.old.items ++ flags_text (flags_by (split_of name.now))) }
+    ensures kept { IsPrefix out.old.items out.new.items }
 {
     let Some((_, info)) = split(name) else {
         return Ok(out.push(OTHER_INFO)?);
@@ -53,8 +57,10 @@ fn push_read_flags(out: &mut Vec<u8>, name: &[u8]) -> Result<(), AllocError>
 }
 
 /// Appends the letters of flags in ASCII order, and a hyphen where there are none.
+#[tactic(auto, using(crate::proofs::Growing::grown, crate::proofs::Growing::grown_if, crate::proofs::Growing::grown_on))]
 pub(crate) fn push_letters(out: &mut Vec<u8>, flags: Flags) -> Result<(), AllocError>
-    ensures { OnOk result (out.new.items ≡ out.old.items ++ letters_text (spelling flags)) }
+    ensures text { OnOk result (out.new.items ≡ out.old.items ++ letters_text (spelling flags)) }
+    ensures kept { IsPrefix out.old.items out.new.items }
 {
     let before = out.len();
     flags.write_onto(out)?;
@@ -65,8 +71,10 @@ pub(crate) fn push_letters(out: &mut Vec<u8>, flags: Flags) -> Result<(), AllocE
 }
 
 /// Appends letters, and a hyphen where there are none, between two spaces.
+#[tactic(auto, using(crate::proofs::Growing::grown, crate::proofs::Growing::grown_if, crate::proofs::Growing::grown_on))]
 fn push_spaced(out: &mut Vec<u8>, letters: &[u8]) -> Result<(), AllocError>
-    ensures { OnOk result (out.new.items ≡ out.old.items ++ codes " " ++ letters_text letters.now ++ codes " ") }
+    ensures text { OnOk result (out.new.items ≡ out.old.items ++ codes " " ++ letters_text letters.now ++ codes " ") }
+    ensures kept { IsPrefix out.old.items out.new.items }
 {
     match letters {
         [] => push_spaced_byte(out, NO_FLAGS),

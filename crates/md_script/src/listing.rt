@@ -1,5 +1,6 @@
 //! The lines of listings.
 ghost use Rattle.std.specs.Prelude.{◌≡◌, ◌≤◌, ◌++◌, IfOk, OnOk, take, length, codes};
+ghost use mathlib.Core.List.{IsPrefix};
 ghost use Rattle.md_script.specs.Texts.{place_text, entry_line, entries_text};
 
 use crate::digits::push_number_and;
@@ -20,8 +21,10 @@ const BUFFER: usize = 2048;
 ///
 /// The flags are letters in ASCII order, `-` where there are none, and `?` where the info of the name is no list of flags. The size is in
 /// bytes. Where memory runs out, some of the lines may have been appended.
+#[tactic(auto, using(crate::proofs::Growing::grown, crate::proofs::Growing::grown_if, crate::proofs::Growing::grown_on))]
 pub fn push_entries(out: &mut Vec<u8>, entries: &[Entry]) -> Result<(), AllocError>
-    ensures { OnOk result (out.new.items ≡ out.old.items ++ entries_text entries.now) }
+    ensures text { OnOk result (out.new.items ≡ out.old.items ++ entries_text entries.now) }
+    ensures kept { IsPrefix out.old.items out.new.items }
 {
     for entry in entries {
         push_entry(out, &entry.lent())?;
@@ -74,8 +77,10 @@ fn put_entry(
 }
 
 /// Appends the line of an entry.
+#[tactic(auto, using(crate::proofs::Growing::grown, crate::proofs::Growing::grown_if, crate::proofs::Growing::grown_on))]
 fn push_entry(out: &mut Vec<u8>, entry: &EntryRef<'_>) -> Result<(), AllocError>
-    ensures { OnOk result (out.new.items ≡ out.old.items ++ entry_line entry.now) }
+    ensures text { OnOk result (out.new.items ≡ out.old.items ++ entry_line entry.now) }
+    ensures kept { IsPrefix out.old.items out.new.items }
 {
     push_place(out, entry.place())?;
     out.extend_from_slice(entry.unique())?;
@@ -84,8 +89,10 @@ fn push_entry(out: &mut Vec<u8>, entry: &EntryRef<'_>) -> Result<(), AllocError>
 }
 
 /// Appends the name of a directory of a maildir, and a space.
+#[tactic(auto, using(crate::proofs::Growing::grown, crate::proofs::Growing::grown_if, crate::proofs::Growing::grown_on))]
 fn push_place(out: &mut Vec<u8>, place: Place) -> Result<(), AllocError>
-    ensures { OnOk result (out.new.items ≡ out.old.items ++ place_text place ++ codes " ") }
+    ensures text { OnOk result (out.new.items ≡ out.old.items ++ place_text place ++ codes " ") }
+    ensures kept { IsPrefix out.old.items out.new.items }
 {
     match place {
         Place::Tmp => push_word(out, b't', b'm', b'p'),

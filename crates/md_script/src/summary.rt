@@ -1,5 +1,6 @@
 //! What made names and header summaries print.
 ghost use Rattle.std.specs.Prelude.{◌≡◌, ◌++◌, codes, OnOk};
+ghost use mathlib.Core.List.{IsPrefix};
 ghost use Rattle.std.specs.Option.{option_copied};
 ghost use Rattle.md_script.specs.Texts.{line_end, value_line, seconds_line, values_text, summary_text};
 
@@ -20,8 +21,10 @@ pub(crate) fn push_unique(out: &mut Vec<u8>, name: &[u8]) -> Result<(), AllocErr
 }
 
 /// Appends the lines of a header summary, a line for each value that is there, and `end`.
+#[tactic(auto, using(crate::proofs::Growing::grown, crate::proofs::Growing::grown_if, crate::proofs::Growing::grown_on))]
 pub fn push_summary(out: &mut Vec<u8>, summary: &Summary) -> Result<(), AllocError>
-    ensures { OnOk result (out.new.items ≡ out.old.items ++ summary_text summary.now) }
+    ensures text { OnOk result (out.new.items ≡ out.old.items ++ summary_text summary.now) }
+    ensures kept { IsPrefix out.old.items out.new.items }
 {
     push_values(out, summary)?;
     push_seconds(out, summary.seconds)?;
@@ -30,8 +33,10 @@ pub fn push_summary(out: &mut Vec<u8>, summary: &Summary) -> Result<(), AllocErr
     Ok(())
 }
 
+#[tactic(auto, using(crate::proofs::Growing::grown, crate::proofs::Growing::grown_if, crate::proofs::Growing::grown_on))]
 fn push_values(out: &mut Vec<u8>, summary: &Summary) -> Result<(), AllocError>
-    ensures { OnOk result (out.new.items ≡ out.old.items ++ values_text summary.now) }
+    ensures text { OnOk result (out.new.items ≡ out.old.items ++ values_text summary.now) }
+    ensures kept { IsPrefix out.old.items out.new.items }
 {
     push_value(out, b"subject", summary.subject.as_ref())?;
     push_value(out, b"from", summary.from.as_ref())?;
@@ -39,8 +44,10 @@ fn push_values(out: &mut Vec<u8>, summary: &Summary) -> Result<(), AllocError>
     push_value(out, b"date", summary.date.as_ref())
 }
 
+#[tactic(auto, using(crate::proofs::Growing::grown, crate::proofs::Growing::grown_if, crate::proofs::Growing::grown_on))]
 fn push_value(out: &mut Vec<u8>, name: &[u8], value: Option<&Bytes>) -> Result<(), AllocError>
-    ensures { OnOk result (out.new.items ≡ out.old.items ++ value_line name.now (option_copied value.entry)) }
+    ensures text { OnOk result (out.new.items ≡ out.old.items ++ value_line name.now (option_copied value.entry)) }
+    ensures kept { IsPrefix out.old.items out.new.items }
 {
     let Some(value) = value else {
         return Ok(());
@@ -52,8 +59,10 @@ fn push_value(out: &mut Vec<u8>, name: &[u8], value: Option<&Bytes>) -> Result<(
     Ok(())
 }
 
+#[tactic(auto, using(crate::proofs::Growing::grown, crate::proofs::Growing::grown_if, crate::proofs::Growing::grown_on))]
 fn push_seconds(out: &mut Vec<u8>, seconds: Option<i64>) -> Result<(), AllocError>
-    ensures { OnOk result (out.new.items ≡ out.old.items ++ seconds_line seconds) }
+    ensures text { OnOk result (out.new.items ≡ out.old.items ++ seconds_line seconds) }
+    ensures kept { IsPrefix out.old.items out.new.items }
 {
     let Some(seconds) = seconds else {
         return Ok(());

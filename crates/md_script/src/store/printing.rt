@@ -1,5 +1,6 @@
 //! What jobs, their steps and messages print.
 ghost use Rattle.std.specs.Prelude.{◌≡◌, ◌++◌, Some, OnOk, codes, decimal, option_map};
+ghost use mathlib.Core.List.{IsPrefix};
 ghost use Rattle.md_script.specs.Texts.{line_end, job_text, call_text, reply_text, answer_text, answer_line, out_text, bytes_text};
 
 use crate::digits::{push_line, push_number, push_number_and};
@@ -79,8 +80,10 @@ fn push_appended(out: &mut Vec<u8>, job: JobId, count: u64) -> Result<(), AllocE
 }
 
 /// Appends `J answer A`, the line of a job's answer. Where memory runs out, some of it may have been appended.
+#[tactic(auto, using(crate::proofs::Growing::grown, crate::proofs::Growing::grown_if, crate::proofs::Growing::grown_on))]
 pub fn push_answer_line(out: &mut Vec<u8>, job: JobId, answer: Answer) -> Result<(), AllocError>
-    ensures { OnOk result (out.new.items ≡ out.old.items ++ answer_line job (Some answer)) }
+    ensures text { OnOk result (out.new.items ≡ out.old.items ++ answer_line job (Some answer)) }
+    ensures kept { IsPrefix out.old.items out.new.items }
 {
     match answer {
         Answer::Delivered => push_line(out, job, *b"00000000000000000000 answer delivered\n"),

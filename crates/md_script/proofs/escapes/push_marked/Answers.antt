@@ -1,11 +1,12 @@
 use Rattle.std.proofs.Common.{◌≡◌, ◌≤◌, ◌+◌, ◌-◌, ◌++◌, ◌∙◌, get_or, length, take, drop, ap, sym, refl, arith}
 use Rattle.md_script.specs.Escapes.{escape, escape_all}
 use Rattle.md_script.proofs.Firsts.{rest_whole}
+use Rattle.md_script.proofs.Growing.{grown, grown_on, grown_same}
 use Rattle.md_script.proofs.Printing.{mark_after, goes_on, ends_plain, turned, left_over}
 use Rattle.md_script.proofs.escapes.push_marked.Goals as goal
 
 pub loop-at-init : goal.loop-at-init
-loop-at-init c = record { within = omega arith; left = c.memchr3_iter-marks.ensures.value; written = refl }
+loop-at-init c = record { within = omega arith; left = c.memchr3_iter-marks.ensures.value; written = refl; kept = grown_same _ _ refl }
 
 pub slice_bounds-extend_from_slice-count : goal.slice_bounds-extend_from_slice-count
 slice_bounds-extend_from_slice-count c = (mark_after _ _ _ _ _ c.loop-at.invariant _ _ c.in-Some.ensures.steps).low
@@ -39,13 +40,14 @@ loop-at-preserved c =
       within = omega (arith, next.high);
       left = next.marks;
       written = ap (λ t. t ++ escape_all (drop (at + 1) text)) items ∙ turned _ _ _ _ _ _ (goes_on _ _ _ _ _ c.loop-at.invariant _ _ c.in-Some.ensures.steps) c.loop-at.invariant.written;
+      kept = grown_on _ _ _ c.loop-at.invariant.kept (grown_on _ _ _ (grown _ _ _ first) (grown _ _ _ second));
     }
 
 pub slice_bounds-extend_from_slice-count-2 : goal.slice_bounds-extend_from_slice-count-2
 slice_bounds-extend_from_slice-count-2 c = c.loop-at.invariant.within
 
-pub returns : goal.returns
-returns c =
+pub returns-clause-text : goal.returns-clause-text
+returns-clause-text c =
     let so_far = c.loop-at.invariant in
     let text = c.args.bytes.now in
     let done = c.loop-at.done in

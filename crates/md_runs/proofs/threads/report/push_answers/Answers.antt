@@ -9,6 +9,6 @@ pub loop-before-preserved : goal.loop-before-preserved
 loop-before-preserved g c =
     let has = sym c.answer.ensures ∙ c.in-Some.is in
     record {
-      text = more-answers _ _ _ _ _ c.in-Some.answer c.loop-before.invariant.text has c.in_ok-push_answer_line.ensures;
+      text = more-answers _ _ _ _ _ c.in-Some.answer c.loop-before.invariant.text has c.in_ok-push_answer_line.ensures.text;
       answered = more-answered _ _ c.in-Some.answer c.loop-before.invariant.answered has;
     }

@@ -12,4 +12,4 @@ returns-then-count-lt10 c =
       append_assoc front (codes " append ") digit,
       append_assoc front (codes " append " ++ digit) (codes " ok"),
       append_assoc front ((codes " append " ++ digit) ++ codes " ok") line_end,
-    ) c.push_line.ensures
+    ) c.push_line.ensures.text
