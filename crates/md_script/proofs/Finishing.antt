@@ -7,6 +7,10 @@ use Rattle.md_jobs.specs.declared.answer.Answer.{Answer}
 use Rattle.md_jobs.specs.declared.step.Event.{Event}
 use Rattle.md_core.specs.Machine.{Occurrence, Standing, working, answered, job_at}
 use Rattle.md_core.specs.Laws.{HasJob}
+use Rattle.md_core.specs.Stepping.{IsRun}
+use Rattle.md_core.proofs.Machines.EachTurn.{each-turn}
+use Rattle.md_core.proofs.Runs.Extended.{is_run-and_event}
+use Rattle.md_core.proofs.Theorem.Bounds.{steps_left-less}
 use Rattle.md_core.specs.Runs.{Run, jobs_of, and_event, answer_of, step_refusal, steps_left}
 use Rattle.md_script.specs.declared.error.PlayKind.{PlayKind}
 use Rattle.md_script.specs.Step.{Steps}
@@ -16,7 +20,10 @@ use Rattle.md_script.proofs.Acts.{is_done, was_done, refused_too}
 abbrev job_in : Run → ℕ → Option Standing
 job_in r job = job_at (jobs_of r) job
 
--- the law of jobs whose next step is not refused: a step is left, and leaves the job there
+-- the law of jobs whose next step is not refused: they are there, a step is left, and leaves the job there
+abbrev IsThere : Type 0
+IsThere = (r : Run) (job : ℕ) → step_refusal (job_in r job) ≡ None → HasJob r job
+
 abbrev IsLeft : Type 0
 IsLeft = (r : Run) (job : ℕ) → step_refusal (job_in r job) ≡ None → 0 < steps_left r job
 
@@ -138,3 +145,42 @@ unfolding step_in finish_in
 finishes-refused r event s t text text' kind is =
     refused_too (event_refusal r event) (and_event r (without_fault event), step_text r event)
     (steps_of (steps_left r event.job) r event) s t text text' kind is
+
+-- a job that is there and whose next step is refused has its answer
+is_answered : (o : Option Standing) (job : Standing) → o ≡ Some job → is_some (step_refusal o) ≡ true → is_some (answer_of o) ≡ true
+is_answered None job is refused = cc
+is_answered (Some (working task)) job is refused = cc
+is_answered (Some (answered a)) job is refused = refl
+
+answered_by : (r : Run) (job : ℕ) → HasJob r job → is_some (step_refusal (job_in r job)) ≡ true → is_some (answer_of (job_in r job)) ≡ true
+answered_by r job there refused = let at = job_of (jobs_of r) job there.from there.within in is_answered (job_in r job) at.0 at.1 refused
+
+-- as many steps as are left answer the job
+steps-answer : IsLeft → Stays → (n : ℕ) (r : Run) (event : Event) → IsRun r → HasJob r event.job → steps_left r event.job ≤ n →
+    is_some (answer_of (job_in (steps_of n r event).0 event.job)) ≡ true
+unfolding steps_of
+steps-answer is_left stays zero r event run there few = by (event_refusal r event) refl
+  where
+    by : (o : Option CoreError) → event_refusal r event ≡ o → is_some (answer_of (job_in r event.job)) ≡ true
+    by None is = absurd (let some = is_left r event.job is in omega arith)
+    by (Some e) is = answered_by r event.job there (ap is_some is)
+steps-answer is_left stays (suc more) r event run there few = by (λ s later there few. steps-answer is_left stays more s event later there few) (event_refusal r event) refl
+  where
+    by : ((s : Run) → IsRun s → HasJob s event.job → steps_left s event.job ≤ more → is_some (answer_of (job_in (steps_of more s event).0 event.job)) ≡ true) →
+        (o : Option CoreError) → event_refusal r event ≡ o → is_some (answer_of (job_in (steps_of (suc more) r event).0 event.job)) ≡ true
+    by answers None is =
+        let goes_on : is_some (event_refusal r event) ≡ false = ap is_some is in
+        let less = steps_left-less r run each-turn (without_fault event) is in
+        rw goes_on (answers (and_event r (without_fault event)) (is_run-and_event r (without_fault event) run is) (stays r (without_fault event) is) (omega (arith, less)))
+    by answers (Some e) is =
+        let ends : is_some (event_refusal r event) ≡ true = ap is_some is in
+        rw ends (answered_by r event.job there ends)
+
+-- what `finish` leaves, where it is not refused, has the job's answer
+pub finish-answers : IsLeft → Stays → IsThere → (r : Run) → IsRun r → (event : Event) (after : Run × List ℕ) → finish_in r event ≡ Ok after →
+    is_some (answer_of (job_in after.0 event.job)) ≡ true
+unfolding finish_in
+finish-answers is_left stays is_there r run event after is =
+    let done = was_done (event_refusal r event) _ after is in
+    subst (λ (x : Run × List ℕ). is_some (answer_of (job_in x.0 event.job)) ≡ true) done.1
+    (steps-answer is_left stays (steps_left r event.job) r event run (is_there r event.job done.0) (omega arith))

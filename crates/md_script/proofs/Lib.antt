@@ -12,6 +12,8 @@ pub mod Acts
 pub mod Opening
 pub mod Finishing
 pub mod Growing
+pub mod GoingOn
+pub mod ScriptRuns
 pub mod Spelled
 pub mod Written
 pub mod Made
