@@ -5,7 +5,7 @@ ghost use Rattle.md_ffi.specs.Naming.{Indexes};
 use crate::refusal::{Refusal, status};
 use crate::room::lay;
 use crate::seed::seed_of;
-use md_indexing::{InTurn, index_text};
+use md_indexing::index_text;
 use std::alloc::Global;
 
 /// Lays the index of `folder` and `file` lines into `out`, as `maildir_cli index` prints it, and sets `length` to its length and `line` to
@@ -27,7 +27,7 @@ pub extern "C" fn md_ffi_index(
 {
     *length = 0;
     *line = 0;
-    match index_text(alloc, seed_of(random), &InTurn, lines) {
+    match index_text(alloc, seed_of(random), lines) {
         Ok(text) => status(lay(&text, out, length)),
         Err(refused) => {
             *line = refused.line;

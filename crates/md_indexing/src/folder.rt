@@ -1,7 +1,8 @@
 //! The messages of a folder, and the lines of one.
-ghost use Rattle.std.specs.Prelude.{◌≡◌, ◌++◌, IfOk, OnOk};
+ghost use Rattle.std.specs.Prelude.{◌≡◌, ◌<◌, ◌++◌, IfOk, IfErr, OnOk};
 ghost use Rattle.md_core.specs.Mailbox.{mailbox_of};
 ghost use Rattle.md_core.specs.Runs.{dirs_of};
+ghost use Rattle.md_view.specs.Readings.{reading_refusal};
 ghost use Rattle.md_indexing.specs.Indexing.{bytes_in, indexed_text, listing_in};
 
 use md_core::World;
@@ -17,7 +18,9 @@ pub fn listing<'a, D: Dirs>(
     world: &'a World<D>,
     folder: u32,
 ) -> Result<Vec<EntryRef<'a>>, ViewError>
-    ensures { IfOk result (λ all. all.items ≡ listing_in (mailbox_of (dirs_of world.now)) folder) }
+    ensures entries { IfOk result (λ all. all.items ≡ listing_in (mailbox_of (dirs_of world.now)) folder) }
+    ensures folder { IfOk result (λ _. folder < (dirs_of world.now).folders) }
+    ensures refusal { IfErr result (λ error. error ≡ reading_refusal (dirs_of world.now) folder) }
 {
     world.interleaves();
     Ok(list_lent(alloc, world, folder)?.into_vec(alloc)?)

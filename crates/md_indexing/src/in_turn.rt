@@ -3,34 +3,30 @@ ghost use Rattle.std.specs.Prelude.{◌≡◌, ◌++◌, OnOk};
 ghost use Rattle.std.specs.List.{flat_map};
 ghost use Rattle.md_core.specs.Mailbox.{mailbox_of};
 ghost use Rattle.md_core.specs.Runs.{dirs_of};
-ghost use Rattle.md_indexing.specs.Indexing.{message_text};
+ghost use Rattle.md_indexing.specs.Indexing.{folder_text, message_text};
 
 use crate::folder::{bytes_of, listing, push_indexed};
-use crate::indexer::Indexer;
 use md_core::World;
-use md_dirs::{Dirs, IndexDirs};
+use md_dirs::Dirs;
 use md_head::{HeadError, summary};
 use md_view::EntryRef;
 use std::alloc::{AllocError, Global};
 
-/// Makes a summary after the other, and keeps none: each is appended as soon as it is made.
-#[derive(Clone, Copy, Debug)]
-pub struct InTurn;
-
-impl Indexer for InTurn {
-    fn push_folder(
-        &self,
-        alloc: Global,
-        world: &World<IndexDirs>,
-        folder: u32,
-        name: &[u8],
-        out: &mut Vec<u8>,
-    ) -> Result<(), AllocError> {
-        let Ok(entries) = listing(alloc, world, folder) else {
-            return Err(AllocError);
-        };
-        push_messages(alloc, world, name, &entries, out)
-    }
+/// Appends the index of the folder of this number under this name. No summary is kept: each is appended as soon as it is made. Where it is
+/// refused, memory was, and some of it may have been appended.
+pub(crate) fn push_folder<D: Dirs>(
+    alloc: Global,
+    world: &World<D>,
+    folder: u32,
+    name: &[u8],
+    out: &mut Vec<u8>,
+) -> Result<(), AllocError>
+    ensures { OnOk result (out.new.items ≡ out.old.items ++ folder_text (mailbox_of (dirs_of world.now)) folder name.now) }
+{
+    let Ok(entries) = listing(alloc, world, folder) else {
+        return Err(AllocError);
+    };
+    push_messages(alloc, world, name, &entries, out)
 }
 
 /// Appends messages of a folder of this name.

@@ -7,10 +7,10 @@ ghost use Rattle.md_script.specs.Kinds.{at_no_line};
 ghost use Rattle.md_script.specs.declared.error.PlayKind.TheVariants.{NoMemory};
 ghost use Rattle.md_indexing.specs.Indexing.{index_from, index_of_script, index_over};
 
-use crate::indexer::Indexer;
+use crate::in_turn::push_folder;
 use crate::loading::{load, refused};
 use md_core::World;
-use md_dirs::{HashSeed, ImageFile, IndexDirs};
+use md_dirs::{Dirs, HashSeed, ImageFile};
 use md_script::{PlayError, PlayKind, Setup, count_lines, image};
 use std::alloc::{AllocError, Global};
 
@@ -19,12 +19,7 @@ use std::alloc::{AllocError, Global};
 ///
 /// Refused at the first line that is: `NotInThisRun` where it has another command, else as its words are. Where the files make no store it
 /// is refused at the last line, as `open_store` is. `NoMemory`, at line 0, may come in place of either.
-pub fn index_text<I: Indexer>(
-    alloc: Global,
-    seed: HashSeed,
-    indexer: &I,
-    script: &[u8],
-) -> Result<Vec<u8>, PlayError>
+pub fn index_text(alloc: Global, seed: HashSeed, script: &[u8]) -> Result<Vec<u8>, PlayError>
     ensures { MatchResult result
         (λ text. index_of_script script.now ≡ Ok text.items)
         (λ e. (e ≡ at_no_line NoMemory) ⊎ (index_of_script script.now ≡ Err e)) }
@@ -34,7 +29,7 @@ pub fn index_text<I: Indexer>(
         files,
         calls: _,
     } = image(alloc, script, false)?;
-    match text_over(alloc, seed, indexer, &folders, files) {
+    match text_over(alloc, seed, &folders, files) {
         Ok(text) => Ok(text),
         Err(kind) => Err(refused(count_lines(script), kind)),
     }
@@ -42,10 +37,9 @@ pub fn index_text<I: Indexer>(
 
 /// The index of the store over folders and files.
 #[tactic(auto, unfolding(crate::specs::Indexing::index_over))]
-fn text_over<I: Indexer>(
+fn text_over(
     alloc: Global,
     seed: HashSeed,
-    indexer: &I,
     names: &[Vec<u8>],
     files: Vec<ImageFile>,
 ) -> Result<Vec<u8>, PlayKind>
@@ -54,15 +48,14 @@ fn text_over<I: Indexer>(
         (λ kind. kind ≢ NoMemory → index_over (names_of names.now) files.items ≡ Err kind) }
 {
     let world = load(alloc, seed, names, files)?;
-    Ok(folders_text(alloc, indexer, &world, names)?)
+    Ok(folders_text(alloc, &world, names)?)
 }
 
 /// The index of folders of these names, of which the first has the number 0.
 #[tactic(auto, unfolding(crate::specs::Indexing::index_from))]
-fn folders_text<I: Indexer>(
+fn folders_text<D: Dirs>(
     alloc: Global,
-    indexer: &I,
-    world: &World<IndexDirs>,
+    world: &World<D>,
     names: &[Vec<u8>],
 ) -> Result<Vec<u8>, AllocError>
     ensures { IfOk result (λ text. text.items ≡ index_from (mailbox_of (dirs_of world.now)) 0 (names_of names.now)) }
@@ -71,7 +64,7 @@ fn folders_text<I: Indexer>(
     let mut folder = 0u32;
     let mut left = names;
     while let [name, others @ ..] = left {
-        indexer.push_folder(alloc, world, folder, name, &mut text)?;
+        push_folder(alloc, world, folder, name, &mut text)?;
         // No memory holds so many folders.
         let Some(next) = folder.checked_add(1) else {
             return Err(AllocError);
