@@ -5,7 +5,7 @@ ghost use Rattle.maildir_cli.specs.Program.{Ends, IsWithin, Performs, Reported, 
 use crate::command::{Answer, command};
 use crate::refusal::refusal_line;
 use md_dirs::HashSeed;
-use md_runs::{Run, RunFault, run_index_with_seed, run_threads_with_seed};
+use md_runs::{Run, RunFault, run_index, run_threads};
 use md_script::{PlayKind, Sink, Source, play_last, write_whole};
 use std::alloc::Global;
 use std::sync::Wait;
@@ -64,12 +64,8 @@ fn perform<R: Threads + Wait + Sync, S: Source, T: Sink>(
 {
     match run {
         Run::Play => Ok(play_last(alloc, seed, source, sink)?),
-        Run::Threads(count) => {
-            run_threads_with_seed(rt, alloc, seed, count as usize, source, sink)
-        }
-        Run::Index(count) => {
-            Ok(run_index_with_seed(rt, alloc, seed, count as usize, source, sink)?)
-        }
+        Run::Threads(count) => run_threads(rt, alloc, seed, count as usize, source, sink),
+        Run::Index(count) => Ok(run_index(rt, alloc, seed, count as usize, source, sink)?),
     }
 }
 

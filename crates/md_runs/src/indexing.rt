@@ -30,22 +30,8 @@ use workers::push_folder;
 /// store can't be opened, which has the number of the last line; nor at the refusals of line 0: `ReadFault`, `TooLong`, `TooManyReads`
 /// and `NoMemory`. After `WriteFault`, at line 0 too, nothing is known of what was written.
 ///
-/// It is the last thing that a process does: the memory of the store isn't given back. Names are hashed by the fixed seed.
+/// It is the last thing that a process does: the memory of the store isn't given back. Names are hashed by a seed.
 pub fn run_index<R: Threads + Wait + Sync, S: Source, T: Sink>(
-    rt: &R,
-    alloc: Global,
-    workers: usize,
-    source: &mut S,
-    sink: &mut T,
-) -> Result<(), PlayError>
-    requires { (1 ≤ workers) × (workers ≤ 64) }
-    ensures { Indexes (S.state source.old) (S.state source.new) (T.state sink.old) (T.state sink.new) result }
-{
-    run_index_with_seed(rt, alloc, HashSeed::fixed(), workers, source, sink)
-}
-
-/// The same, with the same refusals, where names are hashed by a seed. It is the last thing that a process does too.
-pub fn run_index_with_seed<R: Threads + Wait + Sync, S: Source, T: Sink>(
     rt: &R,
     alloc: Global,
     seed: HashSeed,

@@ -8,6 +8,6 @@ mod threads;
 mod words;
 
 pub use fault::RunFault;
-pub use indexing::{run_index, run_index_with_seed};
-pub use threads::{run_threads, run_threads_with_seed};
+pub use indexing::run_index;
+pub use threads::run_threads;
 pub use words::{MOST_THREADS, MOST_WORKERS, Run, run_named};

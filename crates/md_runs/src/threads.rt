@@ -31,22 +31,8 @@ use std::thread::Threads;
 /// answered, or at the refusals of line 0: `ReadFault`, `TooLong`, `TooManyReads` and `NoMemory`. After `WriteFault`, at line 0 too,
 /// nothing is known of what was written.
 ///
-/// It is the last thing that a process does: the memory of the store isn't given back. Names are hashed by the fixed seed.
+/// It is the last thing that a process does: the memory of the store isn't given back. Names are hashed by a seed.
 pub fn run_threads<R: Threads + Wait + Sync, S: Source, T: Sink>(
-    rt: &R,
-    alloc: Global,
-    threads: usize,
-    source: &mut S,
-    sink: &mut T,
-) -> Result<(), RunFault>
-    requires { (1 ≤ threads) × (threads ≤ 16) }
-    ensures { RunsThreads (S.state source.old) (S.state source.new) (T.state sink.old) (T.state sink.new) result }
-{
-    run_threads_with_seed(rt, alloc, HashSeed::fixed(), threads, source, sink)
-}
-
-/// The same, with the same refusals, where names are hashed by a seed. It is the last thing that a process does too.
-pub fn run_threads_with_seed<R: Threads + Wait + Sync, S: Source, T: Sink>(
     rt: &R,
     alloc: Global,
     seed: HashSeed,

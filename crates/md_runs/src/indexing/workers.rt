@@ -17,8 +17,6 @@ use std::thread::Threads;
 
 /// Appends the index of a folder of this number and name, whose summaries so many workers make side by side. Where it is refused, memory
 /// was, and some of it may have been appended.
-///
-/// It is no `Indexer`: that `R` is `Sync` is known in a function alone, and not in a method of a trait.
 #[tactic(auto, using(crate::proofs::MadeTexts::made_texts))]
 pub(super) fn push_folder<R: Threads + Wait + Sync, D: Dirs>(
     rt: &R,
