@@ -1,13 +1,15 @@
 // Directories that note the call that was made of them last.
-ghost use Rattle.std.specs.Prelude.{◌≡◌, None, Ok, IsErrOf, IfOk, OnErr, IfSome, filter, option_map};
+ghost use Rattle.std.specs.Prelude.{◌≡◌, None, Some, IsErrOf, IfOk, OnErr, IfSome, option_map};
+ghost use Rattle.std.specs.Result.{result_ok};
 ghost use Rattle.md_dirs.specs.Calls.{Obeys, create, append, link, rename, unlink, list};
 ghost use Rattle.md_dirs.specs.Image.{image_state, image_refusal};
-ghost use Rattle.md_dirs.specs.Rows.{rows_of, row_named, is_old};
+ghost use Rattle.md_dirs.specs.Rows.{rows_of, row_named, old_names};
 ghost use Rattle.maildir_trace.specs.declared.noted.Asked.TheVariants as asked;
 
-use md_dirs::{Bytes, DirError, Dirs, HashSeed, ImageFile, PackedRows, Path, Place, Row, RowRef};
+use md_dirs::{Bytes, DirError, Dirs, FileName, HashSeed, ImageFile, Path, Place, Row, RowRef};
 use md_script::Storage;
 use std::alloc::{AllocError, Global};
+use std::collections::VecDeque;
 
 /// A directory call, with its paths. A look for one message, or for old files, is a listing of which some rows are kept.
 #[derive(Drop)]
@@ -23,7 +25,7 @@ pub(crate) enum Asked {
 /// Other directories, with the call that was made of them last. Every call and every look is passed on.
 ///
 /// The note is made before the call, and takes memory for copies of the paths. Where that is refused there is no note, and the call is
-/// passed on all the same: it answers as the other directories do.
+/// passed on all the same: it answers as the other directories do. A listing has no path to copy, and is always noted.
 #[derive(Drop)]
 pub(crate) struct NotedDirs<D> {
     alloc: Global,
@@ -51,7 +53,7 @@ impl<D: Dirs> NotedDirs<D> {
 // Keeps a note in the place of the last, or none where memory was refused to it. The last is let go here alone, since that is proved anew
 // in each function that does it.
 fn note(noted: &mut Option<Asked>, asked: Result<Asked, AllocError>)
-    ensures { IfSome noted.new (λ call. asked ≡ Ok call) }
+    ensures { noted.new ≡ result_ok asked }
 {
     *noted = asked.ok();
 }
@@ -149,7 +151,7 @@ impl<D: Dirs> Dirs for NotedDirs<D> {
     fn list(&mut self, folder: u32, place: Place) -> Result<Vec<Row>, DirError>
         ensures meets { Obeys (list folder place) (D.device self.old.dirs) result (D.device self.new.dirs) }
         ensures rows { IfOk result (λ rows. rows.items ≡ rows_of (D.device self.old.dirs).state folder place) }
-        ensures noted { IfSome self.new.noted (λ call. call ≡ asked.List folder place) }
+        ensures noted { self.new.noted ≡ Some (asked.List folder place) }
     {
         note(&mut self.noted, Ok(Asked::List { folder, place }));
         self.dirs.list(folder, place)
@@ -158,7 +160,7 @@ impl<D: Dirs> Dirs for NotedDirs<D> {
     fn find(&mut self, folder: u32, place: Place, unique: &[u8]) -> Result<Option<Row>, DirError>
         ensures meets { Obeys (list folder place) (D.device self.old.dirs) result (D.device self.new.dirs) }
         ensures row { IfOk result (λ row. row ≡ row_named unique.now (rows_of (D.device self.old.dirs).state folder place)) }
-        ensures noted { IfSome self.new.noted (λ call. call ≡ asked.List folder place) }
+        ensures noted { self.new.noted ≡ Some (asked.List folder place) }
     {
         note(&mut self.noted, Ok(Asked::List { folder, place }));
         self.dirs.find(folder, place, unique)
@@ -171,10 +173,10 @@ impl<D: Dirs> Dirs for NotedDirs<D> {
         place: Place,
         now: u64,
         seconds: u64,
-    ) -> Result<PackedRows, DirError>
+    ) -> Result<VecDeque<FileName>, DirError>
         ensures meets { Obeys (list folder place) (D.device self.old.dirs) result (D.device self.new.dirs) }
-        ensures rows { IfOk result (λ rows. rows ≡ filter (is_old now seconds) (rows_of (D.device self.old.dirs).state folder place)) }
-        ensures noted { IfSome self.new.noted (λ call. call ≡ asked.List folder place) }
+        ensures names { IfOk result (λ names. names.items ≡ old_names now seconds (rows_of (D.device self.old.dirs).state folder place)) }
+        ensures noted { self.new.noted ≡ Some (asked.List folder place) }
     {
         note(&mut self.noted, Ok(Asked::List { folder, place }));
         self.dirs.list_old(alloc, folder, place, now, seconds)
