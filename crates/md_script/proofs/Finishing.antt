@@ -164,18 +164,15 @@ steps-answer is_left stays zero r event run there few = by (event_refusal r even
     by : (o : Option CoreError) → event_refusal r event ≡ o → is_some (answer_of (job_in r event.job)) ≡ true
     by None is = absurd (let some = is_left r event.job is in omega arith)
     by (Some e) is = answered_by r event.job there (ap is_some is)
-steps-answer is_left stays (suc more) r event run there few = by (event_refusal r event) refl
+steps-answer is_left stays (suc more) r event run there few = by (λ s later there few. steps-answer is_left stays more s event later there few) (event_refusal r event) refl
   where
-    next : Run
-    next = and_event r (without_fault event)
-
-    by : (o : Option CoreError) → event_refusal r event ≡ o → is_some (answer_of (job_in (steps_of (suc more) r event).0 event.job)) ≡ true
-    unfolding steps_of next
-    by None is =
+    by : ((s : Run) → IsRun s → HasJob s event.job → steps_left s event.job ≤ more → is_some (answer_of (job_in (steps_of more s event).0 event.job)) ≡ true) →
+        (o : Option CoreError) → event_refusal r event ≡ o → is_some (answer_of (job_in (steps_of (suc more) r event).0 event.job)) ≡ true
+    by answers None is =
         let goes_on : is_some (event_refusal r event) ≡ false = ap is_some is in
         let less = steps_left-less r run each-turn (without_fault event) is in
-        rw goes_on (steps-answer is_left stays more next event (is_run-and_event r (without_fault event) run is) (stays r (without_fault event) is) (omega (arith, less)))
-    by (Some e) is =
+        rw goes_on (answers (and_event r (without_fault event)) (is_run-and_event r (without_fault event) run is) (stays r (without_fault event) is) (omega (arith, less)))
+    by answers (Some e) is =
         let ends : is_some (event_refusal r event) ≡ true = ap is_some is in
         rw ends (answered_by r event.job there ends)
 

@@ -1,5 +1,5 @@
 -- A script that goes on prints on.
-use Rattle.std.proofs.Common.{◌≡◌, ℕ, ◌+◌, List, [], ◌∷◌, ◌++◌, Result, Ok, Err, refl, sym, ap, ◌∙◌, subst, append_assoc}
+use Rattle.std.proofs.Common.{ℕ, ◌+◌, List, [], ◌∷◌, ◌++◌, Result, Ok, Err, refl, sym, ap, ◌∙◌, subst, append_assoc}
 use mathlib.Core.List.{IsPrefix}
 use Rattle.md_head.specs.Header.{IsWholeLines, lines_of}
 use Rattle.md_head.proofs.Appended.{lines_whole_append}
@@ -12,14 +12,15 @@ module _ {S : Type 0} (step : S → List ℕ → Result (S × List ℕ) PlayKind
   lines-go-on : (lines more : List (List ℕ)) (line : ℕ) (s : S) → IsPrefix (run_from step line s lines).text (run_from step line s (lines ++ more)).text
   unfolding run_from
   lines-go-on [] more line s = (_, refl)
-  lines-go-on (first ∷ others) more line s = by (line_step step s first)
+  lines-go-on (first ∷ others) more line s = by (λ t. lines-go-on others more (line + 1) t) (line_step step s first)
     where
-      by : (done : Result (S × List ℕ) PlayKind) → IsPrefix (go_on line s (λ t. run_from step (line + 1) t others) done).text
+      by : ((t : S) → IsPrefix (run_from step (line + 1) t others).text (run_from step (line + 1) t (others ++ more)).text) →
+          (done : Result (S × List ℕ) PlayKind) → IsPrefix (go_on line s (λ t. run_from step (line + 1) t others) done).text
           (go_on line s (λ t. run_from step (line + 1) t (others ++ more)) done).text
-      by (Ok (t, text)) =
-          let rest = lines-go-on others more (line + 1) t in
+      by goes (Ok (t, text)) =
+          let rest = goes t in
           (rest.0, append_assoc text (run_from step (line + 1) t others).text rest.0 ∙ ap (λ xs. text ++ xs) rest.1)
-      by (Err kind) = ([], refl)
+      by goes (Err kind) = ([], refl)
 
   pub script-goes-on : (s : S) (front more : List ℕ) → IsWholeLines front → IsPrefix (transcript_of step s front).text (transcript_of step s (front ++ more)).text
   script-goes-on s front more whole =

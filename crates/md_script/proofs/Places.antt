@@ -1,5 +1,5 @@
 -- The place of a folder's name, among the names as they are held.
-use Rattle.std.proofs.Common.{◌≡◌, ◌∙◌, ℕ, suc, ◌+◌, ◌++◌, Bool, true, false, List, [], ◌∷◌, Option, Some, None, cond, length, refl, sym, ap, arith}
+use Rattle.std.proofs.Common.{◌≡◌, ◌∙◌, ℕ, suc, ◌+◌, ◌++◌, Bool, true, false, List, [], ◌∷◌, Some, None, cond, length, refl, sym, ap, arith}
 use Rattle.std.specs.Prelude.{position}
 use Rattle.std.specs.List.{prefix_len, position_from}
 use Rattle.std.specs.Option.{option_or}

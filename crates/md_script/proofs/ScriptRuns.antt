@@ -1,5 +1,6 @@
 -- The store of a session has a run of the theorem, whatever lines led to it.
-use Rattle.std.proofs.Common.{◌≡◌, ℕ, zero, suc, ◌+◌, List, [], ◌∷◌, Option, Some, None, Bool, true, false, Result, Ok, Err, is_some, is_none, length, refl, sym, ap, subst, ◌∙◌, arith}
+use Rattle.std.proofs.Common.{◌≡◌, ℕ, zero, suc, ◌+◌, List, [], ◌∷◌, Option, Some, None, Bool, true, false, Result, Ok, Err, is_some, is_none, length, refl, ap, subst, ◌∙◌, arith}
+use Rattle.std.specs.Prelude.{ok_or}
 use Rattle.md_dirs.specs.State.{State, IsSound}
 use Rattle.md_dirs.specs.Calls.{fresh}
 use Rattle.md_dirs.specs.Image.{image_state, image_refusal}
@@ -8,16 +9,19 @@ use Rattle.md_jobs.specs.declared.error.CoreError.{CoreError}
 use Rattle.md_jobs.specs.declared.call.Call.{Call}
 use Rattle.md_jobs.specs.declared.step.Event.{Event}
 use Rattle.md_core.specs.Loading.{load_refusal}
-use Rattle.md_core.specs.Runs.{Run, new_run, first_clock, and_event, and_call}
+use Rattle.md_core.specs.Runs.{Run, new_run, first_clock, and_event}
 use Rattle.md_core.specs.Stepping.{IsRun}
 use Rattle.md_core.specs.Submitting.{submit_refusal}
 use Rattle.md_core.proofs.Runs.Extended.{is_run-begun, is_run-and_event, is_run-and_call}
 use Rattle.md_script.specs.declared.error.PlayKind.{PlayKind}
+use Rattle.md_script.specs.declared.error.PlayKind.TheVariants.{NoFirst}
 use Rattle.md_script.specs.Bind.{◌>>=◌}
 use Rattle.md_script.specs.Commands.{Command, make_folder, make_file, submit, step, finish, list, first, second, read, make_name, summarize, command_at}
 use Rattle.md_script.specs.declared.verb.Mode.TheVariants.{Playing}
-use Rattle.md_script.specs.Sessions.{Session, ScriptStore, First, unless_refused, image_of, run_over, new_store, store_of, with_store, without_fault, event_refusal}
-use Rattle.md_script.specs.Sessions.{steps_of, submit_in, step_in, finish_in, list_in, read_in, on_run, read_first, read_second, in_store, obey, session_line, new_session, transcript}
+use Rattle.md_script.specs.Sessions.{Session, ScriptStore, unless_refused, image_of, run_over, new_store, store_of, without_fault, event_refusal}
+use Rattle.md_script.specs.Sessions.{steps_of, submit_in, step_in, finish_in, list_in, read_in, on_run, first_of, read_first, read_second, made_name, in_store, printing, obey, session_line, new_session, transcript}
+use Rattle.md_head.specs.Summaries.{summary_of}
+use Rattle.md_script.specs.Texts.{summary_text}
 use Rattle.md_script.specs.Step.{line_step, is_passed_over}
 use Rattle.md_script.specs.Transcript.{go_on, run_from}
 use Rattle.md_script.specs.Words.{require}
@@ -28,6 +32,9 @@ use Rattle.md_script.proofs.Acts.{was_done}
 bind-ok : {X Y : Type 0} (x : Result X PlayKind) (f : X → Result Y PlayKind) (y : Y) → x >>= f ≡ Ok y → (a : X) × (x ≡ Ok a) × (f a ≡ Ok y)
 bind-ok (Ok a) f y is = (a, refl, is)
 bind-ok (Err kind) f y is = cc
+
+ok-is : {X : Type 0} (x y : X) → ◌≡◌ {A = Result X PlayKind} (Ok x) (Ok y) → x ≡ y
+ok-is x y is = cc
 
 -- ---- the run of a store
 
@@ -50,14 +57,14 @@ stepped r event after is run =
 steps-kept : (n : ℕ) (r : Run) (event : Event) → IsRun r → IsRun (steps_of n r event).0
 unfolding steps_of
 steps-kept zero r event run = run
-steps-kept (suc more) r event run = by (event_refusal r event) refl
+steps-kept (suc more) r event run = by (λ s later. steps-kept more s event later) (event_refusal r event) refl
   where
-    by : (o : Option CoreError) → event_refusal r event ≡ o → IsRun (steps_of (suc more) r event).0
-    unfolding steps_of
-    by None is =
+    by : ((s : Run) → IsRun s → IsRun (steps_of more s event).0) → (o : Option CoreError) → event_refusal r event ≡ o →
+        IsRun (steps_of (suc more) r event).0
+    by kept None is =
         let goes_on : is_some (event_refusal r event) ≡ false = ap is_some is in
-        rw goes_on (steps-kept more (and_event r (without_fault event)) event (is_run-and_event r (without_fault event) run is))
-    by (Some e) is = let ends : is_some (event_refusal r event) ≡ true = ap is_some is in rw ends run
+        rw goes_on (kept (and_event r (without_fault event)) (is_run-and_event r (without_fault event) run is))
+    by kept (Some e) is = let ends : is_some (event_refusal r event) ≡ true = ap is_some is in rw ends run
 
 finished : (r : Run) (event : Event) → LeavesRun r (finish_in r event)
 unfolding finish_in
@@ -82,19 +89,18 @@ LeavesStore t answer = (after : ScriptStore × List ℕ) → answer ≡ Ok after
 by-run : (t : ScriptStore) (answer : Result (Run × List ℕ) PlayKind) → LeavesRun t.run answer → LeavesStore t (on_run t answer)
 by-run t answer leaves after is run =
     let done = bind-ok answer _ after is in
-    let run_is : done.0.0 ≡ after.0.run = (let given = done.2 in cc) in
+    let run_is : done.0.0 ≡ after.0.run = ap (λ (x : ScriptStore × List ℕ). x.0.run) (ok-is _ _ done.2) in
     subst IsRun run_is (leaves done.0 done.1 run)
 
 first-read : (t : ScriptStore) (folder : ℕ) → LeavesStore t (read_first t folder)
 unfolding read_first
-first-read t folder after is run = let same : t.run ≡ after.0.run = cc in subst IsRun same run
+first-read t folder after is run = subst IsRun (ap (λ (x : ScriptStore × List ℕ). x.0.run) (ok-is _ _ is)) run
 
 second-read : (t : ScriptStore) (folder : ℕ) → LeavesStore t (read_second t folder)
 unfolding read_second
 second-read t folder after is run =
-    let done = bind-ok _ _ after is in
-    let same : t.run ≡ after.0.run = (let given = done.2 in cc) in
-    subst IsRun same run
+    let done = bind-ok (ok_or (first_of folder t.firsts) NoFirst) _ after is in
+    subst IsRun (ap (λ (x : ScriptStore × List ℕ). x.0.run) (ok-is _ _ done.2)) run
 
 required : (b : Bool) (kind : PlayKind) (done : Unit {0}) → require b kind ≡ Ok done → b ≡ true
 required true kind done is = refl
@@ -157,18 +163,18 @@ module _ (sound : ImagesAreSound) where
       let store = bind-ok (store_of s) _ after is in
       let done = bind-ok (act store.0) _ after store.2 in
       let run = leaves store.0 done.0 done.1 (store-run s store.0 holds store.1) in
-      let store_is : Some done.0.0 ≡ after.0.store = (let given = done.2 in cc) in
+      let store_is : Some done.0.0 ≡ after.0.store = ap (λ (x : Session × List ℕ). x.0.store) (ok-is _ _ done.2) in
       λ t is_t. (let same : done.0.0 ≡ t = (let all = store_is ∙ is_t in cc) in subst (λ (u : ScriptStore). IsRun u.run) same run)
 
   printing-kept : (s : Session) (answer : Result (List ℕ) PlayKind) (after : Session × List ℕ) → HoldsRun s →
       printing s answer ≡ Ok after → HoldsRun after.0
   printing-kept s answer after holds is =
       let text = bind-ok answer _ after is in
-      holds-same s after.0 (let given = text.2 in cc) holds
+      holds-same s after.0 (ap (λ (x : Session × List ℕ). x.0.store) (ok-is _ _ text.2)) holds
 
   obeyed-kept : (s : Session) (c : Command) (after : Session × List ℕ) → HoldsRun s → obey s c ≡ Ok after → HoldsRun after.0
-  obeyed-kept s (make_folder name) after holds is = holds-same s after.0 cc holds
-  obeyed-kept s (make_file file) after holds is = holds-same s after.0 cc holds
+  obeyed-kept s (make_folder name) after holds is = holds-same s after.0 (ap (λ (x : Session × List ℕ). x.0.store) (ok-is _ _ is)) holds
+  obeyed-kept s (make_file file) after holds is = holds-same s after.0 (ap (λ (x : Session × List ℕ). x.0.store) (ok-is _ _ is)) holds
   obeyed-kept s (submit call) after holds is = in-store-kept s _ after holds (λ t. by-run t (submit_in t.run call) (submitted t.run call)) is
   obeyed-kept s (step event) after holds is = in-store-kept s _ after holds (λ t. by-run t (step_in t.run event) (stepped t.run event)) is
   obeyed-kept s (finish event) after holds is = in-store-kept s _ after holds (λ t. by-run t (finish_in t.run event) (finished t.run event)) is
@@ -176,32 +182,31 @@ module _ (sound : ImagesAreSound) where
   obeyed-kept s (first folder) after holds is = in-store-kept s _ after holds (λ t. first-read t folder) is
   obeyed-kept s (second folder) after holds is = in-store-kept s _ after holds (λ t. second-read t folder) is
   obeyed-kept s (read unique) after holds is = in-store-kept s _ after holds (λ t. by-run t (read_in t.run unique) (looked t.run unique)) is
-  obeyed-kept s (make_name sec micro pid count host) after holds is = printing-kept s _ after holds is
-  obeyed-kept s (summarize message) after holds is = printing-kept s _ after holds is
+  obeyed-kept s (make_name sec micro pid count host) after holds is = printing-kept s (made_name sec micro pid count host) after holds is
+  obeyed-kept s (summarize message) after holds is = printing-kept s (Ok (summary_text (summary_of message))) after holds is
 
   line-kept : (s : Session) (line : List ℕ) (after : Session × List ℕ) → HoldsRun s → line_step session_line s line ≡ Ok after → HoldsRun after.0
   unfolding line_step session_line
   line-kept s line after holds is = by (is_passed_over line) refl
     where
       by : (b : Bool) → is_passed_over line ≡ b → HoldsRun after.0
-      unfolding line_step session_line
       by true passed =
           let same : ◌≡◌ {A = Result (Session × List ℕ) PlayKind} (Ok (s, [])) (Ok after) = rw passed at is in
           holds-same s after.0 (let one : ◌≡◌ {A = Session × List ℕ} (s, []) after = cc in ap (λ (x : Session × List ℕ). x.0.store) one) holds
       by false runs =
           let read : command_at s.folders (Playing (is_some s.store)) line >>= obey s ≡ Ok after = rw runs at is in
-          let command = bind-ok _ _ after read in
+          let command = bind-ok (command_at s.folders (Playing (is_some s.store)) line) (obey s) after read in
           obeyed-kept s command.0 after holds command.2
 
   lines-kept : (lines : List (List ℕ)) (line : ℕ) (s : Session) → HoldsRun s → HoldsRun (run_from session_line line s lines).session
   unfolding run_from
   lines-kept [] line s holds = holds
-  lines-kept (first ∷ others) line s holds = by (line_step session_line s first) refl
+  lines-kept (this ∷ others) line s holds = by (λ t kept. lines-kept others (line + 1) t kept) (line_step session_line s this) refl
     where
-      by : (done : Result (Session × List ℕ) PlayKind) → line_step session_line s first ≡ done →
+      by : ((t : Session) → HoldsRun t → HoldsRun (run_from session_line (line + 1) t others).session) → (done : Result (Session × List ℕ) PlayKind) → line_step session_line s this ≡ done →
           HoldsRun (go_on line s (λ t. run_from session_line (line + 1) t others) done).session
-      by (Ok (t, text)) is = lines-kept others (line + 1) t (line-kept s first (t, text) holds is)
-      by (Err kind) is = holds
+      by kept (Ok (t, text)) is = kept t (line-kept s this (t, text) holds is)
+      by kept (Err kind) is = holds
 
   pub script-run : (script : List ℕ) (t : ScriptStore) → (transcript script).session.store ≡ Some t → IsRun t.run
   script-run script = lines-kept (lines_of script) 1 new_session (λ t is. cc)
