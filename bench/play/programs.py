@@ -16,7 +16,7 @@ def ours():
 
 def plain(work):
     """The plain Rust program, built in the folder `work`."""
-    manifest = os.path.join(HERE, 'plain', 'Cargo.toml')
+    manifest = os.path.join(TOP, 'plain', 'Cargo.toml')
     build = ['cargo', 'build', '--quiet', '--release', '--offline', '--locked', '--manifest-path', manifest, '--target-dir', work]
     subprocess.run(build, check=True)
     return os.path.join(work, 'release', 'plain')
