@@ -1,39 +1,12 @@
 # Proving and building the program: crate by crate, each after those that it uses, so that it is known which one is at work.
 
-enter_crate() {
-  current=$1
-  crate_number=$((crate_number + 1))
-  now=$(date +%s)
-  current_began=$now
-  start_counting
-  expect_from "$current"
-  tell "$(describe_build)"
-}
-
-# Reads a line of rt. Where it shows that a crate is proved that has a library, those above it will be too.
-read_build_line() {
-  known=$functions
-  count_by_line "$1"
-  [ "$known" -eq "$functions" ] || expect_from "$current"
-}
-
-leave_crate() {
-  [ -z "$is_proved" ] || keep_estimate "$current" $((now > current_began ? now - current_began : 1))
-}
-
-describe_build() {
-  gone=$((now - began))
-  if [ -n "$waits_for" ]; then
-    printf 'waiting for another rt in %s; %s' "$waits_for" "$(describe_time "$gone" '')"
-  else
-    left=$(seconds_left $((now - current_began)))
-    printf 'crate %d of %d, %s%s; %s' "$crate_number" "$crates" "$current" "$(describe_functions)" "$(describe_time "$gone" "$left")"
-  fi
+# Minutes and seconds.
+clock() {
+  printf '%d:%02d' $(($1 / 60)) $(($1 % 60))
 }
 
 # Says what rt said but that all is well, keeps the whole, and refuses.
 refuse_unbuilt() {
-  end_telling
   sed -e '/: proved$/d' -e '/^checked /d' -e '/^so far: /d' -e '/^by-macro: /d' -e '/^statements /d' "$work/log" >&2
   kept=$crate/out/build.log
   if mkdir -p "$crate/out" && cp "$work/log" "$kept"; then say "all that rt printed is in $kept"; fi
@@ -46,16 +19,16 @@ refuse_unbuilt() {
 
 # Proves one crate and builds it. A program is run once: over an empty script, or for its version.
 build_crate() {
-  enter_crate "$1"
+  current=$1
+  crate_number=$((crate_number + 1))
+  say "crate $crate_number of $crates, $current"
   case $1 in
     maildir_cli) start_rt "$1" /dev/null "$work/log" run -- play ;;
     maildir_judge) start_rt "$1" /dev/null "$work/log" run -- --version ;;
     *) start_rt "$1" /dev/null "$work/log" lib ;;
   esac
-  follow read_build_line describe_build
   join_job
   [ "$joined" -eq 0 ] || refuse_unbuilt
-  leave_crate
 }
 
 build_crates() {
@@ -63,10 +36,7 @@ build_crates() {
   # shellcheck disable=SC2086 # names of crates have no spaces
   crates=$(count_words $made_of)
   crate_number=0
-  start_telling
-  start_estimate
   for crate_name in $made_of; do build_crate "$crate_name"; done
-  end_telling
 }
 
 # Proves the program with all that it is made of, and builds it, unless its build is up to date.
@@ -78,11 +48,12 @@ build_program() {
   require_rt
   open_work
   built_by=$(version_of_toolchain)
+  began=$(date +%s)
   # What changes while it is proved is newer than this.
   : >"$work/began"
   build_crates
   [ -x "$program" ] || refuse 70 "$program is not there, though rt has not failed"
   printf '%s\n' "$built_by" >"$stamp"
   touch -r "$work/began" "$stamp"
-  say "proved and built $crates crates in $(clock $((now - began)))"
+  say "proved and built $crates crates in $(clock $(($(date +%s) - began)))"
 }

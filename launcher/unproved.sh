@@ -18,16 +18,6 @@ take_script() {
   [ "$(wc -c <"$work/script")" -le "$most_bytes" ] || refuse 65 "the script is longer than $most_bytes bytes"
 }
 
-# rt says all that matters at its end.
-pass_over() {
-  :
-}
-
-describe_unproved() {
-  gone=$((now - began))
-  printf 'compiling the program; %s' "$(describe_time "$gone" "$(($(seconds_of unproved) - gone))")"
-}
-
 # What the program printed, and what it said on standard error: all but the lines of rt around it.
 print_run() {
   cat "$work/out" || refuse 74 "standard output can't be written"
@@ -49,17 +39,13 @@ play_unproved() {
   say "this run is not proved yet, since $why: ${remedy:-'$0 build' proves and builds the program}"
   open_work
   take_script
-  start_telling
   start_rt "${runs:-maildir_cli}" "$work/script" "$work/out" try -- "$@"
-  follow pass_over describe_unproved
   join_job
-  end_telling
   last=$(tail -n 1 "$work/log")
   case $last in
     "run=ended status=$joined "*) ;;
     *) refuse_unanswered ;;
   esac
-  keep_seconds unproved $((now - began))
   print_run
   exit "$joined"
 }

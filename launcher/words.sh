@@ -63,7 +63,7 @@ DIR is ~/.local where it is not given; '--prefix /usr/local' installs for all us
 share/zsh/site-functions is in fpath. What install has put there is recorded, and a file that was changed since is never touched.
 
 Until the program is built, and after a change of what it is made of, scripts are played unproved: each run compiles it anew, which
-takes some minutes, and prints at most 1 MiB. 'deolmutt build' proves and builds it, some $(minutes_of_build) minutes' work of one core.
+takes some minutes, and prints at most 1 MiB. 'deolmutt build' proves and builds it.
 
 Status: the program's own, which is 0, or 1 where a line was refused or reading, writing or memory failed; and where the launcher
 refuses, one of sysexits.h:

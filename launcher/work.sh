@@ -3,6 +3,9 @@
 work=
 job=
 
+# Seconds between two looks at the job.
+pause=1
+
 # Opens the folder. However the launcher ends, the folder goes, and so does a job that still runs.
 open_work() {
   work=$(mktemp -d) || refuse 73 "no temporary folder can be made"
@@ -16,7 +19,6 @@ open_work() {
 close_work() {
   trap '' HUP INT PIPE TERM
   set +e
-  end_telling
   if [ -n "$job" ]; then
     kill -TERM "$job" 2>/dev/null
     wait "$job" 2>/dev/null
@@ -38,8 +40,10 @@ start_rt() {
   job=$!
 }
 
-# Waits for the job, and sets its status.
+# Waits for the job, and sets its status. Where it waits for another rt, that is said.
 join_job() {
+  while kill -0 "$job" 2>/dev/null && ! grep -q '^rt: waiting for another rt' "$work/log"; do sleep "$pause"; done
+  sed -n 's/^rt: \(waiting for another rt\) to finish/deolmutt: \1/p' "$work/log" >&2
   joined=0
   wait "$job" || joined=$?
   job=

@@ -1,4 +1,4 @@
-/* Measures the interface of C: calls WHAT COUNT, so many calls of one kind, as bench/ffi/main.rt.txt makes them from Rattle. WHAT is
+/* Measures the interface of C: calls WHAT COUNT, so many calls of one kind. WHAT is
    deliver, flag, read or list; play-deliver, play-flag, play-read or play-list, the same by a script that is played; or settle, a load of
    so many messages and a settle. It prints a line `result: WHAT: NUMBER UNIT` for each figure. */
 #include "deolmutt.h"

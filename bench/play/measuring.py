@@ -77,7 +77,7 @@ class Bench:
             sys.exit('%s ended badly: %s' % (' '.join(self.commands[who]), done.stderr.decode(errors='replace')))
         return {'wall': float(numbers[0]), 'time': float(numbers[1]), 'faults': int(numbers[2]), 'memory': int(numbers[3])}
 
-    def measure(self, workload, size, counts):
+    def measure(self, workload, size):
         """The least figures of both programs on one script."""
         script = self.path('script')
         with open(script, 'wb') as out:
@@ -89,7 +89,7 @@ class Bench:
             if rep == 0 and not filecmp.cmp(self.output('ours'), self.output('plain'), shallow=False):
                 sys.exit('the programs print other bytes on %s of %d' % (workload, size))
         row['output'] = os.path.getsize(self.output('ours'))
-        if counts and max(row['ours']['wall'], row['plain']['wall']) <= LONGEST_TO_COUNT:
+        if max(row['ours']['wall'], row['plain']['wall']) <= LONGEST_TO_COUNT:
             for who, command in self.commands.items():
                 row[who]['instructions'] = self.counter.count(command, script)
         return row

@@ -1,5 +1,6 @@
-"""The programs that are measured and compared, and what is built beside them. It needs rt, rustc and cargo."""
+"""The programs that are measured and compared, what is built beside them, and the scripts of crates/examples. It needs rt, rustc and cargo."""
 
+import glob
 import os
 import subprocess
 
@@ -16,7 +17,7 @@ def ours():
 
 def plain(work):
     """The plain Rust program, built in the folder `work`."""
-    manifest = os.path.join(HERE, 'plain', 'Cargo.toml')
+    manifest = os.path.join(TOP, 'plain', 'Cargo.toml')
     build = ['cargo', 'build', '--quiet', '--release', '--offline', '--locked', '--manifest-path', manifest, '--target-dir', work]
     subprocess.run(build, check=True)
     return os.path.join(work, 'release', 'plain')
@@ -27,3 +28,13 @@ def rust(work, name, source, *flags):
     built = os.path.join(work, name)
     subprocess.run(['rustc', '--edition', '2024', '-O', *flags, '-o', built, os.path.join(HERE, source)], check=True)
     return built
+
+
+def examples():
+    """The scripts of crates/examples, and those of its rows, each of which a line `>` parts from what it prints."""
+    for path in sorted(glob.glob(os.path.join(EXAMPLES, '*.script'))):
+        with open(path, 'rb') as text:
+            yield text.read()
+    for path in sorted(glob.glob(os.path.join(EXAMPLES, '*.rows'))):
+        with open(path, 'rb') as rows:
+            yield from (row.split(b'\n>')[0] + b'\n' for row in rows.read().split(b'\n%\n'))

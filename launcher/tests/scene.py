@@ -1,17 +1,12 @@
 """A tree with the launcher in it, in which a fake toolchain and a fake program make runs quick."""
 
-import fcntl
 import os
-import pty
 import re
 import shutil
 import signal
-import struct
 import subprocess
 import tempfile
-import termios
 import threading
-import time
 import unittest
 
 HERE = os.path.dirname(os.path.realpath(__file__))
@@ -19,7 +14,7 @@ TOP = os.path.dirname(os.path.dirname(HERE))
 
 # All that the launcher may call. A launcher that calls more fails in these tests.
 TOOLS = '''basename cat chmod cp cut date dirname find grep head mkdir mktemp mv printf readlink rm rmdir sed setsid sha256sum sh sleep sort
-stty tail touch wc'''.split()
+tail touch wc'''.split()
 
 PROGRAM = 'crates/maildir_cli/out/maildir_cli'
 TOOLCHAIN = 'the toolchain of a test\n'
@@ -75,7 +70,6 @@ class Scene(unittest.TestCase):
             'HOME': self.path('home'),
             'SCENE': self.scene,
             'TMPDIR': self.temporary,
-            'TERM': 'xterm',
         }
 
     def remove_room(self):
@@ -94,8 +88,8 @@ class Scene(unittest.TestCase):
         for file in ('deolmutt', 'docs/maildir_cli.1'):
             shutil.copy(os.path.join(TOP, file), os.path.join(self.top, file))
         # A launcher that looks at its job more often makes the tests quicker.
-        progress = os.path.join(self.top, 'launcher', 'progress.sh')
-        self.write(progress, self.read(progress).replace('\npause=1\n', '\npause=0.1\n'))
+        work = os.path.join(self.top, 'launcher', 'work.sh')
+        self.write(work, self.read(work).replace('\npause=1\n', '\npause=0.1\n'))
         self.set_crates(CRATES)
 
     def set_crates(self, text):
@@ -147,41 +141,32 @@ class Scene(unittest.TestCase):
 
 
 class Watch:
-    """A launcher that runs, with what it says on standard error and when. On a terminal that is a pseudo-terminal."""
+    """A launcher that runs, with what it says on standard error."""
 
-    def __init__(self, scene, *words, is_terminal=False, columns=80, stdin=subprocess.DEVNULL, **environment):
-        self.said = []
+    def __init__(self, scene, *words, stdin=subprocess.DEVNULL):
+        self.said = ''
         self.changed = threading.Condition()
-        ours, theirs = pty.openpty() if is_terminal else os.pipe()
-        if is_terminal:
-            fcntl.ioctl(theirs, termios.TIOCSWINSZ, struct.pack('HHHH', 24, columns, 0, 0))
-        command = [os.path.join(scene.top, 'deolmutt'), *words]
-        how = {'cwd': scene.room, 'env': {**scene.environment, **environment}, 'stdin': stdin}
-        self.began = time.monotonic()
-        how.update(start_new_session=True, preexec_fn=take_signals)
-        self.process = subprocess.Popen(command, stdout=subprocess.PIPE, stderr=theirs, **how)
+        ours, theirs = os.pipe()
+        how = {'cwd': scene.room, 'env': scene.environment, 'stdin': stdin, 'start_new_session': True, 'preexec_fn': take_signals}
+        self.process = subprocess.Popen([os.path.join(scene.top, 'deolmutt'), *words], stdout=subprocess.PIPE, stderr=theirs, **how)
         os.close(theirs)
         self.reader = threading.Thread(target=self.read_all, args=(ours,))
         self.reader.start()
 
     def read_all(self, ours):
-        # A pseudo-terminal ends with an error.
-        try:
-            while more := os.read(ours, 4096):
-                with self.changed:
-                    self.said.append((time.monotonic() - self.began, more.decode()))
-                    self.changed.notify()
-        except OSError:
-            pass
+        while more := os.read(ours, 4096):
+            with self.changed:
+                self.said += more.decode()
+                self.changed.notify()
         os.close(ours)
 
     def text(self):
-        return ''.join(more for _, more in self.said)
+        return self.said
 
-    def wait_for(self, pattern, seconds=5, after=0):
-        """Waits until the pattern is in what was said, after so many characters, and says whether it came."""
+    def wait_for(self, pattern, seconds=5):
+        """Waits until the pattern is in what was said, and says whether it came."""
         with self.changed:
-            return self.changed.wait_for(lambda: re.search(pattern, self.text()[after:]), seconds)
+            return self.changed.wait_for(lambda: re.search(pattern, self.said), seconds)
 
     def end(self, seconds=30):
         """What is printed on standard output, and the status."""
@@ -191,8 +176,3 @@ class Watch:
 
     def stop(self, number=signal.SIGTERM):
         os.kill(self.process.pid, number)
-
-    def silences(self):
-        """The seconds before the first word, and those between words."""
-        times = [0, *(moment for moment, _ in self.said)]
-        return [after - before for before, after in zip(times, times[1:])]

@@ -93,7 +93,7 @@ class Made(unittest.TestCase):
         self.assertEqual(self.check(), (1, ['words.txt: the source of maildir_cli does not say "0.1.0"']))
 
     def test_a_command_that_the_table_lacks_is_named(self):
-        self.change('crates/maildir_cli/src/options.rt', 'let play =', 'let check = Command::new(alloc, "check");\n    let play =')
+        self.change('crates/maildir_cli/src/options.rt', 'let threads =', 'let check = Command::new(alloc, "check");\n    let threads =')
         self.assertEqual(self.check(), (1, ['words.txt: the command "check" of the source is missing']))
 
     @unittest.skipUnless(os.access(PROGRAM, os.X_OK), 'the program is not built')

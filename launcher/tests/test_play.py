@@ -94,15 +94,6 @@ class Unproved(Scene):
                 self.assertEqual(watch.end(5), ('', status))
                 self.assertEqual(os.listdir(self.temporary), [])
 
-    def test_it_says_that_it_is_at_work(self):
-        self.tell('seconds', '22')
-        watches = [Watch(self, self.script()), Watch(self, self.script(), is_terminal=True)]
-        for watch in watches:
-            watch.end(40)
-            self.assertLess(watch.silences()[0], 5)
-            self.assertLess(max(watch.silences()), 15)
-            self.assertRegex(watch.text(), r'compiling the program; 0:1\d gone, about 1 min left')
-
 
 class Built(Scene):
 

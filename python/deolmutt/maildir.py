@@ -9,10 +9,10 @@ import re
 import time
 import warnings
 from email.message import Message as EmailMessage
-from types import TracebackType
 from typing import IO, Any, Callable, Iterable, Iterator, List, Optional, Protocol, Union
 
 from . import _disk
+from ._closing import Closing
 from ._names import fresh_unique, is_unique
 from ._tree import (
     MOST_FOLDERS,
@@ -49,7 +49,7 @@ _MOST_BYTES = 16_777_216
 _NEVER_IN_FOLDER = re.compile("[/\0]")
 
 
-class Maildir(mailbox.Mailbox):  # type: ignore[type-arg]
+class Maildir(Closing, mailbox.Mailbox):  # type: ignore[type-arg]
     """A mailbox in memory, which begins empty and lives until it is closed.
 
     It has the methods of `mailbox.Maildir`, and they do what that does, with these differences:
@@ -324,17 +324,6 @@ class Maildir(mailbox.Mailbox):  # type: ignore[type-arg]
         """
         if self._trail == TOP:
             self.world.close()
-
-    def __enter__(self) -> Maildir:
-        return self
-
-    def __exit__(
-        self,
-        kind: Optional[type[BaseException]],
-        error: Optional[BaseException],
-        trace: Optional[TracebackType],
-    ) -> None:
-        self.close()
 
     # Real trees.
 

@@ -6,9 +6,9 @@ import ctypes
 import struct
 import threading
 import time
-from types import TracebackType
 from typing import Any, Callable, Iterable, Iterator, List, NamedTuple, NoReturn, Optional, Union
 
+from ._closing import Closing
 from ._library import AnswerStruct, StepStruct, filled, library, start_of
 from ._numbers import MOST_U32, MOST_U64, OK, Asked, answer_of, asked, refusal, step_of
 from .calls import (
@@ -63,7 +63,7 @@ class _Hold:
         self._lock.release()
 
 
-class World:
+class World(Closing):
     """A store: folders, numbered from 0, and the messages in them, which lives until it is closed.
 
     One world is for one thread at a time. A call from a second thread while the first is in one is
@@ -363,17 +363,6 @@ class World:
         """A number that is another one after each call that may have changed a message, also one that
         was refused."""
         return self._changes
-
-    def __enter__(self) -> World:
-        return self
-
-    def __exit__(
-        self,
-        kind: Optional[type[BaseException]],
-        error: Optional[BaseException],
-        trace: Optional[TracebackType],
-    ) -> None:
-        self.close()
 
     def __del__(self) -> None:
         # A world that was not loaded has no handle.

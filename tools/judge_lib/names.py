@@ -5,9 +5,10 @@ from __future__ import annotations
 import re
 from typing import FrozenSet, NamedTuple, Optional
 
+from maildir_lib.language import escape
+
 PLACES = ("tmp", "new", "cur")
 
-_ESCAPES = {b" ": b"\\s", b"\n": b"\\n", b"\r": b"\\r", b"\\": b"\\\\"}
 _FLAGS = re.compile(rb"2,([A-Za-z]*)", re.DOTALL)
 
 
@@ -28,8 +29,8 @@ class Path(NamedTuple):
 
 
 def escaped(name: bytes) -> bytes:
-    """A name as a log writes it."""
-    return re.sub(rb"[ \n\r\\]", lambda found: _ESCAPES[found[0]], name)
+    """A name as a log writes it: as a body of a script, and a space has an escape too."""
+    return escape(name).replace(b" ", b"\\s")
 
 
 def unique_of(name: bytes) -> bytes:

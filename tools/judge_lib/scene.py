@@ -12,6 +12,8 @@ from .refused import Refused
 
 FOLDER = Path(__file__).resolve().parent.parent / "scenes.d"
 ENDING = ".scene"
+# What each scene begins with, before its own lines `setup`.
+BEGINNING = ["mkdir -p box/tmp box/new box/cur", r"printf 'From: a@example.org\nSubject: one\n\nhello\n' > mail"]
 _LINE = re.compile(r"([a-z]+) +(.*)")
 _ONCE = ("package", "program", "runs", "scene", "needs", "trace", "explore", "beside", "status", "user")
 _MANY = ("setup", "claims", "fail")
@@ -64,7 +66,7 @@ def read_scene(path: Path) -> Scene:
     return Scene(
         name=path.name.removesuffix(ENDING), package=once["package"], program=once["program"],
         runs=once.get("runs", once["program"].split(" ")[0]), about=once["scene"], needs=once.get("needs", "").split(),
-        setup=many["setup"], claims=many["claims"], fail=many["fail"], command=once.get("trace") or once.get("explore") or "",
+        setup=BEGINNING + many["setup"], claims=many["claims"], fail=many["fail"], command=once.get("trace") or once.get("explore") or "",
         beside=once.get("beside"), status=int(once.get("status", "0")), is_unprivileged="user" in once,
     )
 

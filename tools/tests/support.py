@@ -3,6 +3,7 @@
 from __future__ import annotations
 
 import contextlib
+import errno
 import io
 import os
 import signal
@@ -227,3 +228,55 @@ def before_call(number: int, act: Callable[[str], None]) -> Iterator[list[str]]:
             patch = mock.patch.object(os, name, watched(name, getattr(os, name)))
             stack.enter_context(patch)
         yield made
+
+
+def fail(name: str) -> None:
+    """Makes a call fail as a broken disk does."""
+    raise OSError(errno.EIO, os.strerror(errno.EIO))
+
+
+class EachMoment:
+    """Tests of a run that is made anew with a fault or a signal before each of its calls. `run_again` makes it, and `check` asks for
+    what may be there then; `least_calls` is how many calls it makes at least."""
+
+    least_calls: int
+
+    def run_again(self, number: int, act: Callable[[str], None]) -> tuple[Run, list[str]]:
+        raise NotImplementedError
+
+    def check(self, run: Run, at: object, may_leave_one: bool) -> None:
+        raise NotImplementedError
+
+    def before_each_call(self, act: Callable[[str], None], step: int = 1, again: Any = None) -> Iterator[tuple[Run, int, str]]:
+        """Acts before each call in turn, or before each so many. The runs, with the number and the name of the call."""
+        number = 0
+        while True:
+            run, made = (again or self.run_again)(number, act)
+            if len(made) <= number:
+                return
+            yield run, number, made[number]
+            number += step
+
+    def test_each_call_fails(self: Any) -> None:
+        met, number = set(), 0
+        for run, number, call in self.before_each_call(fail):
+            met.add(run.status)
+            self.check(run, (number, call), may_leave_one=call == "unlink")
+        self.assertGreaterEqual(number, self.least_calls)
+        self.assertEqual(met, {0, 1, 2})
+
+    def test_a_signal_before_each_call(self: Any) -> None:
+        for kind, step in ((signal.SIGINT, 1), (signal.SIGTERM, 7)):
+            met = set()
+            for run, number, call in self.before_each_call(lambda _: os.kill(os.getpid(), kind), step):
+                met.add(run.status)
+                self.check(run, (number, call), may_leave_one=False)
+            self.assertEqual(met, {0, 128 + kind})
+
+    def test_two_signals_end_it_at_once(self: Any) -> None:
+        def twice(_: str) -> None:
+            os.kill(os.getpid(), signal.SIGINT)
+            os.kill(os.getpid(), signal.SIGINT)
+
+        for run, number, _ in self.before_each_call(twice, 9):
+            self.check_ended(run, number)

@@ -16,6 +16,7 @@ from unittest import mock
 
 from support import (
     TOOL,
+    EachMoment,
     Limits,
     Run,
     TreeTest,
@@ -374,8 +375,10 @@ class Existing(TreeTest):
         self.assertEqual(files_of(self.tree), {})
 
 
-class NothingHalfDone(TreeTest):
+class NothingHalfDone(EachMoment, TreeTest):
     """Full disks, failing calls and signals at every moment: each file is whole, or isn't there."""
+
+    least_calls = 150
 
     def setUp(self) -> None:
         super().setUp()
@@ -397,11 +400,11 @@ class NothingHalfDone(TreeTest):
             run = self.call("export", self.script, self.tree)
         return run, made
 
-    def check(self, run: Run, at: object, may_leave_fresh: bool) -> None:
+    def check(self, run: Run, at: object, may_leave_one: bool) -> None:
         """Asks for whole files, and for a word on each that isn't there."""
         found = files_of(self.tree)
         fresh = {path for path in found if path.endswith(b".export")}
-        self.assertLessEqual(len(fresh), 1 if may_leave_fresh else 0, at)
+        self.assertLessEqual(len(fresh), 1 if may_leave_one else 0, at)
         for path in found.keys() - fresh:
             self.assertEqual(found[path], (self.files[path], 77), at)
         missing = self.files.keys() - found.keys()
@@ -418,43 +421,9 @@ class NothingHalfDone(TreeTest):
         found = files_of(self.tree)
         self.assertEqual(found.keys() - fresh, self.files.keys(), at)
 
-    def test_each_call_fails(self) -> None:
-        def fail(name: str) -> None:
-            raise OSError(errno.EIO, os.strerror(errno.EIO))
-
-        number, met = 0, set()
-        while True:
-            run, made = self.run_again(number, fail)
-            if len(made) <= number:
-                break
-            met.add(run.status)
-            self.check(run, (number, made[number]), may_leave_fresh=made[number] == "unlink")
-            number += 1
-        self.assertGreater(number, 150)
-        self.assertEqual(met, {0, 1, 2})
-
-    def test_a_signal_before_each_call(self) -> None:
-        for kind in (signal.SIGINT, signal.SIGTERM):
-            number, met = 0, set()
-            while True:
-                run, made = self.run_again(number, lambda name: os.kill(os.getpid(), kind))
-                if len(made) <= number:
-                    break
-                met.add(run.status)
-                self.check(run, (number, made[number]), may_leave_fresh=False)
-                number += 1 if kind == signal.SIGINT else 7
-            self.assertEqual(met, {0, 128 + kind})
-
-    def test_two_signals_end_it_at_once(self) -> None:
-        def twice(name: str) -> None:
-            os.kill(os.getpid(), signal.SIGINT)
-            os.kill(os.getpid(), signal.SIGINT)
-
-        for number in range(0, 300, 9):
-            run, made = self.run_again(number, twice)
-            if len(made) > number:
-                self.assertEqual(run.status, 130, number)
-            self.check(run, number, may_leave_fresh=True)
+    def check_ended(self, run: Run, at: object) -> None:
+        self.assertEqual(run.status, 130, at)
+        self.check(run, at, may_leave_one=True)
 
     def test_a_disk_that_is_full_stops_the_run(self) -> None:
         whole = os.write

@@ -18,12 +18,14 @@ from unittest import mock
 
 from support import (
     TOOL,
+    EachMoment,
     Limits,
     Run,
     TreeTest,
     before_call,
     become_nobody,
     everything_in,
+    fail,
     files_of,
     in_child,
     read,
@@ -533,10 +535,11 @@ class Outputs(TreeTest):
         self.assertEqual((run.status, sum(map(len, scripts))), (1, size))
 
 
-class NothingHalfDone(TreeTest):
+class NothingHalfDone(EachMoment, TreeTest):
     """Full disks, failing calls and signals at every moment: all scripts are there, or none."""
 
     limits = Limits(2000, 64)
+    least_calls = 100
 
     def setUp(self) -> None:
         super().setUp()
@@ -558,11 +561,11 @@ class NothingHalfDone(TreeTest):
             run = self.call("import", "--into", self.into, self.tree, limits=self.limits)
         return run, made
 
-    def check(self, run: Run, at: object, may_leave_draft: bool) -> None:
+    def check(self, run: Run, at: object, may_leave_one: bool) -> None:
         """Asks for all scripts where the run says so, and for none elsewhere."""
         names = set(os.listdir(self.into)) if os.path.isdir(self.into) else set()
         drafts = {name for name in names if name.endswith(b".part")}
-        self.assertLessEqual(len(drafts), 1 if may_leave_draft else 0, at)
+        self.assertLessEqual(len(drafts), 1 if may_leave_one else 0, at)
         names -= drafts
         if run.status == 0:
             self.assertEqual({name: read(self.path(b"into", name)) for name in names}, self.whole)
@@ -573,21 +576,6 @@ class NothingHalfDone(TreeTest):
             self.assertEqual(names, set(), at)
             self.assertRegex(run.err, "(?m)^maildir: ", at)
 
-    def test_each_call_fails(self) -> None:
-        def fail(name: str) -> None:
-            raise OSError(errno.EIO, os.strerror(errno.EIO))
-
-        number, met = 0, set()
-        while True:
-            run, made = self.run_again(number, fail)
-            if len(made) <= number:
-                break
-            met.add(run.status)
-            self.check(run, (number, made[number]), may_leave_draft=made[number] == "unlink")
-            number += 1
-        self.assertGreater(number, 100)
-        self.assertEqual(met, {0, 1, 2})
-
     def test_each_call_fails_where_a_file_is_replaced(self) -> None:
         script = self.path(b"script")
         self.assertEqual(self.call("import", "-o", script, self.tree).status, 2)
@@ -595,51 +583,27 @@ class NothingHalfDone(TreeTest):
         self.assertEqual(self.call("import", "-o", script, self.tree).status, 0)
         whole = read(script)
 
-        def fail(name: str) -> None:
-            raise OSError(errno.ENOSPC, os.strerror(errno.ENOSPC))
-
-        number = 0
-        while True:
+        def again(number: int, act: Callable[[str], None]) -> tuple[Run, list[str]]:
             self.write(b"script", b"old")
-            with before_call(number, fail) as made:
-                run = self.call("import", "-o", script, self.tree)
-            if len(made) <= number:
-                break
-            at = (number, made[number])
+            with before_call(number, act) as made:
+                return self.call("import", "-o", script, self.tree), made
+
+        for run, number, call in self.before_each_call(fail, again=again):
             if run.status == 1:
-                self.assertIn("left out", run.err, at)
+                self.assertIn("left out", run.err, number)
             else:
-                self.assertEqual(read(script), whole if run.status == 0 else b"old", at)
+                self.assertEqual(read(script), whole if run.status == 0 else b"old", number)
             left = [name for name in os.listdir(self.scratch) if name.endswith(b".part")]
-            self.assertLessEqual(len(left), 1 if made[number] == "unlink" else 0, at)
+            self.assertLessEqual(len(left), 1 if call == "unlink" else 0, number)
             for name in left:
                 os.unlink(self.path(name))
-            number += 1
-        self.assertGreater(number, 80)
+        self.assertGreaterEqual(number, 80)
 
-    def test_a_signal_before_each_call(self) -> None:
-        for kind in (signal.SIGINT, signal.SIGTERM):
-            number, met = 0, set()
-            while True:
-                run, made = self.run_again(number, lambda name: os.kill(os.getpid(), kind))
-                if len(made) <= number:
-                    break
-                met.add(run.status)
-                self.check(run, (number, made[number]), may_leave_draft=False)
-                number += 1 if kind == signal.SIGINT else 7
-            self.assertEqual(met, {0, 128 + kind})
-
-    def test_two_signals_end_it_at_once(self) -> None:
-        def twice(name: str) -> None:
-            os.kill(os.getpid(), signal.SIGINT)
-            os.kill(os.getpid(), signal.SIGINT)
-
-        for number in range(0, 200, 9):
-            run, _ = self.run_again(number, twice)
-            self.assertIn(run.status, (0, 130), number)
-            names = set(os.listdir(self.into)) if os.path.isdir(self.into) else set()
-            scripts = {name for name in names if not name.endswith(b".part")}
-            self.assertIn(scripts, (set(), set(self.whole)), number)
+    def check_ended(self, run: Run, at: object) -> None:
+        self.assertIn(run.status, (0, 130), at)
+        names = set(os.listdir(self.into)) if os.path.isdir(self.into) else set()
+        scripts = {name for name in names if not name.endswith(b".part")}
+        self.assertIn(scripts, (set(), set(self.whole)), at)
 
     def test_a_full_disk(self) -> None:
         size = max(map(len, self.whole.values()))

@@ -50,7 +50,8 @@ class Scenes(unittest.TestCase):
     def read(self, text):
         path = self.room / "one.scene"
         path.write_text(text)
-        return read_scene(path)
+        with mock.patch("judge_lib.scene.BEGINNING", []):
+            return read_scene(path)
 
     def test_words(self):
         traced = self.read(TRACED)
@@ -70,6 +71,7 @@ class Scenes(unittest.TestCase):
         for path in files:
             scene = read_scene(path)
             self.assertEqual(path.suffix, ".scene")
+            self.assertIn("box/cur", scene.setup[0])
             for claim in scene.claims:
                 read_claim(claim)
 

@@ -5,12 +5,12 @@ from __future__ import annotations
 import asyncio
 import os
 import pickle
-from types import TracebackType
 from typing import Any, Dict, Iterable, List, NamedTuple, Optional, Sequence, Tuple, Union
 
 from distributed import Actor, Client, Future
 from distributed.protocol.serialize import Serialized, serialize
 
+from .._closing import Closing
 from .._names import fresh_unique
 from .._tree import MOST_FOLDERS
 from ..calls import Answer, Call, Clean, Copy, Deliver, Entry, Expunge, Flag, Move, Seen
@@ -45,7 +45,7 @@ class _Sent(NamedTuple):
     call: Any
 
 
-class Mailboxes:
+class Mailboxes(Closing):
     """Mailboxes of users, each with the same folders, in so many shards.
 
     A user goes to a shard by rendezvous hashing of the name, and a shard is an actor on a worker. It
@@ -297,17 +297,6 @@ class Mailboxes:
         for shard, live in enumerate(self._shards):
             self._lost[shard] = "the mailboxes were closed"
             live.future.release()
-
-    def __enter__(self) -> Mailboxes:
-        return self
-
-    def __exit__(
-        self,
-        kind: Optional[type[BaseException]],
-        error: Optional[BaseException],
-        trace: Optional[TracebackType],
-    ) -> None:
-        self.close()
 
     # How a shard is reached.
 

@@ -519,9 +519,7 @@ static void test_settle(void) {
         uint64_t first;
         CHECK(deolmutt_settle(world, &first) == DEOLMUTT_UNANSWERED && first == 4);
         CHECK(deolmutt_job_answer(world, job, &answer) == DEOLMUTT_OK && answer.kind == DEOLMUTT_NO_ANSWER);
-        do
-            CHECK(deolmutt_step(world, job, 1, NULL, &step) == DEOLMUTT_OK);
-        while (step.answer.kind == DEOLMUTT_NO_ANSWER);
+        steps(world, job, 1, NULL, &step);
     }
     CHECK(deolmutt_settle(world, &job) == DEOLMUTT_OK && job == 0);
     CHECK(deolmutt_job_answer(world, 1, &answer) == DEOLMUTT_NO_JOB);

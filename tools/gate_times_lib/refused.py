@@ -1,5 +1,0 @@
-"""Why the table was not written."""
-
-
-class Refused(Exception):
-    """A reason, for whoever runs the program."""
