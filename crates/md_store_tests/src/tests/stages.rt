@@ -56,17 +56,20 @@ fn play_at_once<'a, J: Naming + Send + Sync, R: Threads + Wait + Abort + Sync>(
 
 // What one of two passes holds of the other's, or learns from it.
 fn compare<J: Naming>(passes: &mut [Pass<J>], words: &str) -> bool {
-    match passes {
-        [one, two] => match words {
-            "0 begins 1" => one.begins(two),
-            "1 begins 0" => two.begins(one),
-            "0 is longer" => !one.begins(two),
-            "1 learns" => {
-                two.learn_from(one);
-                true
-            }
-            _ => false,
-        },
+    if passes.len() != 2 {
+        return false;
+    }
+    let (ones, twos) = passes.split_at_mut(1);
+    let one = &mut ones[0];
+    let two = &mut twos[0];
+    match words {
+        "0 begins 1" => one.begins(two),
+        "1 begins 0" => two.begins(one),
+        "0 is longer" => !one.begins(two),
+        "1 learns" => {
+            two.learn_from(one);
+            true
+        }
         _ => false,
     }
 }
