@@ -81,14 +81,13 @@ fn row(alloc: Global, name: &[u8]) -> Result<Option<Row>, CoreError> {
 }
 
 // A flag that somebody else's change comes before: its name is gone, and is found again.
-fn flag_late(alloc: Global) -> Result<bool, CoreError> {
+fn flag_late(alloc: Global) -> Result<Option<Answer>, CoreError> {
     let mut heard = Vec::new(alloc);
     heard.push((DirReply::Ok, row(alloc, b"u:2,S")?))?;
     heard.push((DirReply::NotFound, None))?;
     heard.push((DirReply::Ok, row(alloc, b"u:2,RS")?))?;
     heard.push((DirReply::Ok, None))?;
-    let answer = flag_over(alloc, heard)?;
-    Ok(matches!(answer, Some(Answer::Flags(flags)) if flags.has(b'F') && flags.has(b'R')))
+    flag_over(alloc, heard)
 }
 
 // A clean that reads two old names, of which one is gone by then.
@@ -112,7 +111,9 @@ pub(crate) fn show_jobs(rt: &HostRuntime) -> Result<()> {
     let refused = [DirReply::Ok, DirReply::Ok, DirReply::Fault, DirReply::Ok];
     let answer = deliver_over(alloc, b"mail\n", &refused)?;
     println!(rt; "delivery with a failed write: {answer:?}")?;
-    println!(rt; "flag keeps what came before: {}", flag_late(alloc)?)?;
+    let all = Flags::parse(b"FRS").unwrap_or(Flags::empty());
+    let kept = flag_late(alloc)? == Some(Answer::Flags(all));
+    println!(rt; "flag keeps what came before: {kept}")?;
     println!(rt; "clean over replies: {:?}", clean_two(alloc)?)?;
     Ok(())
 }

@@ -46,13 +46,13 @@ fn names_of_all_lengths_are_hashed_by_both_words(rt: HostRuntime) {
         (b"", 0x99b4_09a1_11a1_b1a5),
         (b"a", 0x8644_f857_add4_7eb2),
         (b"1000.M5P", 0xedce_d22e_0bca_7462),
-        (b"1000.M5P7", 0x9ff3_fa2d_8bcd_8c3e),
-        (b"1000.M5P7Q1.host", 0xe5ce_69a1_5d18_9bc3),
-        (b"1000.M5P7Q1.host1", 0x06c1_9770_c51b_cd1c),
-        (b"1792406400.M123456P7890Q1.mail.exa", 0xe306_b8c8_4cc4_1252),
+        (b"1000.M5P7", 0xadc7_c95e_d354_b278),
+        (b"1000.M5P7Q1.host", 0x45a8_e976_feee_5712),
+        (b"1000.M5P7Q1.host1", 0x40d4_c97a_38f9_a010),
+        (b"1792406400.M123456P7890Q1.mail.exa", 0xca16_a758_43cd_08bb),
         (
             b"1792406400.M123456P7890Q12.mail.example.org",
-            0x8ee0_bb9d_e2d2_5fcf,
+            0xbc71_fdb7_7581_9209,
         ),
     ];
     for (name, expected) in hashes {
