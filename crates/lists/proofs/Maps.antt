@@ -1,17 +1,25 @@
 -- What a finite map has at a key that was put or dropped, and at another.
-use Rattle.std.proofs.Common.{◌≡◌, ◌≢◌, List, Some, None, Bool, true, false, cond, not, T, refl, sym, ap, ◌∙◌}
+use Rattle.std.proofs.Common.{◌≡◌, ◌≢◌, List, [], Some, None, Bool, true, false, cond, not, T, refl, sym, ap, ◌∙◌}
 use Rattle.std.specs.declared.cmp.Ordering.{Ordering}
 use Rattle.std.specs.Ordering.{eq_by_cmp, is_eq}
 use Rattle.std.specs.Cmp.{Equal-is, IsTotalOrder, eq_by_cmp_equiv}
 use Rattle.std.specs.FinMap as finmap
-use Rattle.std.specs.FinMap.{FinMap, get, find, is_sorted, same_map, get-insert, get-remove, get-entries, get-from_sorted, entries_sorted, entries-from_sorted}
+use Rattle.std.specs.FinMap.{FinMap, get, find, is_sorted, same_map, same_entries_map, from_sorted, get-insert, get-remove, get-entries, get-from_sorted, entries_sorted, entries-from_sorted, len-empty, len-entries}
 use Rattle.std.specs.FinMap.Entries.{where_key, find-where_key, is_sorted-where_key}
 use Rattle.std.proofs.lemmas.Cmp.{tied_itself}
 use Rattle.std.proofs.lemmas.Map.Lookups.{CmpEqualImpliesEq}
+use Rattle.lists.proofs.Pushed.{nothing}
 
 turned : {X : Type 0} (b : Bool) (x y : X) → cond (not b) x y ≡ cond b y x
 turned true x y = refl
 turned false x y = refl
+
+-- a map of nothing
+pub entries-empty : {X K : Type 0} (R : K → K → Ordering) → finmap.entries (finmap.empty {X = X} {R = R}) ≡ []
+entries-empty {X = X} R = nothing (finmap.entries finmap.empty) (sym (len-entries (finmap.empty {X = X} {R = R})) ∙ len-empty R X)
+
+pub from-none : {X K : Type 0} (R : K → K → Ordering) (rows : List (K × X)) → rows ≡ [] → from_sorted {R = R} rows ≡ finmap.empty
+from-none R rows none = ap from_sorted none ∙ same_entries_map _ _ (entries-from_sorted R [] tt ∙ sym (entries-empty R))
 
 module _ {K : Type 0} {R : K → K → Ordering} (o : IsTotalOrder R) (exact : CmpEqualImpliesEq R) where
   -- whether two keys are one

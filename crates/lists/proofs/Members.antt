@@ -8,8 +8,8 @@ use Rattle.std.specs.FinMap.{FinMap, find, is_sorted, get, get-entries, entries,
 use Rattle.std.specs.FinMap.Entries.{below_all}
 use Rattle.std.proofs.lemmas.Cmp.{tied_itself}
 use Rattle.std.proofs.lemmas.Map.Lookups.{CmpEqualImpliesEq}
-use Rattle.lists.proofs.Booleans.{first, second}
-use Rattle.lists.proofs.Orders.{less}
+use Rattle.lists.proofs.Booleans.{first, second, both}
+use Rattle.lists.proofs.Orders.{less, is_less}
 
 -- an entry is in a list
 abbrev pub Has : {X : Type 0} → List X → X → Type 0
@@ -20,6 +20,12 @@ Has (e ∷ es) x = (x ≡ e) ⊎ Has es x
 pub find-above : {K X : Type 0} (R : K → K → Ordering) (q : K) (es : List (K × X)) → T (below_all R q es) → find R q es ≡ None
 find-above R q [] h = refl
 find-above R q (e ∷ es) h = ap (λ r. cond (is_eq r) (Some e.1) (find R q es)) (less _ (first _ _ h)) ∙ find-above R q es (second _ _ h)
+
+-- a key below one that is below all keys of a list is below them too
+pub below-trans : {K X : Type 0} {R : K → K → Ordering} (o : IsTotalOrder R) (p q : K) (es : List (K × X)) → R p q ≡ Less →
+    T (below_all R q es) → T (below_all R p es)
+below-trans o p q [] is h = tt
+below-trans o p q (e ∷ es) is h = both _ _ (is_less _ (o.trans p q e.0 is (less _ (first _ _ h)))) (below-trans o p q es is (second _ _ h))
 
 module _ {K X : Type 0} {R : K → K → Ordering} (o : IsTotalOrder R) (exact : CmpEqualImpliesEq R) where
   above : (x : K × X) (q : K) (es : List (K × X)) → T (below_all R q es) → Has es x → R q x.0 ≡ Less

@@ -1,5 +1,5 @@
--- A list with one element more: what it has at each place.
-use Rattle.std.proofs.Common.{◌≡◌, ℕ, zero, suc, List, [], ◌∷◌, ◌++◌, Some, length, slice_get, refl}
+-- What a list has at its places, and what a list with one element more has.
+use Rattle.std.proofs.Common.{◌≡◌, ◌≤◌, ℕ, zero, suc, List, [], ◌∷◌, ◌++◌, Some, None, length, slice_get, refl, arith}
 
 pub last-is : {A : Type 0} (xs : List A) (y : A) → slice_get (xs ++ y ∷ []) (length xs) ≡ Some y
 last-is [] y = refl
@@ -9,3 +9,13 @@ pub stays : {A : Type 0} (xs : List A) (y : A) (i : ℕ) (x : A) → slice_get x
 stays [] y i x is = absurd (cc is)
 stays (z ∷ xs) y zero x is = is
 stays (z ∷ xs) y (suc i) x is = stays xs y i x is
+
+-- where there is nothing, the list has ended
+pub past-end : {A : Type 0} (xs : List A) (i : ℕ) → slice_get xs i ≡ None → length xs ≤ i
+past-end [] i is = omega arith
+past-end (x ∷ xs) zero is = cc
+past-end (x ∷ xs) (suc i) is = let rest = past-end xs i is in omega arith
+
+pub nothing : {A : Type 0} (xs : List A) → length xs ≡ 0 → xs ≡ []
+nothing [] is = refl
+nothing (x ∷ xs) is = absurd (omega arith)

@@ -8,18 +8,11 @@ use Rattle.std.specs.FinMap.{entries_sorted}
 use Rattle.md_dirs.specs.Named.{Row, GoesLast}
 use Rattle.md_dirs.specs.Index.{name_cmp, IsOrderOf}
 use Rattle.md_dirs.specs.Plain.{IsGap}
-use Rattle.md_dirs.proofs.Sorted.{is_true, gap_end, all_below-to}
+use Rattle.md_dirs.proofs.Sorted.{gap_end, all_below-to}
+use Rattle.lists.proofs.Booleans.{is_true}
+use Rattle.lists.proofs.Pushed.{past-end, nothing}
 use Rattle.md_dirs.proofs.NameRows.{name_total, name_exact, get-within}
 use Rattle.md_dirs.proofs.Ordered.{Rows, listed, listed-itself, long, at-place, come}
-
-nothing : {X : Type 0} (xs : List X) → length xs ≡ 0 → xs ≡ []
-nothing [] h = refl
-nothing (x ∷ xs) h = absurd (omega (arith, h))
-
-past : {X : Type 0} (xs : List X) (i : ℕ) → slice_get xs i ≡ None → length xs ≤ i
-past [] i is = omega arith
-past (x ∷ xs) zero is = cc
-past (x ∷ xs) (suc i) is = let rest = past xs i is in omega arith
 
 -- an order of no position is that of no row
 pub no-order : IsOrderOf [] []
@@ -36,7 +29,7 @@ made rows order h count = elim h [
 
 pub none-behind : (rows : Rows) (order : List ℕ) (name : List ℕ) → IsOrderOf rows order → slice_get order (length order - 1) ≡ None → GoesLast rows order name
 none-behind rows order name is end =
-    let some = past order (length order - 1) end in
+    let some = past-end order (length order - 1) end in
     let empty : length order ≡ 0 = omega (arith, some) in
     let nil : listed rows ≡ [] = nothing (listed rows) (sym (long rows order is) ∙ empty) in
     record {

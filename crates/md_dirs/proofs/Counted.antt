@@ -19,7 +19,11 @@ use Rattle.md_dirs.specs.declared.files.Kept.{Kept}
 use Rattle.md_dirs.proofs.PathOrder.{path_total, path_exact}
 use Rattle.lists.proofs.Maps.{entries-remove}
 use Rattle.md_dirs.proofs.Sound.{by_number, get-set_same, get-set_other}
-use Rattle.md_dirs.proofs.Sorted.{first, second, less}
+use Rattle.lists.proofs.Booleans.{first, second}
+use Rattle.lists.proofs.Orders.{less}
+use Rattle.lists.proofs.Members.{find-above, below-trans}
+use Rattle.md_dirs.proofs.Sorted.{where-above}
+use Rattle.std.proofs.lemmas.List.{length-map, map-set}
 
 -- one, where a path names the file of a number
 abbrev pub hits : ℕ → Option ℕ → ℕ
@@ -39,26 +43,6 @@ counted-is n (e ∷ es) = by (e.1 == n) ∙ ap (λ k. cond (e.1 == n) 1 0 + k) (
     by true = omega arith
     by false = omega arith
 
-above : (p : Path) (e : Path × ℕ) (es : List (Path × ℕ)) → path_cmp p e.0 ≡ Less → T (below_all path_cmp e.0 es) → T (below_all path_cmp p es)
-above p e [] is h = tt
-above p e (x ∷ es) is h =
-    let lower : path_cmp p x.0 ≡ Less = path_total.trans p e.0 x.0 is (less _ (first _ _ h)) in
-    pair _ _ (subst (λ r. T (is_lt r)) (sym lower) tt) (above p e es is (second _ _ h))
-  where
-    pair : (a b : Bool) → T a → T b → T (a && b)
-    pair true b p q = q
-    pair false b p q = p
-
-find-above : (p : Path) (es : List (Path × ℕ)) → T (below_all path_cmp p es) → find path_cmp p es ≡ None
-find-above p [] h = refl
-find-above p (e ∷ es) h = ap (λ r. cond (is_eq r) (Some e.1) (find path_cmp p es)) (less _ (first _ _ h)) ∙ find-above p es (second _ _ h)
-
-where-above : (p : Path) (es : List (Path × ℕ)) → T (below_all path_cmp p es) → where_key path_cmp (λ q. not (eq_by_cmp path_cmp p q)) es ≡ es
-where-above p [] h = refl
-where-above p (e ∷ es) h =
-    ap (λ r. cond (not (is_eq r)) (e ∷ where_key path_cmp (λ q. not (eq_by_cmp path_cmp p q)) es)
-    (where_key path_cmp (λ q. not (eq_by_cmp path_cmp p q)) es)) (less _ (first _ _ h)) ∙ ap (λ xs. e ∷ xs) (where-above p es (second _ _ h))
-
 tied-above : (p : Path) (e : Path × ℕ) (es : List (Path × ℕ)) → path_cmp p e.0 ≡ Equal → T (below_all path_cmp e.0 es) → T (below_all path_cmp p es)
 tied-above p e es is h = subst (λ (q : Path). T (below_all path_cmp q es)) (sym (path_exact p e.0 is)) h
 
@@ -72,7 +56,7 @@ count-put n p v (e ∷ es) h = by (count-put n p v es (second _ _ h)) (path_cmp 
     by : counted n (put path_cmp p v es) + hits n (find path_cmp p es) ≡ counted n es + hits n (Some v) → (r : Ordering) → path_cmp p e.0 ≡ r →
         counted n (by_order r ((p, v) ∷ e ∷ es) ((e.0, v) ∷ es) (e ∷ put path_cmp p v es)) + hits n (cond (is_eq r) (Some e.1) (find path_cmp p es)) ≡
         counted n (e ∷ es) + hits n (Some v)
-    by rest Less is = let none = find-above p es (above p e es is (first _ _ h)) in ap (λ o. counted n ((p, v) ∷ e ∷ es) + hits n o) none ∙ omega arith
+    by rest Less is = let none = find-above path_cmp p es (below-trans path_total p e.0 es is (first _ _ h)) in ap (λ o. counted n ((p, v) ∷ e ∷ es) + hits n o) none ∙ omega arith
     by rest Equal is = omega arith
     by rest Greater is = omega (arith, rest)
 
@@ -88,7 +72,7 @@ count-drop n p (e ∷ es) h = by (count-drop n p es (second _ _ h)) (path_cmp p 
         counted n (cond (not (is_eq r)) (e ∷ where_key path_cmp (λ q. not (eq_by_cmp path_cmp p q)) es)
         (where_key path_cmp (λ q. not (eq_by_cmp path_cmp p q)) es)) + hits n (cond (is_eq r) (Some e.1) (find path_cmp p es)) ≡ counted n (e ∷ es)
     by rest Less is = omega (arith, rest)
-    by rest Equal is = let all = ap (counted n) (where-above p es (tied-above p e es is (first _ _ h))) in omega (arith, all)
+    by rest Equal is = let all = ap (counted n) (where-above path_total path_exact p es (tied-above p e es is (first _ _ h))) in omega (arith, all)
     by rest Greater is = omega (arith, rest)
 
 pub paths-insert : (n : ℕ) (m : PathMap) (p : Path) (v : ℕ) → paths_of (finmap.insert m p v) n + hits n (finmap.get m p) ≡ paths_of m n + hits n (Some v)
@@ -118,14 +102,8 @@ named-count n (e ∷ es) b is = by (named-count n es) (e.1 == n) refl is
         later false none = omega arith
 
 -- slots, and the files in them
-pub map-set : {X Y : Type 0} (f : X → Y) (xs : List X) (i : ℕ) (x : X) → map f (slice_set xs i x) ≡ slice_set (map f xs) i (f x)
-map-set f [] i x = refl
-map-set f (y ∷ ys) zero x = refl
-map-set f (y ∷ ys) (suc i) x = ap (λ zs. f y ∷ zs) (map-set f ys i x)
-
 pub length-files : (slots : List (Option Kept)) → length (files_of slots) ≡ length slots
-length-files [] = refl
-length-files (s ∷ ss) = ap suc (length-files ss)
+length-files slots = length-map slots (option_map (λ (k : Kept). k.file))
 
 pub file-slot : (slots : List (Option Kept)) (n : ℕ) → file_by (files_of slots) n ≡ option_map (λ (k : Kept). k.file) (slot_at slots n)
 file-slot [] n = refl

@@ -1,5 +1,8 @@
 -- Directories side by side: their rows are in order of their paths, and each path is looked up in its own directory.
-use Rattle.std.proofs.Common.{ℕ, zero, suc, ◌≡◌, ◌≢◌, ◌+◌, ◌*◌, ◌/◌, ◌%◌, ◌<◌, ◌≤◌, ◌++◌, ◌==◌, ◌&&◌, List, [], ◌∷◌, Some, None, Bool, true, false, cond, T, refl, sym, ap, subst, ◌∙◌, arith, length, map, filter, slice_set, get_or, append-nil}
+use Rattle.std.proofs.Common.{ℕ, zero, suc, ◌≡◌, ◌≢◌, ◌+◌, ◌*◌, ◌/◌, ◌%◌, ◌<◌, ◌≤◌, ◌++◌, ◌==◌, ◌&&◌, List, [], ◌∷◌, Option, Some, None, MatchOption, Bor, Bool, true, false, cond, T, refl, sym, ap, subst, ◌∙◌, arith, length, map, filter, slice_set, get_or, append-nil}
+use Rattle.std.proofs.lemmas.Bool.{ltb-true, ltb-false}
+use Rattle.std.specs.Option.{option_and_then, option_map_or}
+use Rattle.std.specs.Slice.{IsItemAt}
 use Rattle.std.proofs.lemmas.Bool.Decides.{nat_tests}
 use Rattle.std.proofs.lemmas.Cmp.{nat_cmp_total, tied_itself}
 use Rattle.std.specs.declared.cmp.Ordering.TheVariants.{Less, Greater}
@@ -18,7 +21,9 @@ use Rattle.md_dirs.proofs.PathOrder.{path_total, path_exact}
 use Rattle.md_dirs.proofs.NameRows.{name_total, name_exact}
 use Rattle.lists.proofs.Maps as maps
 use Rattle.md_dirs.proofs.Sound.{by_path, by_number}
-use Rattle.md_dirs.proofs.Sorted.{first, second, both, less}
+use Rattle.lists.proofs.Booleans.{first, second, both}
+use Rattle.lists.proofs.Members.{find-above}
+use Rattle.lists.proofs.Orders.{less, is_less}
 
 -- numbers of directories
 place_by-index : (place : Place) → place_by (place_index place) ≡ place
@@ -69,9 +74,6 @@ lower-directory m n a b below = by_number (m / 3) (n / 3)
     (λ i. ordering_then (less-numbers _ _ folders i)
     (ordering_then (nat_cmp (place_index (place_by (m % 3))) (place_index (place_by (n % 3)))) (name_cmp a b))))
 
-is_less : (p q : Path) → path_cmp p q ≡ Less → T (is_lt (path_cmp p q))
-is_less p q is = subst (λ r. T (is_lt r)) (sym is) tt
-
 abbrev at : ℕ → List ℕ × ℕ → Path × ℕ
 at n e = (path_at n e.0, e.1)
 
@@ -79,7 +81,7 @@ at n e = (path_at n e.0, e.1)
 below-map : (m n : ℕ) (a : List ℕ) (es : List (List ℕ × ℕ)) (ys : List (Path × ℕ)) → m < n → T (below_all path_cmp (path_at m a) ys) →
     T (below_all path_cmp (path_at m a) (map (at n) es ++ ys))
 below-map m n a [] ys below h = h
-below-map m n a (e ∷ es) ys below h = both _ _ (is_less (path_at m a) (path_at n e.0) (lower-directory m n a e.0 below)) (below-map m n a es ys below h)
+below-map m n a (e ∷ es) ys below h = both _ _ (is_less _ (lower-directory m n a e.0 below)) (below-map m n a es ys below h)
 
 pub beyond : (m n : ℕ) (a : List ℕ) (ds : List NameMap) → m < n → T (below_all path_cmp (path_at m a) (rows_from n ds))
 beyond m n a [] below = tt
@@ -89,7 +91,7 @@ below-same : (n : ℕ) (a : List ℕ) (es : List (List ℕ × ℕ)) (ys : List (
     T (below_all path_cmp (path_at n a) ys) → T (below_all path_cmp (path_at n a) (map (at n) es ++ ys))
 below-same n a [] ys below h = h
 below-same n a (e ∷ es) ys below h =
-    both _ _ (is_less (path_at n a) (path_at n e.0) (same-directory n a e.0 ∙ less _ (first _ _ below))) (below-same n a es ys (second _ _ below) h)
+    both _ _ (is_less _ (same-directory n a e.0 ∙ less _ (first _ _ below))) (below-same n a es ys (second _ _ below) h)
 
 sorted-map : (n : ℕ) (es : List (List ℕ × ℕ)) (ys : List (Path × ℕ)) → T (is_sorted name_cmp es) → T (is_sorted path_cmp ys) →
     ((a : List ℕ) → T (below_all path_cmp (path_at n a) ys)) → T (is_sorted path_cmp (map (at n) es ++ ys))
@@ -106,10 +108,6 @@ pub entries-names : (ds : List NameMap) → finmap.entries (names_of ds) ≡ row
 entries-names ds = entries-from_sorted path_cmp (rows_from 0 ds) (sorted-rows 0 ds)
 
 -- what is found at a path
-find-above : (p : Path) (es : List (Path × ℕ)) → T (below_all path_cmp p es) → find path_cmp p es ≡ None
-find-above p [] h = refl
-find-above p (e ∷ es) h = ap (λ r. cond (is_eq r) (Some e.1) (find path_cmp p es)) (less _ (first _ _ h)) ∙ find-above p es (second _ _ h)
-
 find-here : (n : ℕ) (a : List ℕ) (es : List (List ℕ × ℕ)) (ys : List (Path × ℕ)) → find path_cmp (path_at n a) ys ≡ None →
     find path_cmp (path_at n a) (map (at n) es ++ ys) ≡ find name_cmp a es
 find-here n a [] ys none = none
@@ -128,7 +126,7 @@ find-rows [] k n m a is = sym (get-empty name_cmp a)
 find-rows (d ∷ ds) zero n m a is =
     let here : m ≡ n = omega arith in
     ap (λ j. find path_cmp (path_at j a) (rows_from n (d ∷ ds))) here
-    ∙ find-here n a (finmap.entries d) (rows_from (suc n) ds) (find-above (path_at n a) (rows_from (suc n) ds) (beyond n (suc n) a ds (omega arith)))
+    ∙ find-here n a (finmap.entries d) (rows_from (suc n) ds) (find-above path_cmp (path_at n a) (rows_from (suc n) ds) (beyond n (suc n) a ds (omega arith)))
     ∙ sym (get-entries d a)
 find-rows (d ∷ ds) (suc k) n m a is = find-past m n a (finmap.entries d) (rows_from (suc n) ds) (omega arith) ∙ find-rows ds k (suc n) m a (omega arith)
 
@@ -154,39 +152,34 @@ module _ (ds es : List NameMap) (p : Path) (others : (k : ℕ) → k ≢ directo
   at-other : (q : Path) → directory_number q.folder q.place ≢ here → finmap.get (names_of es) q ≡ finmap.get (names_of ds) q
   at-other q differ = get-names es q ∙ ap (λ (m : NameMap). finmap.get m q.name) (others (directory_number q.folder q.place) differ) ∙ sym (get-names ds q)
 
+  -- the name is as its path is to be, and no other name changed
+  write-names : (new : PathMap) → finmap.get (directory_at es here) p.name ≡ finmap.get new p
+      → ((name : List ℕ) → name ≢ p.name → finmap.get (directory_at es here) name ≡ finmap.get (directory_at ds here) name)
+      → ((q : Path) → q ≢ p → finmap.get new q ≡ finmap.get (names_of ds) q) → names_of es ≡ new
+  write-names new written beside others = same_map path_total path_exact _ _ (λ q. by_path q p
+      (λ one. ap (finmap.get (names_of es)) one ∙ get-names es p ∙ written ∙ ap (finmap.get new) (sym one))
+      (λ differ. by_number (directory_number q.folder q.place) here
+      (λ same.
+      get-names es q ∙ ap (λ k. finmap.get (directory_at es k) q.name) same ∙ beside q.name (λ name. differ (same-path p q same name))
+      ∙ ap (λ k. finmap.get (directory_at ds k) q.name) (sym same) ∙ sym (get-names ds q))
+      (at-other q)
+      ∙ sym (others q differ)))
+
   -- a name was put into its directory
   pub put-names : (v : ℕ) → directory_at es here ≡ finmap.insert (directory_at ds here) p.name v → names_of es ≡ finmap.insert (names_of ds) p v
-  put-names v is = same_map path_total path_exact _ _ (λ q. by_path q p
-      (λ one.
-      get-names es q ∙ (λ i. finmap.get (directory_at es (directory_number (one i).folder (one i).place)) (one i).name) ∙
-      ap (λ (m : NameMap). finmap.get m p.name) is
-      ∙ maps.at_put name_total name_exact (directory_at ds here) p.name p.name v refl ∙ sym (maps.at_put path_total path_exact (names_of ds) p q v one))
-      (λ differ. beside q differ ∙ sym (maps.beside_put path_total path_exact (names_of ds) p q v differ)))
-    where
-      beside : (q : Path) → q ≢ p → finmap.get (names_of es) q ≡ finmap.get (names_of ds) q
-      beside q differ = by_number (directory_number q.folder q.place) here
-          (λ same.
-          get-names es q ∙ ap (λ k. finmap.get (directory_at es k) q.name) same ∙ ap (λ (m : NameMap). finmap.get m q.name) is
-          ∙ maps.beside_put name_total name_exact (directory_at ds here) p.name q.name v (λ name. differ (same-path p q same name))
-          ∙ ap (λ k. finmap.get (directory_at ds k) q.name) (sym same) ∙ sym (get-names ds q))
-          (at-other q)
+  put-names v is = write-names (finmap.insert (names_of ds) p v)
+      (ap (λ (m : NameMap). finmap.get m p.name) is ∙ maps.at_put name_total name_exact (directory_at ds here) p.name p.name v refl
+      ∙ sym (maps.at_put path_total path_exact (names_of ds) p p v refl))
+      (λ name differ. ap (λ (m : NameMap). finmap.get m name) is ∙ maps.beside_put name_total name_exact (directory_at ds here) p.name name v differ)
+      (λ q. maps.beside_put path_total path_exact (names_of ds) p q v)
 
   -- a name was taken from its directory
   pub take-names : directory_at es here ≡ finmap.remove (directory_at ds here) p.name → names_of es ≡ finmap.remove (names_of ds) p
-  take-names is = same_map path_total path_exact _ _ (λ q. by_path q p
-      (λ one.
-      get-names es q ∙ (λ i. finmap.get (directory_at es (directory_number (one i).folder (one i).place)) (one i).name) ∙
-      ap (λ (m : NameMap). finmap.get m p.name) is
-      ∙ maps.at_drop name_total name_exact (directory_at ds here) p.name p.name refl ∙ sym (maps.at_drop path_total path_exact (names_of ds) p q one))
-      (λ differ. beside q differ ∙ sym (maps.beside_drop path_total path_exact (names_of ds) p q differ)))
-    where
-      beside : (q : Path) → q ≢ p → finmap.get (names_of es) q ≡ finmap.get (names_of ds) q
-      beside q differ = by_number (directory_number q.folder q.place) here
-          (λ same.
-          get-names es q ∙ ap (λ k. finmap.get (directory_at es k) q.name) same ∙ ap (λ (m : NameMap). finmap.get m q.name) is
-          ∙ maps.beside_drop name_total name_exact (directory_at ds here) p.name q.name (λ name. differ (same-path p q same name))
-          ∙ ap (λ k. finmap.get (directory_at ds k) q.name) (sym same) ∙ sym (get-names ds q))
-          (at-other q)
+  take-names is = write-names (finmap.remove (names_of ds) p)
+      (ap (λ (m : NameMap). finmap.get m p.name) is ∙ maps.at_drop name_total name_exact (directory_at ds here) p.name p.name refl
+      ∙ sym (maps.at_drop path_total path_exact (names_of ds) p p refl))
+      (λ name differ. ap (λ (m : NameMap). finmap.get m name) is ∙ maps.beside_drop name_total name_exact (directory_at ds here) p.name name differ)
+      (maps.beside_drop path_total path_exact (names_of ds) p)
 
 -- the directory that was written, and the others
 pub at-set : (ds : List NameMap) (i : ℕ) (d : NameMap) → i < length ds → directory_at (slice_set ds i d) i ≡ d
@@ -201,32 +194,17 @@ beside-set (x ∷ xs) zero (suc k) d differ = refl
 beside-set (x ∷ xs) (suc i) zero d differ = refl
 beside-set (x ∷ xs) (suc i) (suc k) d differ = beside-set xs i k d (λ is. differ (ap suc is))
 
--- one more directory without a name
-pub at-more : (ds : List NameMap) (k : ℕ) → directory_at (ds ++ finmap.empty ∷ []) k ≡ directory_at ds k
-at-more [] zero = refl
-at-more [] (suc k) = refl
-at-more (x ∷ xs) zero = refl
-at-more (x ∷ xs) (suc k) = at-more xs k
-
 pub past-end : (ds : List NameMap) (k : ℕ) → length ds ≤ k → directory_at ds k ≡ finmap.empty
 past-end [] k past = refl
 past-end (x ∷ xs) zero past = absurd (omega arith)
 past-end (x ∷ xs) (suc k) past = past-end xs k (omega arith)
-
--- no directory
-pub names-none : (ds : List NameMap) → ds ≡ [] → names_of ds ≡ finmap.empty
-names-none ds none =
-    let no-entry : finmap.entries (from_sorted {R = path_cmp} []) ≡ [] = entries-from_sorted path_cmp [] tt in
-    ap names_of none ∙ empty_of_len _ (len-entries (from_sorted {R = path_cmp} []) ∙ ap length no-entry)
 
 pub none-past : (ds : List NameMap) (p : Path) → length ds ≤ directory_number p.folder p.place → finmap.get (names_of ds) p ≡ None
 none-past ds p past = get-names ds p ∙ ap (λ (m : NameMap). finmap.get m p.name) (past-end ds _ past) ∙ get-empty name_cmp p.name
 
 -- nothing is to be taken from a directory past the last
 pub gone-past : (ds : List NameMap) (p : Path) → length ds ≤ directory_number p.folder p.place → names_of ds ≡ finmap.remove (names_of ds) p
-gone-past ds p past = same_map path_total path_exact _ _ (λ q. by_path q p
-    (λ one. ap (finmap.get (names_of ds)) one ∙ none-past ds p past ∙ sym (maps.at_drop path_total path_exact (names_of ds) p q one))
-    (λ differ. sym (maps.beside_drop path_total path_exact (names_of ds) p q differ)))
+gone-past ds p past = sym (maps.drop-absent path_total path_exact (names_of ds) p (none-past ds p past))
 
 -- a directory that is read at its number
 pub read-directory : (ds : List NameMap) (i : ℕ) (d : NameMap) → i < length ds → d ≡ get_or ds i d → directory_at ds i ≡ d
@@ -277,14 +255,9 @@ later-none n folder place [] above = refl
 later-none n folder place (d ∷ ds) above =
     drop-elsewhere n folder place (finmap.entries d) (rows_from (suc n) ds) (λ is. absurd (omega arith)) ∙ later-none (suc n) folder place ds (omega arith)
 
-entries-empty : finmap.entries (finmap.empty {X = ℕ} {R = name_cmp}) ≡ []
-entries-empty =
-    let none : finmap.entries (from_sorted {X = ℕ} {R = name_cmp} []) ≡ [] = entries-from_sorted name_cmp [] tt in
-    ap finmap.entries (sym (empty_of_len (from_sorted {X = ℕ} {R = name_cmp} []) (len-entries (from_sorted {X = ℕ} {R = name_cmp} []) ∙ ap length none))) ∙ none
-
 rows-of-one : (ds : List NameMap) (k n : ℕ) (folder : ℕ) (place : Place) → directory_number folder place ≡ n + k
     → map named_row (filter (λ e. is_in folder place e.0) (rows_from n ds)) ≡ finmap.entries (directory_at ds k)
-rows-of-one [] k n folder place is = sym entries-empty
+rows-of-one [] k n folder place is = sym (maps.entries-empty name_cmp)
 rows-of-one (d ∷ ds) zero n folder place is =
     keep-here n folder place (finmap.entries d) (rows_from (suc n) ds) (omega arith)
     ∙ ap (λ xs. finmap.entries d ++ xs) (later-none (suc n) folder place ds (omega arith)) ∙ append-nil (finmap.entries d)
@@ -297,8 +270,55 @@ rows-in ds folder place =
     ap (λ es. map named_row (filter (λ e. is_in folder place e.0) es)) (entries-names ds)
     ∙ rows-of-one ds (directory_number folder place) 0 folder place (omega arith)
 
-pub no-rows : (ds : List NameMap) (folder : ℕ) (place : Place) → length ds ≤ directory_number folder place → rows_in (names_of ds) folder place ≡ []
-no-rows ds folder place past = rows-in ds folder place ∙ ap finmap.entries (past-end ds _ past) ∙ entries-empty
+-- the directory that is looked up at its number, where it is there, and what it has
+module _ (ds : List NameMap) (folder : ℕ) (place : Place) where
+  abbrev looked-up : Option (Bor NameMap) → NameMap
+  looked-up o = option_map_or (λ d. d.now) o finmap.empty
+
+  looked-at : (o : Option (Bor NameMap)) → IsItemAt ds (directory_number folder place) o → directory_at ds (directory_number folder place) ≡ looked-up o
+  looked-at None is = past-end ds _ (ltb-false _ _ (sym is.0))
+  looked-at (Some d) is = read-directory ds _ d.now (ltb-true _ _ (sym is.0)) is.1
+
+  pub rows-of : (o : Option (Bor NameMap)) → IsItemAt ds (directory_number folder place) o →
+      MatchOption o (rows_in (names_of ds) folder place ≡ []) (λ d. rows_in (names_of ds) folder place ≡ finmap.entries d.now)
+  rows-of None is = rows-in ds folder place ∙ ap finmap.entries (looked-at None is) ∙ maps.entries-empty name_cmp
+  rows-of (Some d) is = rows-in ds folder place ∙ ap finmap.entries (looked-at (Some d) is)
+
+  pub files-of : (o : Option (Bor NameMap)) → IsItemAt ds (directory_number folder place) o → (name : List ℕ) →
+      finmap.get (names_of ds) (path_of folder place name) ≡ option_and_then (λ d. finmap.get d.now name) o
+  files-of o is name = get-names ds (path_of folder place name) ∙ ap (λ (d : NameMap). finmap.get d name) (looked-at o is) ∙ by o
+    where
+      by : (o : Option (Bor NameMap)) → finmap.get (looked-up o) name ≡ option_and_then (λ d. finmap.get d.now name) o
+      by None = get-empty name_cmp name
+      by (Some d) = refl
+
+-- a directory that is written at its number, where each directory is as it was, but for new ones behind that have no name
+module _ (ds us : List NameMap) (same : (k : ℕ) → directory_at us k ≡ directory_at ds k) (n : ℕ) (d d' : NameMap)
+    (within : n < length us) (is : d ≡ get_or us n d) where
+  before : d ≡ directory_at ds n
+  before = sym (read-directory us n d within is) ∙ same n
+
+  pub kept-at : d' ≡ d → names_of (slice_set us n d') ≡ names_of ds
+  kept-at kept = same-names ds (slice_set us n d') (λ k. by_number k n
+      (λ here. ap (directory_at (slice_set us n d')) here ∙ at-set us n d' within ∙ kept ∙ before ∙ ap (directory_at ds) (sym here))
+      (λ differ. beside-set us n k d' differ ∙ same k))
+
+  module _ (p : Path) (name : List ℕ) (here : n ≡ directory_number p.folder p.place) (named : name ≡ p.name) where
+    pub get-at : finmap.get d name ≡ finmap.get (names_of ds) p
+    get-at = (λ i. finmap.get (before i) (named i)) ∙ ap (λ k. finmap.get (directory_at ds k) p.name) here ∙ sym (get-names ds p)
+
+    others : (k : ℕ) → k ≢ directory_number p.folder p.place → directory_at (slice_set us n d') k ≡ directory_at ds k
+    others k differ = beside-set us n k d' (λ at. differ (at ∙ here)) ∙ same k
+
+    pub put-at : (v : ℕ) → d' ≡ finmap.insert d name v → names_of (slice_set us n d') ≡ finmap.insert (names_of ds) p v
+    put-at v written = put-names ds _ p others v
+        (subst (λ (j : ℕ). directory_at (slice_set us n d') j ≡ finmap.insert (directory_at ds j) p.name v) here
+        (at-set us n d' within ∙ written ∙ (λ i. finmap.insert (before i) (named i) v)))
+
+    pub take-at : d' ≡ finmap.remove d name → names_of (slice_set us n d') ≡ finmap.remove (names_of ds) p
+    take-at written = take-names ds _ p others
+        (subst (λ (j : ℕ). directory_at (slice_set us n d') j ≡ finmap.remove (directory_at ds j) p.name) here
+        (at-set us n d' within ∙ written ∙ (λ i. finmap.remove (before i) (named i))))
 
 -- a name took another's place in a directory
 pub rename-names : (ds : List NameMap) (i : ℕ) (d : NameMap) (o p : Path) (v : ℕ) → i < length ds → i ≡ directory_number o.folder o.place →

@@ -1,7 +1,8 @@
 -- What each call answers and leaves, of paths as a finite map and files with the counts of their names.
 use Rattle.std.proofs.Common.{ℕ, zero, suc, ◌≡◌, ◌≢◌, ◌+◌, ◌<◌, ◌++◌, ◌==◌, inl, inr, List, [], ◌∷◌, Option, Some, None, Bool, true, false, cond, Ok, Err, refl, sym, ap, subst, ◌∙◌, arith, length, map, slice_set, get_or, IsSome, is_some, is_none, MatchOption, filter, slice_get}
+use Rattle.std.proofs.lemmas.Bool.{lt-ltb}
 use Rattle.std.proofs.lemmas.Bool.Decides.{nat_tests}
-use Rattle.std.proofs.lemmas.List.{map-append}
+use Rattle.std.proofs.lemmas.List.{map-append, map-set}
 use Rattle.std.proofs.lemmas.Option.{slice_get-get_or}
 use Rattle.std.specs.Option.{option_map, option_and_then}
 use Rattle.std.specs.FinMap as finmap
@@ -20,12 +21,12 @@ use Rattle.md_dirs.specs.declared.calls.DirError.TheVariants.{NotFound}
 use Rattle.md_dirs.proofs.PathOrder.{path_total, path_exact}
 use Rattle.lists.proofs.Maps as maps
 use Rattle.lists.proofs.Members.{Has, has-get}
-use Rattle.md_dirs.proofs.Rowed.{get-map}
+use Rattle.std.proofs.lemmas.Option.{slice_get-map}
 use Rattle.md_dirs.proofs.Looked.{rows-named}
 use Rattle.md_dirs.proofs.Kept.{sure, made, refused}
 use Rattle.md_dirs.proofs.Sound.{by_path, by_number, file-within, sound-bare, sound-placed, sound-appended, sound-named, sound-without, sound-moved}
-use Rattle.md_dirs.proofs.Steps.{lt_true, link-refusal, rename-refusal}
-use Rattle.md_dirs.proofs.Counted.{hits, paths-insert, paths-remove, map-set, length-files, file-slot, slot-set_same, slot-set_other, slot-last, slot-early, held-none, let_go-counted, let_go-files}
+use Rattle.md_dirs.proofs.Steps.{link-refusal, rename-refusal}
+use Rattle.md_dirs.proofs.Counted.{hits, paths-insert, paths-remove, length-files, file-slot, slot-set_same, slot-set_other, slot-last, slot-early, held-none, let_go-counted, let_go-files}
 
 one-hit : (n m : ℕ) → n ≡ m → hits n (Some m) ≡ 1
 one-hit n m same = let t : (m == n) ≡ true = grind (arith, nat_tests) in ap (λ b. cond b 1 0) t
@@ -38,12 +39,6 @@ pub absent : (o : Option ℕ) → is_none o ≡ true → o ≡ None
 absent None is = refl
 absent (Some n) is = cc
 
--- no path
-entries-empty : entries (finmap.empty {X = ℕ} {R = path_cmp}) ≡ []
-entries-empty =
-    let none : entries (from_sorted {X = ℕ} {R = path_cmp} []) ≡ [] = entries-from_sorted path_cmp [] tt in
-    ap entries (sym (empty_of_len (from_sorted {X = ℕ} {R = path_cmp} []) (len-entries (from_sorted {X = ℕ} {R = path_cmp} []) ∙ ap length none))) ∙ none
-
 -- no file
 pub counted-none : (folders : ℕ) (names : PathMap) (slots : List (Option Kept)) → names ≡ finmap.empty → slots ≡ [] → IsCounted folders names slots
 counted-none folders names slots none none' =
@@ -55,7 +50,7 @@ counted-none folders names slots none none' =
   where
     zeros : (n : ℕ) → paths_of names n ≡ names_held (slot_at slots n)
     zeros n =
-        (λ i. paths_of (none i) n) ∙ ap (λ es. length (filter (λ (e : Path × ℕ). e.1 == n) es)) entries-empty ∙ sym (λ i. names_held (slot_at (none' i) n))
+        (λ i. paths_of (none i) n) ∙ ap (λ es. length (filter (λ (e : Path × ℕ). e.1 == n) es)) (maps.entries-empty path_cmp) ∙ sym (λ i. names_held (slot_at (none' i) n))
 
 pub remove-absent : (m : PathMap) (p : Path) → finmap.get m p ≡ None → finmap.remove m p ≡ m
 remove-absent m p none = maps.drop-absent path_total path_exact m p none
@@ -182,7 +177,7 @@ module _ (folders : ℕ) (names : PathMap) (slots : List (Option Kept)) (whole :
       Obeys {T = Unit {0}} (link o p) (sure start k) (Ok tt)
       (sure (kept_state folders (finmap.insert names p n) (slice_set slots n (named_again (slot_at slots n)))) k')
   link-done o p n k k' at within none counted =
-      made _ _ _ _ k k' (link-refusal o p start (Some n) true None at (lt_true _ _ within) none)
+      made _ _ _ _ k k' (link-refusal o p start (Some n) true None at (lt-ltb _ _ within) none)
       (linked-is o p n at ∙ ap (with_path p start) (sym at)) counted
 
   pub counted-linked : (o p : Path) (n : ℕ) → finmap.get names o ≡ Some n → p.folder < folders → finmap.get names p ≡ None →
@@ -269,7 +264,7 @@ module _ (folders : ℕ) (names : PathMap) (slots : List (Option Kept)) (whole :
       Obeys {T = Unit {0}} (rename o n) (sure start calls) (Ok tt)
       (sure (kept_state folders (finmap.remove (finmap.insert names n k) o) (let_go there slots)) calls')
   rename-done o n k there calls calls' at within is differ counted =
-      made _ _ _ _ calls calls' (rename-refusal o n start (Some k) true at (lt_true _ _ within))
+      made _ _ _ _ calls calls' (rename-refusal o n start (Some k) true at (lt-ltb _ _ within))
       (ap (λ (m : PathMap). kept_state folders m (let_go there slots))
       (swap-names names o n k (apart o n k at (ap (is_one_file (Some k)) is ∙ differ))) ∙ moved-is o n k there at is differ) counted
 
@@ -315,18 +310,5 @@ module _ (folders : ℕ) (names : PathMap) (slots : List (Option Kept)) (whole :
   pub row-shown : (folder : ℕ) (place : Place) (i : ℕ) (o : Option (List ℕ × ℕ)) → slice_get (rows_in names folder place) i ≡ o →
       option_map (name_row (files_of slots)) o ≡ slice_get (rows_of start folder place) i
   row-shown folder place i o is =
-      ap (option_map (name_row (files_of slots))) (sym is) ∙ sym (get-map (name_row (files_of slots)) (rows_in names folder place) i) ∙
+      ap (option_map (name_row (files_of slots))) (sym is) ∙ sym (slice_get-map (name_row (files_of slots)) (rows_in names folder place) i) ∙
       ap (λ rows. slice_get rows i) (sym (rows-shown folder place))
-
-  -- the bytes of a path's file
-  pub slot-bytes : (p : Path) (n : ℕ) (slot : Option Kept) → finmap.get names p ≡ Some n → slot ≡ slot_at slots n →
-      option_map (λ (k : Kept). k.file.bytes) slot ≡ bytes_at_path start p
-  slot-bytes p n slot at read =
-      let file : file_by (files_of slots) n ≡ option_map (λ (k : Kept). k.file) slot =
-      file-slot slots n ∙ ap (option_map (λ (k : Kept). k.file)) (sym read) in
-      twice slot ∙ sym (ap (λ o. option_map (λ (f : File). f.bytes) (option_and_then (file_by (files_of slots)) o)) at ∙
-      ap (option_map (λ (f : File). f.bytes)) file)
-    where
-      twice : (s : Option Kept) → option_map (λ (k : Kept). k.file.bytes) s ≡ option_map (λ (f : File). f.bytes) (option_map (λ (k : Kept). k.file) s)
-      twice None = refl
-      twice (Some k) = refl

@@ -12,7 +12,7 @@ use Rattle.md_dirs.specs.declared.paths.Path.{Path}
 use Rattle.md_dirs.specs.declared.calls.DirError.TheVariants.{NotFound}
 use Rattle.md_dirs.proofs.PathOrder.{path_total, path_exact}
 use Rattle.lists.proofs.Maps.{find-other}
-use Rattle.md_dirs.proofs.Sorted.{holds, is_true}
+use Rattle.lists.proofs.Booleans.{holds, is_true}
 
 abbrev pub Sorted : List (Path × ℕ) → Type 0
 Sorted es = IsTrue (is_sorted path_cmp es)
@@ -74,12 +74,6 @@ made ask old x new k k' is after counted = record {
   not_failed = λ _. refl;
   counted = counted;
 }
-
--- no row
-pub listed-none : (rows : List (Path × ℕ)) → rows ≡ [] → from_sorted {R = path_cmp} rows ≡ finmap.empty
-listed-none rows none =
-    let no-rows : finmap.entries (from_sorted {R = path_cmp} []) ≡ [] = entries-from_sorted path_cmp [] tt in
-    ap (from_sorted {R = path_cmp}) none ∙ empty_of_len (from_sorted {R = path_cmp} []) (len-entries (from_sorted {R = path_cmp} []) ∙ ap length no-rows)
 
 pub sorted-put : (rows : List (Path × ℕ)) (p : Path) (n : ℕ) → Sorted rows → Sorted (put path_cmp p n rows)
 sorted-put rows p n sorted = is_true _ (is_sorted-put path_cmp path_total p n rows (holds _ sorted))

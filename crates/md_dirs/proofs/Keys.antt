@@ -33,10 +33,6 @@ key_from-below (suc n) [] h = some_power (suc n)
 key_from-below (suc n) (b ∷ s) h =
     rw (pow-suc 256 n) (digit b (key_from n s) (256 ^ n) (All-head (λ x. x < 2 ^ 8) b s h) (key_from-below n s (All-tail (λ x. x < 2 ^ 8) b s h)))
 
--- numbers whose higher digit is above are not below
-not_below : (a b j k p : ℕ) → b < a → k < p → a * p + j < b * p + k → Less ≡ Greater
-not_below a b j k p above small h = let le : b + 1 ≤ a = omega arith in let m : (b + 1) * p ≤ a * p = mul-le-mul_right p le in absurd (omega arith)
-
 pub keys_less : (n : ℕ) (s t : List ℕ) → AreBytes s → AreBytes t → key_from n s < key_from n t → slice_cmp nat_cmp s t ≡ Less
 unfolding key_from
 keys_less zero s t hs ht h = absurd (omega arith)

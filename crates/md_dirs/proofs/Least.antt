@@ -21,8 +21,12 @@ use Rattle.md_dirs.specs.Index.{name_cmp, IsOrderOf}
 use Rattle.md_dirs.specs.Named.{is_alike, alike_equiv}
 use Rattle.md_dirs.specs.Rows.{is_named, ends_unique}
 use Rattle.md_dirs.specs.Least.{lesser}
-use Rattle.md_dirs.proofs.Sorted.{first, second, both, less}
-use Rattle.md_dirs.proofs.NameRows.{Row, name_total, name_exact, get-within, below-trans, is_less, same, get-loose}
+use Rattle.lists.proofs.Booleans.{first, second, both}
+use Rattle.lists.proofs.Orders.{less, is-less, is_less}
+use Rattle.lists.proofs.Members.{below-trans}
+use Rattle.lists.proofs.Maps.{entries-empty}
+use Rattle.md_dirs.proofs.Uniques.{unique-cons, unique-stop, unique-none, bare}
+use Rattle.md_dirs.proofs.NameRows.{Row, name_total, name_exact, get-within, same, get-loose}
 use Rattle.md_dirs.proofs.Ordered.{listed, long, at-place}
 
 -- a row before others: it is the least, unless theirs is less
@@ -41,9 +45,6 @@ joined-none (Some a) = refl
 
 not-lower : (x y z : List ℕ) → is_lt (name_cmp x y) ≡ false → is_lt (name_cmp y z) ≡ false → is_lt (name_cmp x z) ≡ false
 not-lower x y z h k = (ranks_by name_total (λ (w : List ℕ). w)).chain x y z h k
-
-is-less : (o : Ordering) → is_lt o ≡ true → o ≡ Less
-is-less o h = less o (subst T (sym h) tt)
 
 lower-trans : (x y z : List ℕ) → is_lt (name_cmp x y) ≡ true → is_lt (name_cmp y z) ≡ true → is_lt (name_cmp x z) ≡ true
 lower-trans x y z h k = ap is_lt (name_total.trans x y z (is-less _ h) (is-less _ k))
@@ -64,14 +65,6 @@ step (Some a) e (Some b) = by (is_lt (name_cmp b.0 e.0)) (is_lt (name_cmp e.0 a.
     by true false be ea = refl
     by false true be ea = ap (λ t. cond t (Some e) (Some a)) ea ∙ ap (λ t. cond t (Some b) (Some e)) (sym be)
     by false false be ea = ap (λ t. cond t (Some e) (Some a)) ea ∙ ap (λ t. cond t (Some b) (Some a)) (sym (not-lower b.0 e.0 a.0 be ea))
-
--- no row
-pub no-row : {X : Type 0} (es : List X) → length es ≡ 0 → es ≡ []
-no-row [] is = refl
-no-row (e ∷ es) is = absurd (omega arith)
-
-pub listed-none : finmap.entries {R = name_cmp} (from_entries {X = ℕ} []) ≡ []
-listed-none = no-row _ (sym (len-entries _) ∙ len-empty name_cmp ℕ)
 
 -- what holds of each row holds of one that was read
 pub all-got : (P : Row → Type 0) (es : List Row) (i : ℕ) (r : Row) → All P es → slice_get es i ≡ Some r → P r
@@ -133,13 +126,13 @@ module _ (p : List ℕ → Bool) where
           passed (by_order o ((k, v) ∷ e ∷ es) ((e.0, v) ∷ es) (e ∷ put name_cmp k v es)) ≡
           cond (p k) (front (k, v) (passed (e ∷ es))) (passed (e ∷ es))
       by Less is rest = ap (λ o. cond (p k) o (passed (e ∷ es)))
-          (sym (front-below (k, v) (e ∷ es) (both _ _ (is_less k e.0 is) (below-trans k e.0 es is (first _ _ h)))))
+          (sym (front-below (k, v) (e ∷ es) (both _ _ (is_less _ is) (below-trans name_total k e.0 es is (first _ _ h)))))
       by Equal is rest = subst (λ (w : List ℕ). cond (p e.0) (Some (e.0, v)) (passed es) ≡
           cond (p w) (front (w, v) (passed (e ∷ es))) (passed (e ∷ es))) (sym (name_exact k e.0 is)) (same-key (p e.0))
       by Greater is rest = behind (p k) (p e.0) (ap is_lt (name_total.antisymm e.0 k ∙ ap ordering_reverse is)) refl rest
 
   pub least-listed : (es : List Row) → passed (finmap.entries {R = name_cmp} (from_entries es)) ≡ best es
-  least-listed [] = ap passed listed-none
+  least-listed [] = ap passed (entries-empty name_cmp)
   least-listed (e ∷ es) =
       let m = from_entries {R = name_cmp} es in
       ap passed (entries-insert name_total m e.0 e.1)
@@ -208,7 +201,7 @@ none-looked q (e ∷ es) h = ap (λ b. cond b (Some e.1) (lookup (same q) es)) h
 
 pub length-listed : (es : List Row) → IsDistinct same (keys_of es) → length (finmap.entries {R = name_cmp} (from_entries es)) ≡ length es
 unfolding IsDistinct
-length-listed [] d = ap length listed-none
+length-listed [] d = ap length (entries-empty name_cmp)
 length-listed (e ∷ es) d =
     let m = from_entries {R = name_cmp} es in
     let new : find name_cmp e.0 (finmap.entries m) ≡ None = sym (get-entries m e.0) ∙ get-loose es e.0 ∙ none-looked e.0 es d.0 in
@@ -242,28 +235,6 @@ found-none test (x ∷ xs) is = find_at test (x ∷ xs) ∙ by (nat_lt (position
     by true t h = cc
     by false t h = slice_get_past (x ∷ xs) (position_or_len test (x ∷ xs))
         (let past : length (x ∷ xs) ≤ position_or_len test (x ∷ xs) = grind (arith, nat_tests) in past)
-
-one_of : (n : ℕ) → 1 + n ≡ suc n
-one_of n = omega arith
-
-unique-cons : (c : ℕ) (w : List ℕ) → is_colon c ≡ false → unique_of (c ∷ w) ≡ c ∷ unique_of w
-unfolding unique_of
-unique-cons c w h =
-    ap (λ t. take (cond (not t) (1 + position_or_len is_colon w) 0) (c ∷ w)) h ∙ ap (λ n. take n (c ∷ w)) (one_of (position_or_len is_colon w))
-
-unique-stop : (c : ℕ) (w : List ℕ) → is_colon c ≡ true → unique_of (c ∷ w) ≡ []
-unfolding unique_of
-unique-stop c w h = ap (λ t. take (cond (not t) (1 + position_or_len is_colon w) 0) (c ∷ w)) h
-
-unique-none : unique_of [] ≡ []
-unfolding unique_of
-unique-none = refl
-
-unique-itself : (u : List ℕ) → list_any is_colon u ≡ false → unique_of u ≡ u
-unique-itself [] h = unique-none
-unique-itself (c ∷ u) h =
-    let parts = or_parts (is_colon c) (list_any is_colon u) h in
-    unique-cons c u parts.0 ∙ ap (λ w. c ∷ w) (unique-itself u parts.1)
 
 grouped : (x y z : Bool) → ((x && y) && z) ≡ (x && (y && z))
 grouped true y z = refl
@@ -301,7 +272,7 @@ named-is (b ∷ u) (c ∷ cs) h =
 
 module _ (u : List ℕ) (colonless : list_any is_colon u ≡ false) where
   as-alike : (e : Row) → is_named u e.0 ≡ is_alike (u, 0) e
-  as-alike e = named-is u e.0 colonless ∙ ap (λ w. same w (unique_of e.0)) (sym (unique-itself u colonless))
+  as-alike e = named-is u e.0 colonless ∙ ap (λ w. same w (unique_of e.0)) (sym (bare u colonless))
 
   others-none : (e : Row) (es : List Row) → is_named u e.0 ≡ true → AllByRecursion (λ y. is_alike e y ≡ false) es → best (is_named u) es ≡ None
   others-none e [] is d = refl

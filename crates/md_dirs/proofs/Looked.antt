@@ -12,23 +12,14 @@ use Rattle.md_dirs.specs.declared.paths.File.{File}
 use Rattle.md_dirs.specs.declared.paths.Path.{Path}
 use Rattle.md_dirs.specs.declared.paths.Place.{Place}
 use Rattle.md_dirs.specs.declared.rows.Row.{Row}
-use Rattle.md_dirs.proofs.Rowed.{get-map}
+use Rattle.std.proofs.lemmas.Option.{slice_get-map, slice_get_within}
+use Rattle.lists.proofs.Pushed.{past-end}
 use Rattle.md_dirs.proofs.Sliced.{names-sorted}
 use Rattle.md_dirs.proofs.Zones.{row_named-map, name-by, name-point, name-missing, first-is-info, halved-low, halved-high}
 
 named-rows : (files : List (Option File)) (es : List (Path × ℕ)) → map (row_of files) es ≡ map (name_row files) (map named_row es)
 named-rows files [] = refl
 named-rows files (e ∷ es) = ap (λ rows. row_by e.0.name (file_by files e.1) ∷ rows) (named-rows files es)
-
-there : {X : Type 0} (xs : List X) (i : ℕ) (x : X) → slice_get xs i ≡ Some x → i < length xs
-there [] i x is = cc
-there (y ∷ xs) zero x is = omega arith
-there (y ∷ xs) (suc i) x is = let rest = there xs i x is in omega arith
-
-absent : {X : Type 0} (xs : List X) (i : ℕ) → slice_get xs i ≡ None → length xs ≤ i
-absent [] i is = omega arith
-absent (y ∷ xs) zero is = cc
-absent (y ∷ xs) (suc i) is = let rest = absent xs i is in omega arith
 
 name-there : (files : List (Option File)) (es : List (List ℕ × ℕ)) (i : ℕ) (r : Row) → slice_get (map (name_row files) es) i ≡ Some r → r.name ≡ name_at es i
 name-there files [] i r is = cc
@@ -50,20 +41,20 @@ module _ (s : State) (folder : ℕ) (place : Place) where
   count-named = ap length rows-named ∙ length-map names (name_row s.files)
 
   pub within-named : (i : ℕ) (r : Row) → slice_get (rows_of s folder place) i ≡ Some r → i < length names
-  within-named i r is = let inside = there (rows_of s folder place) i r is in omega (arith, count-named)
+  within-named i r is = let inside = slice_get_within (rows_of s folder place) i r is in omega (arith, count-named)
 
   pub name-named : (i : ℕ) (r : Row) → slice_get (rows_of s folder place) i ≡ Some r → r.name ≡ name_at names i
   name-named i r is = name-there s.files names i r (ap (λ rows. slice_get rows i) (sym rows-named) ∙ is)
 
   pub past-named : (i : ℕ) → slice_get (rows_of s folder place) i ≡ None → length names ≤ i
-  past-named i is = let past = absent (rows_of s folder place) i is in omega (arith, count-named)
+  past-named i is = let past = past-end (rows_of s folder place) i is in omega (arith, count-named)
 
   -- the row at the first place is the one that is looked for, if it has the unique name
   pub row-first : (u : List ℕ) (i : ℕ) (o : Option Row) → IsFirstPlace names u i → o ≡ slice_get (rows_of s folder place) i →
       option_and_then (λ (r : Row). cond (is_named u r.name) (Some r) None) o ≡ row_named u (rows_of s folder place)
   row-first u i o first is =
       ap (option_and_then (λ (r : Row). cond (is_named u r.name) (Some r) None))
-      (is ∙ ap (λ rows. slice_get rows i) rows-named ∙ get-map (name_row s.files) names i)
+      (is ∙ ap (λ rows. slice_get rows i) rows-named ∙ slice_get-map (name_row s.files) names i)
       ∙ by (slice_get names i)
       ∙ sym (ap (row_named u) rows-named ∙ row_named-map u s.files names ∙ ap (option_map (name_row s.files)) first)
     where

@@ -11,8 +11,9 @@ use Rattle.std.specs.FinMap.Entries.{below_all}
 use Rattle.md_name.specs.Names.{unique_of, is_colon}
 use Rattle.md_dirs.specs.Named.{Row, is_alike}
 use Rattle.md_dirs.specs.Index.{name_cmp, rows_at, get_name, IsOrderOf}
-use Rattle.md_dirs.proofs.Sorted.{first, second, both, less}
-use Rattle.md_dirs.proofs.NameRows.{same, name_total, is_less, get-loose, reordered-loose}
+use Rattle.lists.proofs.Booleans.{first, second, both}
+use Rattle.lists.proofs.Orders.{less, is_less}
+use Rattle.md_dirs.proofs.NameRows.{same, name_total, get-loose, reordered-loose}
 use Rattle.md_dirs.proofs.Ordered.{Rows, listed, listed-itself}
 use Rattle.md_dirs.proofs.Uniques.{compared}
 use Rattle.md_dirs.proofs.Alike.{equal, tested, moved, moved-names, moved-same, found-alike, found-name, unlike-rest, replaced, replaced-is, renamed-row}
@@ -44,7 +45,7 @@ module _ (o k : List ℕ) (v : ℕ) where
       T (below_all name_cmp (change e).0 (map change es))
   below e [] he h up = tt
   below e (f ∷ es) he h up =
-      both _ _ (is_less (change e).0 (change f).0 (pair e f he h.0 (less _ (first _ _ up)))) (below e es he h.1 (second _ _ up))
+      both _ _ (is_less _ (pair e f he h.0 (less _ (first _ _ up)))) (below e es he h.1 (second _ _ up))
 
   sorted : (es : Rows) → AllByRecursion (Beside o k) es → T (is_sorted name_cmp es) → T (is_sorted name_cmp (map change es))
   sorted [] h up = tt

@@ -14,7 +14,9 @@ use Rattle.std.specs.FinMap.Entries.{below_all}
 use Rattle.std.proofs.lemmas.Cmp.{nat_list_cmp_total}
 use Rattle.std.proofs.lemmas.Map.Lookups.{CmpEqualImpliesEq, exact_bytes}
 use Rattle.md_dirs.specs.Index.{name_cmp}
-use Rattle.md_dirs.proofs.Sorted.{first, second, both, less}
+use Rattle.lists.proofs.Booleans.{first, second, both}
+use Rattle.lists.proofs.Orders.{less, is_less}
+use Rattle.lists.proofs.Members.{below-trans}
 
 pub name_total : IsTotalOrder name_cmp
 name_total = nat_list_cmp_total
@@ -28,13 +30,6 @@ same = pointwise nat_eq
 
 pub ties : (x y : List ℕ) → same x y ≡ eq_by_cmp name_cmp x y
 ties = lists_ties nat_cmp unsigned_ties
-
-pub is_less : (x y : List ℕ) → name_cmp x y ≡ Less → T (is_lt (name_cmp x y))
-is_less x y is = subst (λ r. T (is_lt r)) (sym is) tt
-
-pub below-trans : (p q : List ℕ) (es : List (List ℕ × ℕ)) → name_cmp p q ≡ Less → T (below_all name_cmp q es) → T (below_all name_cmp p es)
-below-trans p q [] is h = tt
-below-trans p q (e ∷ es) is h = both _ _ (is_less p e.0 (name_total.trans p q e.0 is (less _ (first _ _ h)))) (below-trans p q es is (second _ _ h))
 
 -- a row of the table
 abbrev pub Row : Type 0
@@ -68,7 +63,7 @@ rising (e ∷ []) sorted unique = tt
 rising (e ∷ f ∷ es) sorted unique =
     let less_here = head-less e.0 f.0 (sorted 0 e.0 (omega arith) (omega arith)) unique.0.0 in
     let rest = rising (f ∷ es) (tail-sorted e.0 f.0 (keys_of es) sorted) unique.1 in
-    both _ _ (both _ _ (is_less e.0 f.0 less_here) (below-trans e.0 f.0 es less_here (first _ _ rest))) rest
+    both _ _ (both _ _ (is_less _ less_here) (below-trans name_total e.0 f.0 es less_here (first _ _ rest))) rest
 
 pub get-loose : (es : List Row) (q : List ℕ) → finmap.get (from_entries {R = name_cmp} es) q ≡ lookup (same q) es
 get-loose es q = get-from_entries name_total es q ∙ sym (lookup-is q es)

@@ -6,8 +6,3 @@ pub get-map : {X Y : Type 0} (f : X → Y) (xs : List X) (i : ℕ) → slice_get
 get-map f [] i = refl
 get-map f (x ∷ xs) zero = refl
 get-map f (x ∷ xs) (suc i) = get-map f xs i
-
-pub get-past : {X : Type 0} (xs : List X) (i : ℕ) → length xs ≤ i → slice_get xs i ≡ None
-get-past [] i past = refl
-get-past (x ∷ xs) zero past = absurd (omega arith)
-get-past (x ∷ xs) (suc i) past = get-past xs i (omega arith)

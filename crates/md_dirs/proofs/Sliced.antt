@@ -15,9 +15,10 @@ use Rattle.md_dirs.specs.declared.paths.Place.{Place}
 use Rattle.md_dirs.specs.declared.paths.Place.TheVariants.{Tmp}
 use Rattle.md_dirs.proofs.PathOrder.{path_total}
 use Rattle.md_dirs.proofs.Sound.{by_number}
-use Rattle.md_dirs.proofs.Rowed.{get-map}
+use Rattle.std.proofs.lemmas.Option.{slice_get-map, slice_get_past}
 use Rattle.md_dirs.proofs.Directories.{path-number, same-directory, lower-directory, is-here, is-elsewhere}
-use Rattle.md_dirs.proofs.Sorted.{first, second, both, less}
+use Rattle.lists.proofs.Booleans.{first, second, both}
+use Rattle.lists.proofs.Orders.{less}
 
 -- the number of a row's directory
 abbrev pub number_at : Path × ℕ → ℕ
@@ -148,7 +149,7 @@ pub row-listed : (rows : List (Path × ℕ)) (folder : ℕ) (place : Place) (i :
     slice_get (filter (λ e. is_in folder place e.0) rows) i ≡ o
     → option_map named_row o ≡ slice_get (rows_in (from_sorted rows) folder place) i
 row-listed rows folder place i o h is =
-    ap (option_map named_row) (sym is) ∙ sym (get-map named_row (filter (λ e. is_in folder place e.0) rows) i) ∙
+    ap (option_map named_row) (sym is) ∙ sym (slice_get-map named_row (filter (λ e. is_in folder place e.0) rows) i) ∙
     ap (λ es. slice_get es i) (sym (rows-listed rows folder place h))
 
 -- what holds of each row by its name holds of each row

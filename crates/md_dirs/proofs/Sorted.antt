@@ -11,33 +11,9 @@ use Rattle.std.proofs.lemmas.List.{take-append-drop, drop_more, take_more, take_
 use Rattle.md_dirs.specs.Plain.{IsAt, IsGap}
 use Rattle.std.specs.Cmp.{IsTotalOrder}
 use Rattle.std.proofs.lemmas.Map.Lookups.{CmpEqualImpliesEq}
-
-pub first : (a b : Bool) → T (a && b) → T a
-first true b p = tt
-first false b p = p
-
-pub second : (a b : Bool) → T (a && b) → T b
-second true b p = p
-second false b p = absurd p
-
-pub both : (a b : Bool) → T a → T b → T (a && b)
-both true b p q = q
-both false b p q = p
-
-pub less : (o : Ordering) → T (is_lt o) → o ≡ Less
-less Less p = refl
-less Equal p = absurd p
-less Greater p = absurd p
-
-pub is-less : (o : Ordering) → is_lt o ≡ true → o ≡ Less
-is-less o is = less o (subst T (sym is) tt)
-
-pub holds : (b : Bool) → IsTrue b → T b
-holds b e = subst T (sym e) tt
-
-pub is_true : (b : Bool) → T b → IsTrue b
-is_true true h = refl
-is_true false h = absurd h
+use Rattle.lists.proofs.Booleans.{first, second, both, holds, is_true}
+use Rattle.lists.proofs.Orders.{less, is_less}
+use Rattle.lists.proofs.Members.{find-above, below-trans}
 
 module _ {K : Type 0} (R : K → K → Ordering) where
   -- whether each key of the list is below that one
@@ -84,7 +60,7 @@ module _ {K : Type 0} {R : K → K → Ordering} (total : IsTotalOrder R) (exact
   sorted-after (x ∷ xs) ys h = sorted-after xs ys (second _ _ h)
 
   all_below_more : (p : K) (xs : List (K × ℕ)) (e : K × ℕ) → T (all_below R p xs) → R e.0 p ≡ Less → T (all_below R p (xs ++ e ∷ []))
-  all_below_more p [] e h is = both _ _ (subst (λ r. T (is_lt r)) (sym is) tt) tt
+  all_below_more p [] e h is = both _ _ (is_less _ is) tt
   all_below_more p (x ∷ xs) e h is = both _ _ (first _ _ h) (all_below_more p xs e (second _ _ h) is)
 
   all_below-take : (p : K) (rows : List (K × ℕ)) (i : ℕ) (e : K × ℕ) → IsTrue (all_below R p (take i rows)) → i < length rows →
@@ -93,21 +69,11 @@ module _ {K : Type 0} {R : K → K → Ordering} (total : IsTotalOrder R) (exact
       let one : take (i + 1) rows ≡ take i rows ++ e ∷ [] = take_more rows i e within ∙ ap (λ x. take i rows ++ x ∷ []) (sym is) in
       is_true _ (subst (λ xs. T (all_below R p xs)) (sym one) (all_below_more p (take i rows) e (holds _ h) less))
 
-  -- what is below all of a list is not in it
-  find-above : (p : K) (es : List (K × ℕ)) → T (below_all R p es) → find R p es ≡ None
-  find-above p [] h = refl
-  find-above p (e ∷ es) h = ap (λ r. cond (is_eq r) (Some e.1) (find R p es)) (less _ (first _ _ h)) ∙ find-above p es (second _ _ h)
-
   pub where-above : (p : K) (es : List (K × ℕ)) → T (below_all R p es) → where_key R (other R p) es ≡ es
   where-above p [] h = refl
   where-above p (e ∷ es) h =
       ap (λ r. cond (not (is_eq r)) (e ∷ where_key R (other R p) es) (where_key R (other R p) es)) (less _ (first _ _ h)) ∙
       ap (λ xs. e ∷ xs) (where-above p es (second _ _ h))
-
-  below-trans : (p q : K) (es : List (K × ℕ)) → R p q ≡ Less → T (below_all R q es) → T (below_all R p es)
-  below-trans p q [] is h = tt
-  below-trans p q (e ∷ es) is h =
-      both _ _ (subst (λ r. T (is_lt r)) (sym (total.trans p q e.0 is (less _ (first _ _ h)))) tt) (below-trans p q es is (second _ _ h))
 
   at_cut : (p : K) (xs ys : List (K × ℕ)) (file : ℕ) → Sorted R (xs ++ (p, file) ∷ ys) → T (all_below R p xs) →
       (find R p (xs ++ (p, file) ∷ ys) ≡ Some file) × (where_key R (other R p) (xs ++ (p, file) ∷ ys) ≡ xs ++ ys) ×
@@ -143,7 +109,7 @@ module _ {K : Type 0} {R : K → K → Ordering} (total : IsTotalOrder R) (exact
       (find R p (xs ++ e ∷ ys) ≡ None) × ((file : ℕ) → put R p file (xs ++ e ∷ ys) ≡ xs ++ (p, file) ∷ e ∷ ys)
   gap_cut p xs ys e sorted below is =
       let rest = sorted-after xs (e ∷ ys) sorted in (
-        find-below p xs (e ∷ ys) below ∙ find-above p (e ∷ ys) (both _ _ (subst (λ r. T (is_lt r)) (sym is) tt) (below-trans p e.0 ys is (first _ _ rest))),
+        find-below p xs (e ∷ ys) below ∙ find-above R p (e ∷ ys) (both _ _ (is_less _ is) (below-trans total p e.0 ys is (first _ _ rest))),
         λ file. put-below p file xs (e ∷ ys) below ∙ ap (λ r. xs ++ by_order r ((p, file) ∷ e ∷ ys) ((e.0, file) ∷ ys) (e ∷ put R p file ys)) is,
       )
 
@@ -182,7 +148,7 @@ module _ {K : Type 0} {R : K → K → Ordering} (total : IsTotalOrder R) (exact
   all_below-trans : (p q : K) (xs : List (K × ℕ)) → T (all_below R p xs) → R p q ≡ Less → T (all_below R q xs)
   all_below-trans p q [] h is = tt
   all_below-trans p q (x ∷ xs) h is =
-      both _ _ (subst (λ r. T (is_lt r)) (sym (total.trans x.0 p q (less _ (first _ _ h)) is)) tt) (all_below-trans p q xs (second _ _ h) is)
+      both _ _ (is_less _ (total.trans x.0 p q (less _ (first _ _ h)) is)) (all_below-trans p q xs (second _ _ h) is)
 
   before-row : (rows : List (K × ℕ)) (i : ℕ) (e : K × ℕ) → IsTrue (is_sorted R rows) → i < length rows → e ≡ get_or rows i e →
       T (all_below R e.0 (take i rows))

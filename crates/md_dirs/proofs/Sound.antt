@@ -5,6 +5,7 @@ use Rattle.std.proofs.lemmas.Option.{slice_get_within}
 use Rattle.std.specs.Option.{option_flatten}
 use Rattle.std.specs.FinMap as finmap
 use Rattle.std.specs.FinMap.{get-empty, entries}
+use Rattle.lists.proofs.Options.{value, is-there}
 use Rattle.md_dirs.specs.Path.{path_cmp}
 use Rattle.md_dirs.specs.State.{State, IsSound, bare, file_at, file_by}
 use Rattle.md_dirs.specs.Calls.{with_new_file, after_create, empty_file, after_append, file_with_more, with_path, without_path, after_unlink, after_rename, with_files_still_named, has_path_to, is_one_file}
@@ -58,16 +59,9 @@ flat : (o : Option (Option File)) (file : File) → option_flatten o ≡ Some fi
 flat None file is = cc
 flat (Some o) file is = ap Some is
 
-pub some_file : (o : Option File) → IsSome o → (file : File) × (o ≡ Some file)
-some_file None is = cc
-some_file (Some file) is = (file, refl)
-
-is_there : (o : Option File) (file : File) → o ≡ Some file → IsSome o
-is_there o file is = ap is_some is
-
 pub file-within : (files : List (Option File)) (n : ℕ) → IsSome (file_by files n) → n < length files
 file-within files n is =
-    let some = some_file (file_by files n) is in
+    let some = value (file_by files n) is in
     slice_get_within files n (Some some.0) (flat (slice_get files n) some.0 some.1)
 
 pub file_by-set_same : (files : List (Option File)) (n : ℕ) (o : Option File) → n < length files → file_by (slice_set files n o) n ≡ o
@@ -190,16 +184,16 @@ module _ (s : State) (sound : IsSound s) where
     filed = λ q m at. by_path q p
         (λ is.
         let number : m ≡ length s.files = (let h = maps.at_put path_total path_exact s.names p q (length s.files) is in cc) in
-        is_there _ file (ap (file_by (s.files ++ Some file ∷ [])) number ∙ file_by-last s.files (Some file)))
+        is-there _ file (ap (file_by (s.files ++ Some file ∷ [])) number ∙ file_by-last s.files (Some file)))
         (λ not.
         let before = sym (maps.beside_put path_total path_exact s.names p q (length s.files) not) ∙ at in
         subst (λ (f : Option File). IsSome f) (sym (file_by-push s.files (Some file) m (number-within q m before))) (sound.filed q m before));
     has_path = λ m is. by_number m (length s.files)
         (λ new. (p, maps.at_put path_total path_exact s.names p p (length s.files) refl ∙ ap Some (sym new)))
         (λ old.
-        let some = some_file _ is in
+        let some = value _ is in
         let early = get-early s.files (Some file) (Some some.0) m (flat _ some.0 some.1) old in
-        let had = sound.has_path m (is_there _ some.0 (ap option_flatten early)) in (
+        let had = sound.has_path m (is-there _ some.0 (ap option_flatten early)) in (
           had.0,
           maps.beside_put path_total path_exact s.names p had.0 (length s.files) (λ same. let h : file_at s p ≡ Some m =
               ap (file_at s) (sym same) ∙ had.1 in cc) ∙ had.1,
@@ -228,10 +222,10 @@ module _ (s : State) (sound : IsSound s) where
         housed = sound.housed;
         filed = λ q m at. by_number m n
             (λ same. let h = ap (file_by (slice_set s.files n (Some longer))) same ∙
-            file_by-set_same s.files n (Some longer) (file-within s.files n (is_there _ file is)) in is_there _ longer h)
+            file_by-set_same s.files n (Some longer) (file-within s.files n (is-there _ file is)) in is-there _ longer h)
             (λ not. subst (λ (f : Option File). IsSome f) (sym (file_by-set_other s.files n m (Some longer) not)) (sound.filed q m at));
         has_path = λ m there. by_number m n
-            (λ same. sound.has_path m (is_there _ file (ap (file_by s.files) same ∙ is)))
+            (λ same. sound.has_path m (is-there _ file (ap (file_by s.files) same ∙ is)))
             (λ not. sound.has_path m (subst (λ (f : Option File). IsSome f) (file_by-set_other s.files n m (Some longer) not) there));
       }
         where

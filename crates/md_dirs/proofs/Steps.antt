@@ -10,9 +10,6 @@ use Rattle.md_dirs.specs.Calls.{link, rename}
 use Rattle.md_dirs.specs.declared.paths.Path.{Path}
 use Rattle.md_dirs.specs.declared.calls.DirError.TheVariants.{Exists, NotFound}
 
-pub lt_true : (a b : ℕ) → a < b → nat_lt a b ≡ true
-lt_true a b h = grind (arith, nat_tests)
-
 -- the file of the row of a key
 pub row-file : {K : Type 0} {R : K → K → Ordering} (rows : List (K × ℕ)) (p : K) (i : ℕ) (e : K × ℕ) → IsAt R rows p i → e ≡ get_or rows i e →
     find R p rows ≡ Some e.1

@@ -32,21 +32,21 @@ unique-le name =
 one_of : (n : ℕ) → 1 + n ≡ suc n
 one_of n = omega arith
 
-unique-cons : (c : ℕ) (w : List ℕ) → is_colon c ≡ false → unique_of (c ∷ w) ≡ c ∷ unique_of w
+pub unique-cons : (c : ℕ) (w : List ℕ) → is_colon c ≡ false → unique_of (c ∷ w) ≡ c ∷ unique_of w
 unfolding unique_of
 unique-cons c w h =
     ap (λ t. take (cond (not t) (1 + position_or_len is_colon w) 0) (c ∷ w)) h ∙ ap (λ n. take n (c ∷ w)) (one_of (position_or_len is_colon w))
 
-unique-stop : (c : ℕ) (w : List ℕ) → is_colon c ≡ true → unique_of (c ∷ w) ≡ []
+pub unique-stop : (c : ℕ) (w : List ℕ) → is_colon c ≡ true → unique_of (c ∷ w) ≡ []
 unfolding unique_of
 unique-stop c w h = ap (λ t. take (cond (not t) (1 + position_or_len is_colon w) 0) (c ∷ w)) h
 
-unique-none : unique_of [] ≡ []
+pub unique-none : unique_of [] ≡ []
 unfolding unique_of
 unique-none = refl
 
 -- a name without a colon is its unique part
-bare : (a : List ℕ) → list_any is_colon a ≡ false → unique_of a ≡ a
+pub bare : (a : List ℕ) → list_any is_colon a ≡ false → unique_of a ≡ a
 bare [] h = unique-none
 bare (c ∷ a) h = elim (is_colon c) as (λ b. is_colon c ≡ b → (b || list_any is_colon a) ≡ false → unique_of (c ∷ a) ≡ c ∷ a) [
   | true ↦ λ t is. cc

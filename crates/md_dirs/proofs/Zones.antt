@@ -18,19 +18,8 @@ use Rattle.md_dirs.specs.Index.{name_cmp}
 use Rattle.md_dirs.specs.Find.{zone, name_at, before_colon, IsHalved, IsEdge, IsFirstPlace}
 use Rattle.md_dirs.proofs.Renamed.{below-at}
 use Rattle.md_dirs.proofs.NameRows.{name_total, name_exact}
-
-first : (a b : Bool) → T (a && b) → T a
-first true b p = tt
-first false b p = p
-
-second : (a b : Bool) → T (a && b) → T b
-second true b p = p
-second false b p = absurd p
-
-less : (o : Ordering) → T (is_lt o) → o ≡ Less
-less Less p = refl
-less Equal p = absurd p
-less Greater p = absurd p
+use Rattle.lists.proofs.Booleans.{first, second}
+use Rattle.lists.proofs.Orders.{less}
 
 pub zone-most : (u a : List ℕ) → zone u a ≤ 4
 zone-most [] [] = omega arith
@@ -174,50 +163,6 @@ above-all u x (e ∷ es) h is =
     let here : zone u e.0 ≡ 4 = omega arith in
     let not : is_named u e.0 ≡ false = named-zone u e.0 ∙ ap is_zone here in
     ap (λ b. cond b (Some e) (first_with (λ r. is_named u r.0) es)) not ∙ above-all u x es (second _ _ h) is
-
--- what is found below a name is not the name
-lower : (u x : List ℕ) (n : ℕ) (es : List (List ℕ × ℕ)) → T (below_all name_cmp x es) → find name_cmp u es ≡ Some n → name_cmp x u ≡ Less
-lower u x n [] h is = cc
-lower u x n (e ∷ es) h is = by (lower u x n es (second _ _ h)) (eq_by_cmp name_cmp u e.0) refl is
-  where
-    equal : (o : Ordering) → is_eq o ≡ true → o ≡ Equal
-    equal Less p = cc
-    equal Equal p = refl
-    equal Greater p = cc
-
-    by : (find name_cmp u es ≡ Some n → name_cmp x u ≡ Less) → (b : Bool) → eq_by_cmp name_cmp u e.0 ≡ b →
-        cond b (Some e.1) (find name_cmp u es) ≡ Some n → name_cmp x u ≡ Less
-    by rest true t g = ap (name_cmp x) (name_exact u e.0 (equal _ t)) ∙ less _ (first _ _ h)
-    by rest false t g = rest g
-
--- the unique name itself is the first, where it is there
-pub first-is-name : (u : List ℕ) (n : ℕ) (es : List (List ℕ × ℕ)) → T (is_sorted name_cmp es) → find name_cmp u es ≡ Some n →
-    first_with (λ e. is_named u e.0) es ≡ Some (u, n)
-first-is-name u n [] h is = cc
-first-is-name u n (e ∷ es) h is = by (first-is-name u n es (second _ _ h)) (lower u e.0 n es (first _ _ h)) (eq_by_cmp name_cmp u e.0) refl is
-  where
-    equal : (o : Ordering) → is_eq o ≡ true → o ≡ Equal
-    equal Less p = cc
-    equal Equal p = refl
-    equal Greater p = cc
-
-    by : (find name_cmp u es ≡ Some n → first_with (λ r. is_named u r.0) es ≡ Some (u, n)) → (find name_cmp u es ≡ Some n → name_cmp e.0 u ≡ Less) →
-        (b : Bool) → eq_by_cmp name_cmp u e.0 ≡ b → cond b (Some e.1) (find name_cmp u es) ≡ Some n →
-        first_with (λ r. is_named u r.0) (e ∷ es) ≡ Some (u, n)
-    by rest below true t g =
-        let same = name_exact u e.0 (equal _ t) in
-        let number : e.1 ≡ n = cc in
-        let named : is_named u e.0 ≡ true = named-zone u e.0 ∙ ap is_zone (ap (zone u) (sym same) ∙ zone-same u) in
-        ap (λ b. cond b (Some e) (first_with (λ r. is_named u r.0) es)) named ∙ (λ i. Some (sym same i, number i))
-    by rest below false t g =
-        let under = zone-order u e.0 u (below g) in
-        let one = zone-same u in
-        let differ : zone u e.0 ≢ 1 =
-        (λ z. let same = zone-one u e.0 z in let tie : eq_by_cmp name_cmp u e.0 ≡ true = ap (λ w. is_eq (name_cmp u w)) same ∙
-        ap is_eq (tied_itself name_total u) in cc) in
-        let zero-zone : zone u e.0 ≡ 0 = omega arith in
-        let not : is_named u e.0 ≡ false = named-zone u e.0 ∙ ap is_zone zero-zone in
-        ap (λ b. cond b (Some e) (first_with (λ r. is_named u r.0) es)) not ∙ rest g
 
 -- else the row at the point is, or none
 pub first-is-info : (u : List ℕ) (es : List (List ℕ × ℕ)) (i : ℕ) → T (is_sorted name_cmp es) → find name_cmp u es ≡ None → IsEdge es u 3 i

@@ -40,21 +40,6 @@ pub record IsOrderOf (rows : List (List ℕ × ℕ)) (order : List ℕ) : Type 0
 abbrev pub get_name : List (List ℕ × ℕ) → List ℕ → Option ℕ
 get_name es q = lookup (bytes_eq q) es
 
--- a name is there with a number, and that of a row is not; any other name has what it had
-pub record Renames (old : List (List ℕ × ℕ)) (i : ℕ) (name : List ℕ) (file : ℕ) (new : List (List ℕ × ℕ)) : Type 0 where
-  pub row : List ℕ × ℕ
-  pub at : slice_get old i ≡ Some row
-  pub names : (q : List ℕ) → get_name new q ≡ cond (bytes_eq row.0 q) None (cond (bytes_eq name q) (Some file) (get_name old q))
-
--- how the row at a position compares with a name
-abbrev pub order_at : List (List ℕ × ℕ) → ℕ → List ℕ → Ordering
-order_at rows i name = name_cmp (slice_index_or rows i ([], 0)).0 name
-
--- a name is above the row before a position and below the row after it
-pub record FitsAt (rows : List (List ℕ × ℕ)) (i : ℕ) (name : List ℕ) : Type 0 where
-  pub after : 0 < i → order_at rows (i - 1) name ≡ Less
-  pub before : i + 1 < length rows → order_at rows (i + 1) name ≡ Greater
-
 -- all paths, each with the number of its file
 abbrev pub PathMap : Type 0
 PathMap = finmap.FinMap path_cmp ℕ

@@ -1,6 +1,6 @@
 // The directories of all folders, side by side.
-ghost use Rattle.std.specs.Prelude.{◌≡◌, ◌<◌, ◌≤◌, ◌+◌, ◌^◌, ℕ, false, OnOk, OnErr, None, IfOk, IfSome, IsSome, IsTrue, All, length, map, slice_get, vec_len, is_none, if◌then◌else◌, find as first_with, IsPermutation};
-ghost use Rattle.std.specs.Option.{option_map};
+ghost use Rattle.std.specs.Prelude.{◌≡◌, [], MatchOption, ◌<◌, ◌≤◌, ◌+◌, ◌^◌, ℕ, false, OnOk, OnErr, None, IfOk, IfSome, IsSome, IsTrue, All, length, map, slice_get, vec_len, is_none, if◌then◌else◌, find as first_with, IsPermutation};
+ghost use Rattle.std.specs.Option.{option_map, option_and_then};
 ghost use Rattle.std.specs.FinMap as finmap;
 ghost use Rattle.md_dirs.specs.Path.{path_of};
 ghost use Rattle.md_dirs.specs.State.{file_by};
@@ -92,15 +92,20 @@ impl Tree {
         self.seed
     }
 
+    // The names of a directory. None where it was not made yet, and then it has none.
+    #[inline(always)]
+    fn directory(&self, folder: u32, place: Place) -> Option<&Names>
+        ensures rows { MatchOption result (rows_in self.now folder place ≡ []) (λ d. rows_in self.now folder place ≡ finmap.entries d.now) }
+        ensures files { (name : _) → finmap.get self.now (path_of folder place name) ≡ option_and_then (λ d. finmap.get d.now name) result }
+    {
+        self.directories.get(number_of(folder, place))
+    }
+
     /// The number of the file of a name in a directory.
     pub fn file_of(&self, folder: u32, place: Place, name: &[u8]) -> Option<usize>
         ensures { result ≡ finmap.get self.now (path_of folder place name.now) }
     {
-        let number = number_of(folder, place);
-        if number >= self.directories.len() {
-            return None;
-        }
-        self.directories[number].file_of(name)
+        self.directory(folder, place)?.file_of(name)
     }
 
     /// The number of the file of a path. A path that was just found or added is found again without a hash.
@@ -141,11 +146,7 @@ impl Tree {
         ensures row { result ≡ option_map (name_row (files_of (slots_of slots.now))) (slice_get (rows_in self.now folder place) at) }
         ensures few { IfSome result (λ _. at + 1 < 2 ^ 64) }
     {
-        let number = number_of(folder, place);
-        if number >= self.directories.len() {
-            return None;
-        }
-        self.directories[number].row_at(at, slots)
+        self.directory(folder, place)?.row_at(at, slots)
     }
 
     /// The row of the first name of a directory that is a unique name, or a unique name, a colon and more, lent.
@@ -160,33 +161,27 @@ impl Tree {
         ensures { result ≡ option_map (name_row (files_of (slots_of slots.now)))
             (first_with (λ e. is_named unique.now e.0) (rows_in self.now folder place)) }
     {
-        let number = number_of(folder, place);
-        if number >= self.directories.len() {
-            return None;
-        }
-        self.directories[number].look(unique, slots)
+        self.directory(folder, place)?.look(unique, slots)
     }
 
     /// Whether a directory holds each unique part once. False says nothing.
     pub fn holds_each_once(&self, folder: u32, place: Place) -> bool
         ensures { IsTrue result → EachOnce (λ name. finmap.get self.now (path_of folder place name)) }
     {
-        let number = number_of(folder, place);
-        if number >= self.directories.len() {
-            return true;
+        match self.directory(folder, place) {
+            Some(directory) => directory.holds_each_once(),
+            None => true,
         }
-        self.directories[number].holds_each_once()
     }
 
     /// How many names a directory has.
     pub fn count(&self, folder: u32, place: Place) -> usize
         ensures { result ≡ length (rows_in self.now folder place) }
     {
-        let number = number_of(folder, place);
-        if number >= self.directories.len() {
-            return 0;
+        match self.directory(folder, place) {
+            Some(directory) => directory.count(),
+            None => 0,
         }
-        self.directories[number].count()
     }
 
     /// The rows of a directory, copied. It is refused only when out of memory.
@@ -200,11 +195,10 @@ impl Tree {
         requires { All (λ e. IsSome (file_by (files_of (slots_of slots.now)) e.1)) (rows_in self.now folder place) }
         ensures { IfOk result (λ shown. shown.items ≡ map (name_row (files_of (slots_of slots.now))) (rows_in self.now folder place)) }
     {
-        let number = number_of(folder, place);
-        if number >= self.directories.len() {
-            return Ok(Vec::new(alloc));
+        match self.directory(folder, place) {
+            Some(directory) => directory.rows(alloc, slots),
+            None => Ok(Vec::new(alloc)),
         }
-        self.directories[number].rows(alloc, slots)
     }
 
     /// Rows of a directory from a position on, lent: at least one, where there is one. It is refused only when out of memory.
@@ -220,11 +214,10 @@ impl Tree {
         ensures { IfOk result (λ rows.
             AreNext (map (name_row (files_of (slots_of slots.now))) (rows_in self.now folder place)) from rows.items) }
     {
-        let number = number_of(folder, place);
-        if number >= self.directories.len() {
-            return Ok(Vec::new(alloc));
+        match self.directory(folder, place) {
+            Some(directory) => directory.rows_from(alloc, from, slots),
+            None => Ok(Vec::new(alloc)),
         }
-        self.directories[number].rows_from(alloc, from, slots)
     }
 
     /// All rows of a directory as they lie, lent. It is refused only when out of memory.
@@ -239,11 +232,10 @@ impl Tree {
         ensures { IfOk result (λ rows.
             IsPermutation (map (name_row (files_of (slots_of slots.now))) (rows_in self.now folder place)) rows.items) }
     {
-        let number = number_of(folder, place);
-        if number >= self.directories.len() {
-            return Ok(Vec::new(alloc));
+        match self.directory(folder, place) {
+            Some(directory) => directory.rows_unordered(alloc, slots),
+            None => Ok(Vec::new(alloc)),
         }
-        self.directories[number].rows_unordered(alloc, slots)
     }
 
     /// Gives the file of a path another path, unless that is there: whether it did. The new name is copied. When out of memory, nothing has

@@ -1,6 +1,6 @@
 use Rattle.std.proofs.Common.{◌+◌, ◌-◌, ◌/◌, sym, ap, subst, ◌∙◌, nat_lt, arith}
 use Rattle.md_dirs.specs.Find.{zone, edge_zone, IsHalved}
-use Rattle.md_dirs.proofs.Sorted.{holds}
+use Rattle.lists.proofs.Booleans.{holds}
 use Rattle.md_dirs.proofs.Zones.{halved-all, halved-low, halved-high}
 use Rattle.md_dirs.proofs.finding.edge_place.Goals as goal
 

@@ -1,6 +1,6 @@
 use Rattle.std.proofs.Common.{◌<◌, ◌∙◌, sym, ap, length, arith}
 use Rattle.md_dirs.specs.Rows.{is_named}
-use Rattle.md_dirs.proofs.Sorted.{holds}
+use Rattle.lists.proofs.Booleans.{holds}
 use Rattle.md_dirs.proofs.Zones.{name-point, name-missing, first-is-info}
 use Rattle.md_dirs.proofs.finding.first_place.Goals.{else-at-count-via-then-at-count+else-is_named, else-at-count-via-else-at-count}
 use Rattle.md_dirs.proofs.finding.first_place.Goals as goal

@@ -2,7 +2,7 @@ use Rattle.std.proofs.Common.{◌∙◌, sym, ap}
 use Rattle.std.specs.Option.{option_copied}
 use Rattle.std.specs.Ordering.{is_lt}
 use Rattle.md_dirs.specs.Index.{name_cmp}
-use Rattle.md_dirs.proofs.Sorted.{is-less}
+use Rattle.lists.proofs.Orders.{is-less}
 use Rattle.md_dirs.proofs.Behind.{made, none-behind, last-behind}
 use Rattle.md_dirs.proofs.index.names.goes_last.Goals as goal
 

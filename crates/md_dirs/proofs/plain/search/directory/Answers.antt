@@ -1,6 +1,6 @@
 use Rattle.std.proofs.Common.{leb, ltb, rules}
 use Rattle.std.proofs.lemmas.List.Sorted.{IsPartitionPoint-from_clause, IsPartitionedBy-leb, IsPartitionedBy-ltb}
-use Rattle.md_dirs.proofs.Sorted.{holds}
+use Rattle.lists.proofs.Booleans.{holds}
 use Rattle.md_dirs.proofs.Sliced.{number_at, numbers-rise, start-first, directory-part}
 use Rattle.md_dirs.proofs.plain.search.directory.Goals as goal
 

@@ -1,21 +1,14 @@
-use Rattle.std.proofs.Common.{◌/◌, ◌++◌, Result, Ok, Err, OnOk, OnErr, ap, refl, arith}
+use Rattle.std.proofs.Common.{◌/◌, ◌++◌, ap, refl, arith}
+use Rattle.std.proofs.lemmas.Result.{on_ok_weaker, on_err_weaker}
 use Rattle.md_dirs.specs.Files.{grown_slot}
 use Rattle.md_dirs.specs.Places.{places}
 use Rattle.md_dirs.proofs.Slotted.{changed-block, changed-tail, kept-block}
 use Rattle.md_dirs.proofs.slots.Slots.grow.Goals as goal
 
-on_ok : {T E P Q : Type 0} (r : Result T E) → (P → Q) → OnOk r P → OnOk r Q
-on_ok (Ok x) then h = then h
-on_ok (Err e) then h = tt
-
-on_err : {T E P Q : Type 0} (r : Result T E) → (P → Q) → OnErr r P → OnErr r Q
-on_err (Ok x) then h = tt
-on_err (Err e) then h = then h
-
 pub returns-then-block-len-clause-ok : goal.returns-then-block-len-clause-ok
 returns-then-block-len-clause-ok c =
     let s = c.args.self.now in
-    on_ok c.grow.result
+    on_ok_weaker c.grow.result
     (λ grown. changed-block s.blocks.items s.tail.slots.items c.args.number (grown_slot c.args.bytes.now c.args.now) refl c.index_mut.result.now
     c.grow.new.self (omega (arith, c.if-block-len.true, c.len.ensures, s.blocks.ok.0)) c.index_mut.ensures.value (ap places grown))
     c.grow.ensures.ok
@@ -23,7 +16,7 @@ returns-then-block-len-clause-ok c =
 pub returns-then-block-len-clause-err : goal.returns-then-block-len-clause-err
 returns-then-block-len-clause-err c =
     let s = c.args.self.now in
-    on_err c.grow.result
+    on_err_weaker c.grow.result
     (λ same. ap (λ xs. xs ++ s.tail.slots.items)
     (kept-block s.blocks.items (c.args.number / 64) c.index_mut.result.now c.grow.new.self c.index_mut.ensures.value same))
     c.grow.ensures.err
@@ -31,7 +24,7 @@ returns-then-block-len-clause-err c =
 pub returns-else-block-len-clause-ok : goal.returns-else-block-len-clause-ok
 returns-else-block-len-clause-ok c =
     let s = c.args.self.now in
-    on_ok c.grow-else-block-len.result
+    on_ok_weaker c.grow-else-block-len.result
     (λ grown. changed-tail s.blocks.items s.tail.slots.items c.args.number c.requires s.short
     (omega (arith, c.if-block-len.false, c.len.ensures, s.blocks.ok.0)) (grown_slot c.args.bytes.now c.args.now)
     c.grow-else-block-len.new.self.slots.items grown)

@@ -11,7 +11,8 @@ use Rattle.md_dirs.specs.Named.{is_alike}
 use Rattle.md_dirs.specs.Rows.{is_named}
 use Rattle.md_dirs.proofs.NameRows.{Row}
 use Rattle.md_dirs.proofs.Zones.{found-among}
-use Rattle.md_dirs.proofs.Least.{found, not-found, passed, alone, no-row, all-got}
+use Rattle.md_dirs.proofs.Least.{found, not-found, passed, alone, all-got}
+use Rattle.lists.proofs.Pushed.{nothing}
 use Rattle.md_dirs.proofs.index.names.Names.look.Goals as goal
 
 pub shown_row-requires : goal.shown_row-requires
@@ -29,7 +30,7 @@ returns-in_err-at c =
     let others = c.self.inside.others.entries in
     let plain : list_any is_colon u ≡ false =
     sym (ap (λ (r : Row). list_any is_colon r.0) c.lent-key.ensures) ∙ sym c.has_info.ensures ∙ c.if-has_info.false in
-    let none : others ≡ [] = no-row others (c.is_empty.ensures.0 c.if-not-is_empty.false) in
+    let none : others ≡ [] = nothing others (c.is_empty.ensures.0 c.if-not-is_empty.false) in
     let missed : position (is_alike (u, 0)) rows ≡ None =
     ap (λ (r : Row). position (is_alike r) rows) (sym c.lent-key.ensures) ∙ sym c.get_index_of.ensures.index ∙ c.in_err-at.was in
     c.from_residual-in_err-at.ensures
@@ -44,7 +45,7 @@ shown-requires c =
     let row = c.index-as_slice-at.result in
     let plain : list_any is_colon u ≡ false =
     sym (ap (λ (r : Row). list_any is_colon r.0) c.lent-key.ensures) ∙ sym c.has_info.ensures ∙ c.if-has_info.false in
-    let none : others ≡ [] = no-row others (c.is_empty.ensures.0 c.if-not-is_empty.false) in
+    let none : others ≡ [] = nothing others (c.is_empty.ensures.0 c.if-not-is_empty.false) in
     let there : position (is_alike (u, 0)) rows ≡ Some c.in_ok-at.at =
     ap (λ (r : Row). position (is_alike r) rows) (sym c.lent-key.ensures) ∙ sym c.get_index_of.ensures.index ∙ c.in_ok-at.was in
     let read : slice_get rows c.in_ok-at.at ≡ Some row =
@@ -66,7 +67,7 @@ returns c =
     let row = c.index-as_slice-at.result in
     let plain : list_any is_colon u ≡ false =
     sym (ap (λ (r : Row). list_any is_colon r.0) c.lent-key.ensures) ∙ sym c.has_info.ensures ∙ c.if-has_info.false in
-    let none : others ≡ [] = no-row others (c.is_empty.ensures.0 c.if-not-is_empty.false) in
+    let none : others ≡ [] = nothing others (c.is_empty.ensures.0 c.if-not-is_empty.false) in
     let there : position (is_alike (u, 0)) rows ≡ Some c.in_ok-at.at =
     ap (λ (r : Row). position (is_alike r) rows) (sym c.lent-key.ensures) ∙ sym c.get_index_of.ensures.index ∙ c.in_ok-at.was in
     let read : slice_get rows c.in_ok-at.at ≡ Some row =

@@ -1,5 +1,5 @@
 use Rattle.std.proofs.Common.{◌∙◌, sym, ap, length}
-use Rattle.md_dirs.proofs.Sorted.{holds}
+use Rattle.lists.proofs.Booleans.{holds}
 use Rattle.md_dirs.proofs.Sliced.{rows-listed, length-named}
 use Rattle.md_dirs.proofs.plain.list.PathList.count.Goals as goal
 

@@ -3,8 +3,8 @@ use Rattle.std.proofs.lemmas.Option.{slice_get_read}
 use Rattle.std.specs.Option.{option_and_then, option_map}
 use Rattle.md_dirs.specs.Rows.{is_named as is_named_by}
 use Rattle.md_dirs.specs.Index.{named_row}
-use Rattle.md_dirs.proofs.Rowed.{get-map, get-past}
-use Rattle.md_dirs.proofs.Sorted.{holds, is_true}
+use Rattle.std.proofs.lemmas.Option.{slice_get-map, slice_get_past}
+use Rattle.lists.proofs.Booleans.{holds, is_true}
 use Rattle.md_dirs.proofs.Sliced.{names-sorted, rows-listed}
 use Rattle.md_dirs.proofs.plain.list.PathList.find.Goals as goal
 
@@ -20,8 +20,8 @@ returns-in_err-path c =
     rw (c.from_residual.ensures, ← c.self.view_is, listed)
     (sym (c.first_place.ensures ∙
     ap (option_and_then (λ (e : List ℕ × ℕ). cond (is_named_by c.args.unique.now e.0) (Some e) None))
-    (get-map named_row c.directory-rows.result.now c.first_place.result ∙
-    ap (option_map named_row) (get-past c.directory-rows.result.now c.first_place.result (ltb-false _ _ (sym c.in_err-path.ensures.lookup.0))))))
+    (slice_get-map named_row c.directory-rows.result.now c.first_place.result ∙
+    ap (option_map named_row) (slice_get_past c.directory-rows.result.now c.first_place.result (ltb-false _ _ (sym c.in_err-path.ensures.lookup.0))))))
 
 pub returns-then-is_named : goal.returns-then-is_named
 returns-then-is_named c =
@@ -32,7 +32,7 @@ returns-then-is_named c =
     rw (c.as_slice-then-is_named.ensures, ← c.self.view_is, listed)
     (sym (c.first_place.ensures ∙
     ap (option_and_then (λ (e : List ℕ × ℕ). cond (is_named_by c.args.unique.now e.0) (Some e) None))
-    (get-map named_row c.directory-rows.result.now c.first_place.result ∙
+    (slice_get-map named_row c.directory-rows.result.now c.first_place.result ∙
     ap (option_map named_row)
     (slice_get_read c.directory-rows.result.now _ c.first_place.result c.in_ok-path.field-0.now refl
     (ltb-true _ _ (sym c.in_ok-path.ensures.lookup.0)) c.in_ok-path.ensures.lookup.1))
@@ -47,7 +47,7 @@ returns-else-is_named c =
     rw (← c.self.view_is, listed)
     (sym (c.first_place.ensures ∙
     ap (option_and_then (λ (e : List ℕ × ℕ). cond (is_named_by c.args.unique.now e.0) (Some e) None))
-    (get-map named_row c.directory-rows.result.now c.first_place.result ∙
+    (slice_get-map named_row c.directory-rows.result.now c.first_place.result ∙
     ap (option_map named_row)
     (slice_get_read c.directory-rows.result.now _ c.first_place.result c.in_ok-path.field-0.now refl
     (ltb-true _ _ (sym c.in_ok-path.ensures.lookup.0)) c.in_ok-path.ensures.lookup.1))

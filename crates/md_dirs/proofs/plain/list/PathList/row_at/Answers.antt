@@ -1,7 +1,7 @@
 use Rattle.std.proofs.Common.{◌∙◌, sym, ap, refl, None, Some, slice_get, ltb-true, ltb-false}
 use Rattle.std.proofs.lemmas.Option.{slice_get_read}
-use Rattle.md_dirs.proofs.Rowed.{get-past}
-use Rattle.md_dirs.proofs.Sorted.{holds}
+use Rattle.std.proofs.lemmas.Option.{slice_get_past}
+use Rattle.lists.proofs.Booleans.{holds}
 use Rattle.md_dirs.proofs.Sliced.{row-listed}
 use Rattle.md_dirs.proofs.plain.list.PathList.row_at.Goals as goal
 
@@ -11,7 +11,7 @@ returns-in_err-path-clause-row c =
     let part = rw c.deref.ensures.value at c.directory.ensures in
     rw (c.from_residual.ensures, ← c.self.view_is)
     (row-listed rows c.args.folder c.args.place c.args.at None (holds _ c.self.invariant) (ap (λ es. slice_get es c.args.at) (sym part) ∙
-    get-past c.directory.result.now c.args.at (ltb-false _ _ (sym c.in_err-path.ensures.lookup.0))))
+    slice_get_past c.directory.result.now c.args.at (ltb-false _ _ (sym c.in_err-path.ensures.lookup.0))))
 
 pub returns-clause-row : goal.returns-clause-row
 returns-clause-row c =

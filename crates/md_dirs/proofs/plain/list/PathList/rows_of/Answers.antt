@@ -2,7 +2,7 @@ use Rattle.std.proofs.Common.{ℕ, List, ◌∙◌, sym, ap, map, IsSome}
 use Rattle.md_dirs.specs.State.{file_by}
 use Rattle.md_dirs.specs.Files.{files_of}
 use Rattle.md_dirs.specs.Index.{named_row}
-use Rattle.md_dirs.proofs.Sorted.{holds}
+use Rattle.lists.proofs.Booleans.{holds}
 use Rattle.md_dirs.proofs.Sliced.{rows-listed, each-named}
 use Rattle.md_dirs.specs.Slots.{slots_of}
 use Rattle.md_dirs.proofs.plain.list.PathList.rows_of.Goals as goal
