@@ -8,7 +8,7 @@ use Rattle.std.specs.FinMap.{FinMap, get, find, is_sorted, same_map, same_entrie
 use Rattle.std.specs.FinMap.Entries.{where_key, find-where_key, is_sorted-where_key}
 use Rattle.std.proofs.lemmas.Cmp.{tied_itself}
 use Rattle.std.proofs.lemmas.Map.Lookups.{CmpEqualImpliesEq}
-use Rattle.lists.proofs.Pushed.{nothing}
+use Rattle.std.proofs.lemmas.List.{nil_from_length}
 
 turned : {X : Type 0} (b : Bool) (x y : X) → cond (not b) x y ≡ cond b y x
 turned true x y = refl
@@ -16,7 +16,7 @@ turned false x y = refl
 
 -- a map of nothing
 pub entries-empty : {X K : Type 0} (R : K → K → Ordering) → finmap.entries (finmap.empty {X = X} {R = R}) ≡ []
-entries-empty {X = X} R = nothing (finmap.entries finmap.empty) (sym (len-entries (finmap.empty {X = X} {R = R})) ∙ len-empty R X)
+entries-empty {X = X} R = nil_from_length (finmap.entries finmap.empty) (sym (len-entries (finmap.empty {X = X} {R = R})) ∙ len-empty R X)
 
 pub from-none : {X K : Type 0} (R : K → K → Ordering) (rows : List (K × X)) → rows ≡ [] → from_sorted {R = R} rows ≡ finmap.empty
 from-none R rows none = ap from_sorted none ∙ same_entries_map _ _ (entries-from_sorted R [] tt ∙ sym (entries-empty R))

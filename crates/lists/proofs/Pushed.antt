@@ -15,7 +15,3 @@ pub past-end : {A : Type 0} (xs : List A) (i : ℕ) → slice_get xs i ≡ None 
 past-end [] i is = omega arith
 past-end (x ∷ xs) zero is = cc
 past-end (x ∷ xs) (suc i) is = let rest = past-end xs i is in omega arith
-
-pub nothing : {A : Type 0} (xs : List A) → length xs ≡ 0 → xs ≡ []
-nothing [] is = refl
-nothing (x ∷ xs) is = absurd (omega arith)

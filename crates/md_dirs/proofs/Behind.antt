@@ -1,5 +1,5 @@
 -- A name that is above that of the last row in order goes behind all rows.
-use Rattle.std.proofs.Common.{◌⊎◌, inl, inr, ℕ, zero, suc, ◌≡◌, ◌+◌, ◌-◌, ◌<◌, ◌≤◌, ◌++◌, List, [], ◌∷◌, Some, None, length, refl, sym, ap, subst, ◌∙◌, arith, get_or, slice_get}
+use Rattle.std.proofs.Common.{◌⊎◌, inl, inr, ℕ, ◌≡◌, ◌+◌, ◌-◌, ◌<◌, ◌++◌, List, [], ◌∷◌, Some, None, length, refl, sym, ap, subst, ◌∙◌, arith, get_or, slice_get}
 use Rattle.std.proofs.lemmas.List.{get_or_default}
 use Rattle.std.proofs.lemmas.List.Edits.{insert_end}
 use Rattle.std.specs.declared.cmp.Ordering.TheVariants.{Less}
@@ -10,7 +10,8 @@ use Rattle.md_dirs.specs.Index.{name_cmp, IsOrderOf}
 use Rattle.md_dirs.specs.Plain.{IsGap}
 use Rattle.md_dirs.proofs.Sorted.{gap_end, all_below-to}
 use Rattle.lists.proofs.Booleans.{is_true}
-use Rattle.lists.proofs.Pushed.{past-end, nothing}
+use Rattle.lists.proofs.Pushed.{past-end}
+use Rattle.std.proofs.lemmas.List.{nil_from_length}
 use Rattle.md_dirs.proofs.NameRows.{name_total, name_exact, get-within}
 use Rattle.md_dirs.proofs.Ordered.{Rows, listed, listed-itself, long, at-place, come}
 
@@ -22,7 +23,7 @@ no-order = record { within = λ k d h. absurd (omega arith); lists = listed-itse
 pub made : (rows : Rows) (order : List ℕ) → (order ≡ []) ⊎ IsOrderOf rows order → length order ≡ length rows → IsOrderOf rows order
 made rows order h count = elim h [
   | inl empty ↦
-      let none : rows ≡ [] = nothing rows (sym count ∙ ap length empty) in
+      let none : rows ≡ [] = nil_from_length rows (sym count ∙ ap length empty) in
       subst (λ (es : Rows). IsOrderOf es order) (sym none) (subst (IsOrderOf []) (sym empty) no-order)
   | inr is ↦ is
 ]
@@ -31,7 +32,7 @@ pub none-behind : (rows : Rows) (order : List ℕ) (name : List ℕ) → IsOrder
 none-behind rows order name is end =
     let some = past-end order (length order - 1) end in
     let empty : length order ≡ 0 = omega (arith, some) in
-    let nil : listed rows ≡ [] = nothing (listed rows) (sym (long rows order is) ∙ empty) in
+    let nil : listed rows ≡ [] = nil_from_length (listed rows) (sym (long rows order is) ∙ empty) in
     record {
       ordered = is;
       gap = subst (λ (es : Rows). IsGap name_cmp es name (length order)) (sym nil)

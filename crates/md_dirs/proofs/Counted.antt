@@ -1,10 +1,10 @@
 -- The count of a file's names, as paths come and go.
-use Rattle.std.proofs.Common.{ℕ, zero, suc, ◌≡◌, ◌≢◌, ◌+◌, ◌-◌, ◌<◌, ◌≤◌, ◌++◌, ◌==◌, ◌||◌, List, [], ◌∷◌, Option, Some, None, Bool, true, false, cond, not, T, ◌&&◌, nat_le, refl, sym, ap, subst, ◌∙◌, arith, length, map, slice_get, slice_set, filter}
+use Rattle.std.proofs.Common.{ℕ, zero, suc, ◌≡◌, ◌≢◌, ◌+◌, ◌-◌, ◌<◌, ◌≤◌, ◌++◌, ◌==◌, ◌||◌, List, [], ◌∷◌, Option, Some, None, Bool, true, false, cond, not, T, nat_le, refl, sym, ap, subst, ◌∙◌, arith, length, slice_get, slice_set, filter}
 use Rattle.std.proofs.lemmas.Bool.Decides.{nat_tests}
 use Rattle.std.specs.Option.{option_map, option_flatten}
 use Rattle.std.specs.declared.cmp.Ordering.{Ordering}
 use Rattle.std.specs.declared.cmp.Ordering.TheVariants.{Less, Equal, Greater}
-use Rattle.std.specs.Ordering.{eq_by_cmp, is_lt, is_eq}
+use Rattle.std.specs.Ordering.{eq_by_cmp, is_eq}
 use Rattle.std.specs.FinMap as finmap
 use Rattle.std.specs.FinMap.{find, is_sorted, entries, entries_sorted, get-entries, entries-insert}
 use Rattle.std.specs.FinMap.Entries.{put, where_key, below_all, by_order}
@@ -20,7 +20,6 @@ use Rattle.md_dirs.proofs.PathOrder.{path_total, path_exact}
 use Rattle.lists.proofs.Maps.{entries-remove}
 use Rattle.md_dirs.proofs.Sound.{by_number, get-set_same, get-set_other}
 use Rattle.lists.proofs.Booleans.{first, second}
-use Rattle.lists.proofs.Orders.{less}
 use Rattle.lists.proofs.Members.{find-above, below-trans}
 use Rattle.md_dirs.proofs.Sorted.{where-above}
 use Rattle.std.proofs.lemmas.List.{length-map, map-set}

@@ -6,9 +6,9 @@ use Rattle.std.specs.Slice.{IsItemAt}
 use Rattle.std.proofs.lemmas.Bool.Decides.{nat_tests}
 use Rattle.std.proofs.lemmas.Cmp.{nat_cmp_total, tied_itself}
 use Rattle.std.specs.declared.cmp.Ordering.TheVariants.{Less, Greater}
-use Rattle.std.specs.Ordering.{is_lt, is_eq, ordering_reverse, ordering_then, nat_cmp}
+use Rattle.std.specs.Ordering.{is_eq, ordering_reverse, ordering_then, nat_cmp}
 use Rattle.std.specs.FinMap as finmap
-use Rattle.std.specs.FinMap.{find, is_sorted, from_sorted, get-from_sorted, get-entries, get-empty, entries_sorted, entries-from_sorted, same_map, empty_of_len, len-entries}
+use Rattle.std.specs.FinMap.{find, is_sorted, get-from_sorted, get-entries, get-empty, entries_sorted, entries-from_sorted, same_map}
 use Rattle.std.specs.FinMap.Entries.{below_all}
 use Rattle.md_dirs.specs.Path.{path_cmp, path_of, place_index}
 use Rattle.md_dirs.specs.State.{place_by}

@@ -4,11 +4,11 @@ use Rattle.std.proofs.lemmas.Bool.{lt-ltb}
 use Rattle.std.proofs.lemmas.Bool.Decides.{nat_tests}
 use Rattle.std.proofs.lemmas.List.{map-append, map-set}
 use Rattle.std.proofs.lemmas.Option.{slice_get-get_or}
-use Rattle.std.specs.Option.{option_map, option_and_then}
+use Rattle.std.specs.Option.{option_map}
 use Rattle.std.specs.FinMap as finmap
-use Rattle.std.specs.FinMap.{entries, same_map, from_sorted, entries-from_sorted, empty_of_len, len-entries}
+use Rattle.std.specs.FinMap.{entries, same_map}
 use Rattle.md_dirs.specs.Path.{path_cmp}
-use Rattle.md_dirs.specs.State.{State, IsSound, file_by, file_at, bare, bytes_at_path}
+use Rattle.md_dirs.specs.State.{State, IsSound, file_by, file_at, bare}
 use Rattle.md_dirs.specs.Calls.{Obeys, with_new_file, append, link, rename, unlink, after_append, file_with_more, with_path, without_path, after_rename, is_one_file, with_files_still_named, files_still_named, after_unlink as dirs_without}
 use Rattle.md_dirs.specs.Rows.{is_in, rows_of}
 use Rattle.md_dirs.specs.Index.{PathMap, rows_in, named_row}

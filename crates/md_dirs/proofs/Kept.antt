@@ -1,8 +1,8 @@
 -- What the calls leave of rows in order, and of what they mean.
-use Rattle.std.proofs.Common.{◌+◌, ℕ, ◌≡◌, List, [], Some, None, cond, not, IsTrue, Ok, Err, insert, remove, refl, sym, ap, subst, ◌∙◌, length}
+use Rattle.std.proofs.Common.{◌+◌, ℕ, ◌≡◌, List, Some, None, cond, not, IsTrue, Ok, Err, insert, remove, refl, sym, ap, subst, ◌∙◌}
 use Rattle.std.specs.Ordering.{eq_by_cmp}
 use Rattle.std.specs.FinMap as finmap
-use Rattle.std.specs.FinMap.{find, is_sorted, same_map, same_entries_map, get-from_sorted, entries-from_sorted, entries-insert, get-remove, from_sorted, empty_of_len, len-entries}
+use Rattle.std.specs.FinMap.{find, is_sorted, same_map, same_entries_map, get-from_sorted, entries-from_sorted, entries-insert, get-remove, from_sorted}
 use Rattle.std.specs.FinMap.Entries.{put, is_sorted-put, is_sorted-where_key}
 use Rattle.md_dirs.specs.Path.{path_cmp}
 use Rattle.md_dirs.specs.Plain.{IsAt, IsGap}

@@ -1,5 +1,5 @@
 -- The least of some rows, as a look at each row finds it, is the first of the rows in order that passes.
-use Rattle.std.proofs.Common.{ℕ, zero, suc, ◌≡◌, ◌+◌, ◌<◌, ◌≤◌, ◌++◌, List, [], ◌∷◌, Option, Some, None, Bool, true, false, cond, T, length, drop, refl, sym, ap, subst, ◌∙◌, arith, get_or, slice_get, nat_eq, ◌&&◌, is_some, not, take, nat_lt, append-nil, All}
+use Rattle.std.proofs.Common.{ℕ, zero, suc, ◌≡◌, ◌+◌, ◌<◌, ◌≤◌, ◌++◌, List, [], ◌∷◌, Option, Some, None, Bool, true, false, cond, T, length, drop, refl, sym, ap, subst, ◌∙◌, arith, get_or, slice_get, nat_eq, ◌&&◌, is_some, nat_lt, append-nil, All}
 use Rattle.std.proofs.lemmas.Bool.Decides.{nat_tests}
 use Rattle.std.proofs.lemmas.List.{drop_more}
 use Rattle.std.proofs.lemmas.List.Elements.{All-get_or}
@@ -14,7 +14,7 @@ use Rattle.std.specs.Ordering.{is_lt, ordering_reverse}
 use Rattle.std.specs.List.{find as first_with, position, position_or_len, list_any, starts_with, IsDistinct, AllByRecursion}
 use Rattle.std.specs.Map.{keys_of, lookup}
 use Rattle.std.specs.FinMap as finmap
-use Rattle.std.specs.FinMap.{from_entries, is_sorted, entries-insert, entries_sorted, len-empty, len-entries, get-entries, find}
+use Rattle.std.specs.FinMap.{from_entries, is_sorted, entries-insert, entries_sorted, get-entries, find}
 use Rattle.std.specs.FinMap.Entries.{put, below_all, by_order, length-put}
 use Rattle.md_name.specs.Names.{unique_of, is_colon}
 use Rattle.md_dirs.specs.Index.{name_cmp, IsOrderOf}

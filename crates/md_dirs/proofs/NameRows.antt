@@ -10,12 +10,11 @@ use Rattle.std.specs.List.Sorted.{IsSorted}
 use Rattle.std.specs.Map.{keys_of, lookup}
 use Rattle.std.specs.FinMap as finmap
 use Rattle.std.specs.FinMap.{find, is_sorted, get-insert, get-remove, get-from_entries, from_entries, same_map}
-use Rattle.std.specs.FinMap.Entries.{below_all}
 use Rattle.std.proofs.lemmas.Cmp.{nat_list_cmp_total}
 use Rattle.std.proofs.lemmas.Map.Lookups.{CmpEqualImpliesEq, exact_bytes}
 use Rattle.md_dirs.specs.Index.{name_cmp}
-use Rattle.lists.proofs.Booleans.{first, second, both}
-use Rattle.lists.proofs.Orders.{less, is_less}
+use Rattle.lists.proofs.Booleans.{first, both}
+use Rattle.lists.proofs.Orders.{is_less}
 use Rattle.lists.proofs.Members.{below-trans}
 
 pub name_total : IsTotalOrder name_cmp

@@ -1,24 +1,17 @@
 -- The positions of rows in order of their names, as rows come and go.
-use Rattle.std.proofs.Common.{ℕ, zero, suc, ◌≡◌, ◌≢◌, ◌+◌, ◌-◌, ◌<◌, ◌≤◌, ◌++◌, List, [], ◌∷◌, Some, None, Bool, true, false, cond, T, not, length, nat_eq, nat_lt, refl, sym, ap, subst, ◌∙◌, arith, get_or, slice_set, slice_get, insert, take, drop, All}
+use Rattle.std.proofs.Common.{ℕ, zero, suc, ◌≡◌, ◌≢◌, ◌<◌, ◌≤◌, ◌++◌, List, [], ◌∷◌, Some, None, true, false, T, length, nat_eq, nat_lt, refl, sym, ap, subst, ◌∙◌, arith, get_or, slice_get, insert, take, drop, All}
 use Rattle.std.proofs.lemmas.Bool.Decides.{nat_tests}
-use Rattle.std.proofs.lemmas.List.{length-map, length-set, get_or-map, get_or-set_same, get_or-set_other, get_or_append_left, get_or_push, length_push, get_or_default, take-map, drop-map, map-append, ext_get_or}
+use Rattle.std.proofs.lemmas.List.{length-map, get_or-map, get_or_append_left, get_or_push, length_push, get_or_default, take-map, drop-map, map-append}
 use Rattle.std.proofs.lemmas.List.Elements.{All-append, All-cons, All-weaker, All-take, All-drop, All-tail}
 use Rattle.std.proofs.lemmas.Cmp.{tied_itself}
-use Rattle.std.specs.declared.cmp.Ordering.{Ordering}
-use Rattle.std.specs.declared.cmp.Ordering.TheVariants.{Less, Equal, Greater}
-use Rattle.std.specs.Ordering.{is_eq, ordering_reverse}
+use Rattle.std.specs.declared.cmp.Ordering.TheVariants.{Less}
 use Rattle.std.specs.FinMap as finmap
 use Rattle.std.specs.FinMap.{find, is_sorted, same_map, get-from_entries, get-from_sorted, get-entries, entries-from_sorted, entries-insert, entries_sorted, from_entries_push}
-use Rattle.std.specs.FinMap.Entries.{put, where_key, below_all, by_order}
 use Rattle.md_dirs.specs.Index.{name_cmp, rows_at, IsOrderOf}
-use Rattle.md_dirs.specs.Plain.{IsAt, IsGap}
-use Rattle.md_dirs.proofs.Sorted.{other, where-above}
-use Rattle.lists.proofs.Booleans.{first, second, both}
-use Rattle.lists.proofs.Orders.{less}
+use Rattle.md_dirs.specs.Plain.{IsGap}
+use Rattle.lists.proofs.Booleans.{first, second}
 use Rattle.md_dirs.proofs.Renamed.{below-at}
 use Rattle.md_dirs.proofs.NameRows.{Row, name_total, name_exact, get-within}
-use Rattle.lists.proofs.Maps.{entries-remove}
-use Rattle.md_dirs.proofs.Steps.{row-file, row-path}
 
 abbrev pub Rows : Type 0
 Rows = List (List ℕ × ℕ)

@@ -1,18 +1,14 @@
 -- A row that takes the place of one: the rows stay in order, and the names are as after a name that comes and one that goes.
-use Rattle.std.proofs.Common.{ℕ, zero, suc, ◌≡◌, ◌<◌, ◌++◌, List, [], ◌∷◌, Option, Some, None, Bool, true, false, cond, T, length, refl, sym, ap, ◌∙◌, arith, get_or, slice_set, swap, IsSome}
+use Rattle.std.proofs.Common.{ℕ, zero, suc, ◌≡◌, ◌<◌, List, [], ◌∷◌, Some, Bool, true, false, cond, T, length, refl, sym, ◌∙◌, arith, get_or}
 use Rattle.std.specs.declared.cmp.Ordering.{Ordering}
 use Rattle.std.specs.declared.cmp.Ordering.TheVariants.{Less, Equal, Greater}
-use Rattle.std.specs.Ordering.{eq_by_cmp, is_eq, ordering_reverse}
-use Rattle.std.specs.Option.{option_to_list}
+use Rattle.std.specs.Ordering.{is_eq}
 use Rattle.std.specs.Map.{lookup_key}
-use Rattle.std.proofs.lemmas.List.Edits.{swap_is}
-use Rattle.std.specs.FinMap as finmap
-use Rattle.std.specs.FinMap.{from_entries, same_map, get-insert, get-remove}
 use Rattle.std.specs.FinMap.Entries.{below_all}
 use Rattle.md_dirs.specs.Index.{name_cmp}
 use Rattle.lists.proofs.Booleans.{first, second}
 use Rattle.lists.proofs.Orders.{less}
-use Rattle.md_dirs.proofs.NameRows.{Row, same, name_total, name_exact, get-loose, turned-test}
+use Rattle.md_dirs.proofs.NameRows.{Row, same, name_exact, turned-test}
 
 -- rows in order
 pub below-at : (x : List ℕ) (es : List (List ℕ × ℕ)) (i : ℕ) (d : List ℕ × ℕ) → i < length es → T (below_all name_cmp x es) →

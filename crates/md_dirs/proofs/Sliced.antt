@@ -15,7 +15,7 @@ use Rattle.md_dirs.specs.declared.paths.Place.{Place}
 use Rattle.md_dirs.specs.declared.paths.Place.TheVariants.{Tmp}
 use Rattle.md_dirs.proofs.PathOrder.{path_total}
 use Rattle.md_dirs.proofs.Sound.{by_number}
-use Rattle.std.proofs.lemmas.Option.{slice_get-map, slice_get_past}
+use Rattle.std.proofs.lemmas.Option.{slice_get-map}
 use Rattle.md_dirs.proofs.Directories.{path-number, same-directory, lower-directory, is-here, is-elsewhere}
 use Rattle.lists.proofs.Booleans.{first, second, both}
 use Rattle.lists.proofs.Orders.{less}

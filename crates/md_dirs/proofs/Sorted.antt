@@ -1,5 +1,5 @@
 -- Where a key is in a list of rows in order.
-use Rattle.std.proofs.Common.{◌⊎◌, inl, inr, ℕ, ◌≡◌, ◌+◌, ◌≤◌, ◌++◌, List, [], ◌∷◌, Some, None, Bool, true, false, cond, ◌&&◌, not, T, IsTrue, length, take, drop, refl, sym, ap, subst, ◌∙◌, arith, get_or, add-one, append-nil, ◌<◌}
+use Rattle.std.proofs.Common.{◌⊎◌, inl, inr, ℕ, ◌≡◌, ◌+◌, ◌≤◌, ◌++◌, List, [], ◌∷◌, Some, None, Bool, true, cond, ◌&&◌, not, T, IsTrue, length, take, drop, refl, sym, ap, subst, ◌∙◌, arith, get_or, add-one, append-nil, ◌<◌}
 use Rattle.std.proofs.lemmas.List.Edits.{insert_end}
 use Rattle.std.proofs.lemmas.Cmp.{tied_itself}
 use Rattle.std.specs.declared.cmp.Ordering.{Ordering}

@@ -1,7 +1,6 @@
 -- What refuses a call, and what a row says of its path.
-use Rattle.std.proofs.Common.{ℕ, ◌≡◌, ◌<◌, List, ◌∷◌, Option, Some, None, Bool, true, cond, sym, ap, ◌∙◌, arith, is_some, nat_lt, get_or, drop, ◌+◌}
+use Rattle.std.proofs.Common.{ℕ, ◌≡◌, List, ◌∷◌, Option, Some, None, Bool, cond, sym, ap, ◌∙◌, is_some, get_or, drop, ◌+◌}
 use Rattle.std.proofs.lemmas.List.{drop_more}
-use Rattle.std.proofs.lemmas.Bool.Decides.{nat_tests}
 use Rattle.std.specs.declared.cmp.Ordering.{Ordering}
 use Rattle.std.specs.FinMap.{find}
 use Rattle.md_dirs.specs.Plain.{IsAt}

@@ -1,8 +1,7 @@
 -- Directories as finite maps: of the names of each directory, and of the paths of all.
-use Rattle.std.specs.Prelude.{ℕ, suc, ◌≡◌, ◌+◌, ◌-◌, ◌<◌, length, slice_index_or, ◌*◌, ◌/◌, ◌%◌, List}
-use Rattle.std.specs.Prelude.{[], ◌∷◌, ◌++◌, map, filter, slice_get, unwrap_or, Option, Some, None, cond, All}
+use Rattle.std.specs.Prelude.{ℕ, suc, ◌≡◌, ◌+◌, ◌<◌, length, slice_index_or, ◌*◌, ◌/◌, ◌%◌, List}
+use Rattle.std.specs.Prelude.{[], ◌∷◌, ◌++◌, map, filter, slice_get, unwrap_or, Option, All}
 use Rattle.std.specs.declared.cmp.Ordering.{Ordering}
-use Rattle.std.specs.declared.cmp.Ordering.TheVariants.{Less, Greater}
 use Rattle.std.specs.Coded.{Coded, coded_ℕ, coded_list}
 use Rattle.std.specs.Ordering.{nat_cmp}
 use Rattle.std.specs.Cmp.Lexicographic.{slice_cmp}

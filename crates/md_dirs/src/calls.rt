@@ -1,4 +1,4 @@
-// The directory calls and looks.
+//! The directory calls and looks.
 ghost use Rattle.std.specs.Prelude.{◌≡◌, ◌+◌, ◌^◌, ◌<◌, IsErrOf, IfOk, OnErr, IfSome, IsTrue, length, slice_get, IsPermutation};
 ghost use Rattle.std.specs.Option.{option_map};
 ghost use Rattle.md_dirs.specs.Path.{path_of};

@@ -1,4 +1,4 @@
-// How a path comes to directories, and to the count of its file.
+//! How a path comes to directories, and to the count of its file.
 ghost use Rattle.std.specs.Prelude.{◌≡◌, ◌<◌, false, [], ◌∷◌, ◌++◌, Some, None, OnErr, IfOk, IfSome, if◌then◌else◌, is_none, length, slice_set};
 ghost use Rattle.std.specs.FinMap as finmap;
 ghost use Rattle.md_dirs.specs.Index.{PathMap};

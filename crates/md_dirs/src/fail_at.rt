@@ -1,4 +1,4 @@
-// Directories of which one call fails.
+//! Directories of which one call fails.
 ghost use Rattle.std.specs.Prelude.{◌≡◌, ◌+◌, ◌-◌, IsTrue, ◌↔◌, IsErrOf, IfOk, OnErr, if◌then◌else◌};
 ghost use Rattle.md_dirs.specs.Calls.{Obeys, create, append, link, rename, unlink, list};
 ghost use Rattle.md_dirs.specs.Rows.{rows_of, row_named, old_names};

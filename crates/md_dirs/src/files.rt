@@ -1,4 +1,4 @@
-// Files by their numbers, each with the number of its names.
+//! Files by their numbers, each with the number of its names.
 ghost use Rattle.std.specs.Prelude.{◌≡◌, ◌<◌, false, Some, None, OnOk, OnErr, MatchOption, IsSome, IsTrue, is_some, length};
 ghost use Rattle.md_name.specs.Names.{unique_of};
 ghost use Rattle.md_dirs.specs.State.{file_by};

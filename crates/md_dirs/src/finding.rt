@@ -1,4 +1,4 @@
-// Where the first name of a message is, among names in the order of their bytes.
+//! Where the first name of a message is, among names in the order of their bytes.
 ghost use Rattle.std.specs.Prelude.{◌≡◌, ◌<◌, ℕ, List, IsTrue, length, nat_lt};
 ghost use Rattle.std.specs.FinMap.{is_sorted};
 ghost use Rattle.md_dirs.specs.Index.{name_cmp};

@@ -1,4 +1,4 @@
-// How names are hashed.
+//! How names are hashed.
 ghost use Rattle.std.specs.Prelude.{◌≡◌, ◌+◌, ◌≤◌, length};
 ghost use Rattle.md_dirs.specs.Hashing as hashing;
 

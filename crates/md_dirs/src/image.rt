@@ -1,4 +1,4 @@
-// A file that directories begin with.
+//! A file that directories begin with.
 ghost use Rattle.std.specs.Prelude.{◌≡◌, IfOk};
 
 use crate::paths::Path;

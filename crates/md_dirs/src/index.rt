@@ -1,4 +1,4 @@
-// Directories as one hash table for each with the order of its names, and the files in the order of their making.
+//! Directories as one hash table for each with the order of its names, and the files in the order of their making.
 mod key;
 mod least;
 mod lying;

@@ -1,4 +1,4 @@
-// Laws of the directory calls, whatever the directories.
+//! Laws of the directory calls, whatever the directories.
 ghost use Rattle.std.specs.Prelude.{◌≡◌, ℕ, List, None};
 ghost use Rattle.md_dirs.specs.State.{State, IsSound};
 ghost use Rattle.md_dirs.specs.Calls.{create, append, link, rename, unlink, list};

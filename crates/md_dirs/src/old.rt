@@ -1,4 +1,4 @@
-// The names of files that have not been used for a while.
+//! The names of files that have not been used for a while.
 ghost use Rattle.std.specs.Prelude.{◌≡◌, ◌++◌, OnOk};
 ghost use Rattle.md_dirs.specs.Rows.{is_old as is_old_by, old_names};
 

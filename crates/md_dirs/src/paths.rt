@@ -1,4 +1,4 @@
-// Where a file has a name, and what it holds.
+//! Where a file has a name, and what it holds.
 ghost use Rattle.std.specs.Prelude.{◌≡◌, ◌<◌, ◌^◌, IfOk};
 ghost use Rattle.md_dirs.specs.Path.{path_cmp, path_of};
 ghost use Rattle.md_dirs.specs.Index.{directory_number};

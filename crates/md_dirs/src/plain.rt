@@ -1,5 +1,5 @@
-// Directories as one list of rows in the order of their paths, and the files in the order of their making. The slot of a file that no path
-// names any more is empty.
+//! Directories as one list of rows in the order of their paths, and the files in the order of their making. The slot of a file that no path
+//! names any more is empty.
 mod list;
 mod search;
 

@@ -1,4 +1,4 @@
-// What a directory shows of a name.
+//! What a directory shows of a name.
 ghost use Rattle.std.specs.Prelude.{◌≡◌, IfOk, length, nat_lt};
 ghost use Rattle.md_name.specs.Names.{unique_of};
 ghost use Rattle.md_dirs.specs.Find.{zone, before_colon};

@@ -1,4 +1,4 @@
-// Files by their numbers, in blocks.
+//! Files by their numbers, in blocks.
 ghost use Rattle.std.specs.Prelude.{◌≡◌, ◌<◌, ◌++◌, [], ◌∷◌, Some, OnOk, OnErr, length, slice_set, vec_len, vec_capacity};
 ghost use Rattle.std.specs.Option.{option_copied};
 ghost use Rattle.md_dirs.specs.Files.{slot_at, grown_slot, with_names, let_go};

@@ -1,4 +1,4 @@
-// The sort keys of names.
+//! The sort keys of names.
 ghost use Rattle.std.specs.Prelude.{◌≡◌, slice_index_or};
 ghost use Rattle.md_dirs.specs.Keys.{IsKeyOf};
 

@@ -1,4 +1,4 @@
-// The least of some names, found by a look at each.
+//! The least of some names, found by a look at each.
 ghost use Rattle.std.specs.Prelude.{◌≡◌, ◌++◌, if◌then◌else◌, slice_get, find as first_with};
 ghost use Rattle.std.specs.Option.{option_map};
 ghost use Rattle.std.specs.FinMap as finmap;

@@ -1,4 +1,4 @@
-// Rows as they lie.
+//! Rows as they lie.
 ghost use Rattle.std.specs.Prelude.{◌≡◌, ◌++◌, IfOk, IsSome, All, map};
 ghost use Rattle.md_dirs.specs.State.{file_by};
 ghost use Rattle.md_dirs.specs.Files.{files_of, name_row};

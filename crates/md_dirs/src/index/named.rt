@@ -1,4 +1,4 @@
-// A name with the number of its file, as the table of a directory has it.
+//! A name with the number of its file, as the table of a directory has it.
 ghost use Rattle.std.specs.Prelude.{◌≡◌, ◌∷◌, [], IsSome, IfOk, List, ℕ, length};
 ghost use Rattle.std.specs.Cmp.{partial_equiv_from_equiv};
 ghost use Rattle.std.specs.Cmp.Lexicographic.{bytes_decides};

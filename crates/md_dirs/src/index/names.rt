@@ -1,10 +1,11 @@
-// The names of one directory, hashed, and their order, once it is asked for.
+//! The names of one directory, hashed, and their order, once it is asked for.
 ghost use Rattle.std.specs.Prelude.{◌≡◌, ◌⊎◌, ◌<◌, ◌+◌, ◌++◌, ◌∷◌, ◌^◌, [], None, Some, OnOk, OnErr, IfOk, IfSome, IfNone, IsSome, IsTrue, All, true, false, length, map, slice_get, take, drop, is_none, if◌then◌else◌, find as first_with, IsPermutation};
 ghost use Rattle.std.specs.Option.{option_map};
 ghost use Rattle.std.specs.List.{list_any, IsDistinct};
 ghost use Rattle.std.specs.Map.{keys_of};
 ghost use Rattle.std.specs.Str.{bytes_eq};
 ghost use Rattle.std.specs.FinMap as finmap;
+ghost use Rattle.md_name.specs.Names.{is_colon};
 ghost use Rattle.md_dirs.specs.State.{file_by};
 ghost use Rattle.md_dirs.specs.Files.{files_of, name_row};
 ghost use Rattle.md_dirs.specs.Slots.{slots_of};
@@ -171,6 +172,29 @@ fn goes_last(table: &Table<'static>, order: &[usize], name: &[u8]) -> bool
     }
 }
 
+// The row of a unique name in a table beside which no name stands. To count the rows says that no two are alike.
+fn row_named<'a>(table: &'a Table<'static>, key: &Named<'_>) -> Option<&'a Named<'static>>
+    requires { list_any is_colon key.now.0 ≡ false }
+    ensures { option_map (λ r. r.now) result ≡ first_with (λ e. is_named key.now.0 e.0)
+        (finmap.entries {R = name_cmp} (finmap.from_entries table.now.keys)) }
+{
+    let at = (&*table).get_index_of(&*key)?;
+    Some(&table.as_slice()[at])
+}
+
+// The row at a position of an order.
+fn row_in_order<'a>(
+    table: &'a Table<'static>,
+    order: &[usize],
+    at: usize,
+) -> Option<&'a Named<'static>>
+    requires { IsOrderOf table.now.keys order.now }
+    ensures { option_map (λ r. r.now) result ≡ slice_get (finmap.entries {R = name_cmp} (finmap.from_entries table.now.keys)) at }
+{
+    let position = order.get(at)?;
+    table.get_index(*position)
+}
+
 // Adds a row to a table where none has its unique part, and says where the row is that has it else.
 fn add_row(
     table: &mut Table<'static>,
@@ -200,6 +224,22 @@ fn add_row(
     Ok(None)
 }
 
+// Whether two names have info each.
+fn both_have_info(old: &Named<'static>, new: &Named<'static>) -> bool
+    ensures { IsTrue result → (list_any is_colon old.now.0 ≡ true) × (list_any is_colon new.now.0 ≡ true) }
+{
+    old.has_info() && new.has_info()
+}
+
+// Lets an order go, unless it stays.
+fn keep_order(order: &mut Vec<usize>, stays: bool)
+    ensures { order.new.items ≡ if stays then order.old.items else [] }
+{
+    if !stays {
+        order.clear();
+    }
+}
+
 // Gives the row at a position another name of the same unique part, where it is the row of a name: whether it did. Where both names have
 // info, the order stays as it is.
 fn rename_row(
@@ -227,12 +267,9 @@ fn rename_row(
     if row.is(new) || row.unique() != renamed.unique() {
         return Ok(false);
     }
-    let had_info = row.has_info();
-    let has_info = renamed.has_info();
+    let stays = both_have_info(row, &renamed);
     table.replace(renamed)?;
-    if !had_info || !has_info {
-        order.clear();
-    }
+    keep_order(order, stays);
     Ok(true)
 }
 
@@ -443,8 +480,8 @@ impl Names {
             let (name, file) = least(&self.table, &self.others, Wanted::Named(unique))?;
             return Some(shown_row(slots, name, file));
         }
-        let at = self.table.get_index_of(&key)?;
-        Some(self.table.as_slice()[at].shown(slots))
+        let row = row_named(&self.table, &key)?;
+        Some(row.shown(slots))
     }
 
     /// Whether no two names have one unique part: none stands beside the table. False says nothing.
@@ -485,7 +522,7 @@ impl Names {
             return None;
         }
         if is_arranged(&self.table, &self.others, &self.order) {
-            let row = self.table.get_index(self.order[at]).unwrap();
+            let row = row_in_order(&self.table, &self.order, at)?;
             return Some(row.shown(slots));
         }
         let (name, file) = nth(&self.table, &self.others, at)?;

@@ -1,4 +1,4 @@
-// The two tables of a directory.
+//! The two tables of a directory.
 use crate::hashing::HashSeed;
 use crate::index::named::Named;
 use crate::name_key::NameKey;

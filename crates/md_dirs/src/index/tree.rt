@@ -1,4 +1,4 @@
-// The directories of all folders, side by side.
+//! The directories of all folders, side by side.
 ghost use Rattle.std.specs.Prelude.{◌≡◌, [], MatchOption, ◌<◌, ◌≤◌, ◌+◌, ◌^◌, ℕ, false, OnOk, OnErr, None, IfOk, IfSome, IsSome, IsTrue, All, length, map, slice_get, vec_len, is_none, if◌then◌else◌, find as first_with, IsPermutation};
 ghost use Rattle.std.specs.Option.{option_map, option_and_then};
 ghost use Rattle.std.specs.FinMap as finmap;

@@ -1,4 +1,4 @@
-// All paths in one list.
+//! All paths in one list.
 ghost use Rattle.std.specs.Prelude.{◌≡◌, ◌<◌, ◌+◌, ◌^◌, OnOk, OnErr, IfOk, IfSome, IsSome, All, length, map, slice_get, find as first_with};
 ghost use Rattle.std.specs.Option.{option_map};
 ghost use Rattle.std.specs.FinMap as finmap;

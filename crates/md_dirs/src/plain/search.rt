@@ -1,4 +1,4 @@
-// Where paths are among rows in order, by halving.
+//! Where paths are among rows in order, by halving.
 ghost use Rattle.std.specs.Prelude.{◌≡◌, IsTrue, IfOk, IfErr, filter, map};
 ghost use Rattle.std.specs.FinMap.{is_sorted};
 ghost use Rattle.md_dirs.specs.Path.{path_cmp, path_of};

@@ -2,7 +2,6 @@ use Rattle.std.proofs.Common.{ℕ, ◌≡◌, ◌∙◌, Option, Some, None, tru
 use Rattle.md_dirs.specs.declared.paths.File.{File}
 use Rattle.md_dirs.specs.declared.image.ImageFile.{ImageFile}
 use Rattle.md_dirs.proofs.Hashed.{counted-made}
-use Rattle.md_dirs.specs.Slots.{slots_of}
 use Rattle.md_dirs.proofs.index.IndexDirs.put_file.Goals as goal
 
 -- the file as it is made
@@ -15,8 +14,7 @@ none-is (Some n) is = cc
 
 pub invariant_of-self-2 : goal.invariant_of-self-2
 invariant_of-self-2 c =
-    let s = c.self.inside in
     let added = rw c.if-not-branch.false at c.in_ok-add.ensures.ok in
     let none = none-is _ (sym c.in_ok-add.ensures.new ∙ c.if-not-branch.false) in
     rw (added, c.push.ensures, c.in_ok-number.ensures.same, c.in_ok-number.ensures.number)
-    (counted-made s.folders s.names (slots_of s.slots) c.self.invariant c.args.file.path (made_of c.args.file) c.if-file-self.false none)
+    (counted-made _ _ _ c.self.invariant c.args.file.path (made_of c.args.file) c.if-file-self.false none)

@@ -8,14 +8,12 @@ use Rattle.md_dirs.specs.Slots.{slots_of}
 use Rattle.md_dirs.proofs.index.IndexDirsDirs.look.Goals as goal
 
 pub look-requires : goal.look-requires
-look-requires c =
-    let s = c.self.inside in
-    all-filed s.folders s.names (slots_of s.slots) c.self.invariant c.args.folder c.args.place
+look-requires c = all-filed _ _ _ c.self.invariant c.args.folder c.args.place
 
 pub returns : goal.returns
 returns c =
     let s = c.self.inside in
     rw (← c.self.view_is)
     (c.look.ensures
-    ∙ sym (ap (row_named c.args.unique.now) (rows-shown s.folders s.names (slots_of s.slots) c.self.invariant c.args.folder c.args.place) ∙
+    ∙ sym (ap (row_named c.args.unique.now) (rows-shown _ _ _ c.self.invariant c.args.folder c.args.place) ∙
     row_named-map c.args.unique.now (files_of (slots_of s.slots)) (rows_in s.names c.args.folder c.args.place)))

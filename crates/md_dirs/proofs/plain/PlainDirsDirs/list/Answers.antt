@@ -1,14 +1,9 @@
 use Rattle.std.proofs.Common.{◌∙◌, sym}
 use Rattle.md_dirs.proofs.Hashed.{all-filed, rows-shown}
-use Rattle.md_dirs.specs.Slots.{slots_of}
 use Rattle.md_dirs.proofs.plain.PlainDirsDirs.list.Goals as goal
 
 pub rows_of-requires : goal.rows_of-requires
-rows_of-requires c =
-    let s = c.self.inside in
-    all-filed s.folders s.names (slots_of s.slots) c.self.invariant c.args.folder c.args.place
+rows_of-requires c = all-filed _ _ _ c.self.invariant c.args.folder c.args.place
 
 pub returns-clause-rows : goal.returns-clause-rows
-returns-clause-rows c =
-    let s = c.self.inside in
-    rw (← c.self.view_is) (c.in_ok-rows.ensures ∙ sym (rows-shown s.folders s.names (slots_of s.slots) c.self.invariant c.args.folder c.args.place))
+returns-clause-rows c = rw (← c.self.view_is) (c.in_ok-rows.ensures ∙ sym (rows-shown _ _ _ c.self.invariant c.args.folder c.args.place))
