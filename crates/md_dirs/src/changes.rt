@@ -11,7 +11,7 @@ use crate::slots::Slots;
 use std::alloc::{AllocError, Global};
 
 /// Paths, each with the number of its file.
-pub trait Paths {
+pub(crate) trait Paths {
     ghost names: { Self → PathMap };
 
     /// The number of the file of a path.
@@ -50,7 +50,7 @@ fn refused<N: Paths>(names: &N, path: &Path) -> Result<bool, AllocError>
 
 // Adds a file at the end of the files, with a path as its one name, unless that is there: whether it was not. Memory that is wanting comes
 // after a path that is there.
-pub fn add_file<N: Paths>(
+pub(crate) fn add_file<N: Paths>(
     names: &mut N,
     slots: &mut Slots,
     alloc: Global,
@@ -80,7 +80,7 @@ pub fn add_file<N: Paths>(
 
 // Gives a file one more name, unless that is there: whether it was not. Memory that is wanting comes after a path that is there, and the
 // file's count is then as it was.
-pub fn add_name<N: Paths>(
+pub(crate) fn add_name<N: Paths>(
     names: &mut N,
     slots: &mut Slots,
     alloc: Global,

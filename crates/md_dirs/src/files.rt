@@ -16,13 +16,13 @@ use std::mem::swap;
 
 /// A file, and how many names it has.
 #[derive(Drop)]
-pub struct Kept {
-    pub file: File,
-    pub names: usize,
+pub(crate) struct Kept {
+    pub(crate) file: File,
+    pub(crate) names: usize,
 }
 
 // Whether a path names that file.
-pub fn is_same(there: Option<usize>, file: usize) -> bool
+pub(crate) fn is_same(there: Option<usize>, file: usize) -> bool
     ensures { result ≡ is_one_file (Some file) there }
 {
     match there {
@@ -32,7 +32,7 @@ pub fn is_same(there: Option<usize>, file: usize) -> bool
 }
 
 // Adds bytes at the end of a file.
-pub fn grow_slot(slot: &mut Option<Kept>, bytes: &[u8], now: u64) -> Result<(), AllocError>
+pub(crate) fn grow_slot(slot: &mut Option<Kept>, bytes: &[u8], now: u64) -> Result<(), AllocError>
     ensures ok { OnOk result (slot.new ≡ grown_slot bytes.now now slot.old) }
     ensures err { OnErr result (slot.new ≡ slot.old) }
     ensures kept { is_some slot.new ≡ is_some slot.old }
@@ -45,7 +45,11 @@ pub fn grow_slot(slot: &mut Option<Kept>, bytes: &[u8], now: u64) -> Result<(), 
 }
 
 // Adds all bytes of a body at the end of a file. A file without bytes takes the body itself, and what it had is left in its place.
-pub fn fill_slot(slot: &mut Option<Kept>, body: &mut Bytes, now: u64) -> Result<(), AllocError>
+pub(crate) fn fill_slot(
+    slot: &mut Option<Kept>,
+    body: &mut Bytes,
+    now: u64,
+) -> Result<(), AllocError>
     ensures ok { OnOk result (slot.new ≡ grown_slot body.old now slot.old) }
     ensures err { OnErr result (slot.new ≡ slot.old) }
     ensures kept { is_some slot.new ≡ is_some slot.old }
@@ -63,7 +67,7 @@ pub fn fill_slot(slot: &mut Option<Kept>, body: &mut Bytes, now: u64) -> Result<
 }
 
 // Counts one name less of a file, and gives it back where that was its last: whether it was.
-pub fn release_slot(slot: &mut Option<Kept>) -> bool
+pub(crate) fn release_slot(slot: &mut Option<Kept>) -> bool
     ensures less { slot.new ≡ named_less slot.old }
     ensures gone { IsTrue result → IsSome slot.old × (slot.new ≡ None) }
     ensures kept { result ≡ false → is_some slot.new ≡ is_some slot.old }
@@ -80,7 +84,7 @@ pub fn release_slot(slot: &mut Option<Kept>) -> bool
 }
 
 // Takes a name from the file of a number.
-pub fn release_one(slots: &mut Slots, file: Option<usize>)
+pub(crate) fn release_one(slots: &mut Slots, file: Option<usize>)
     requires { MatchOption file (Unit {0}) (λ n. n < length (slots_of slots.old)) }
     ensures { slots_of slots.new ≡ let_go file (slots_of slots.old) }
 {
@@ -90,7 +94,7 @@ pub fn release_one(slots: &mut Slots, file: Option<usize>)
 }
 
 // What a directory shows of a name and its file.
-pub fn shown_row<'a>(slots: &'a Slots, name: &'a [u8], file: usize) -> RowRef<'a>
+pub(crate) fn shown_row<'a>(slots: &'a Slots, name: &'a [u8], file: usize) -> RowRef<'a>
     requires { IsSome (file_by (files_of (slots_of slots.now)) file) }
     ensures { result ≡ row_by name.now (file_by (files_of (slots_of slots.now)) file) }
 {
@@ -99,7 +103,12 @@ pub fn shown_row<'a>(slots: &'a Slots, name: &'a [u8], file: usize) -> RowRef<'a
 
 // The same where it is known how many bytes the unique part of the name has.
 #[inline(always)]
-pub fn known_row<'a>(slots: &'a Slots, name: &'a [u8], unique: usize, file: usize) -> RowRef<'a>
+pub(crate) fn known_row<'a>(
+    slots: &'a Slots,
+    name: &'a [u8],
+    unique: usize,
+    file: usize,
+) -> RowRef<'a>
     requires unique { unique ≡ length (unique_of name.now) }
     requires file { IsSome (file_by (files_of (slots_of slots.now)) file) }
     ensures { result ≡ row_by name.now (file_by (files_of (slots_of slots.now)) file) }

@@ -7,7 +7,7 @@ ghost use Rattle.md_dirs.specs.Find.{zone, name_at, edge_zone, IsEdge, IsFirstPl
 use crate::rows::{is_below, is_below_info, is_named};
 
 /// The names of one directory, in the order of their bytes.
-pub trait InOrder {
+pub(crate) trait InOrder {
     /// The names, each with the number of its file.
     ghost rows: { Self → List (List ℕ × ℕ) };
 
@@ -23,7 +23,7 @@ pub trait InOrder {
 
 /// Where names of a message begin among others.
 #[derive(Clone, Copy)]
-pub enum Edge {
+pub(crate) enum Edge {
     /// At the unique name itself.
     Name,
     /// At the unique name and a colon.
@@ -41,7 +41,7 @@ fn is_before(name: &[u8], unique: &[u8], edge: Edge) -> bool
 }
 
 /// Where the names begin that are not below an edge of a unique name, by halving.
-pub fn edge_place<N: InOrder>(names: &N, unique: &[u8], edge: Edge) -> usize
+pub(crate) fn edge_place<N: InOrder>(names: &N, unique: &[u8], edge: Edge) -> usize
     requires { IsTrue (is_sorted name_cmp (N.rows names.now)) }
     ensures { IsEdge (N.rows names.now) unique.now (edge_zone edge) result }
 {
@@ -59,7 +59,7 @@ pub fn edge_place<N: InOrder>(names: &N, unique: &[u8], edge: Edge) -> usize
 }
 
 /// Where the first name is that is a unique name, or a unique name, a colon and more, if there is one.
-pub fn first_place<N: InOrder>(names: &N, unique: &[u8]) -> usize
+pub(crate) fn first_place<N: InOrder>(names: &N, unique: &[u8]) -> usize
     requires { IsTrue (is_sorted name_cmp (N.rows names.now)) }
     ensures { IsFirstPlace (N.rows names.now) unique.now result }
 {

@@ -11,7 +11,7 @@ mod tree;
 use crate::calls::{DirError, Dirs};
 use crate::changes::{Paths, add_file, add_name};
 use crate::count::Count;
-use crate::files::{Kept, is_same, release_one};
+use crate::files::{is_same, release_one};
 use crate::hashing::HashSeed;
 use crate::image::ImageFile;
 use crate::paths::{File, Path, Place};
@@ -119,18 +119,19 @@ impl IndexDirs {
         if file.path.folder >= self.folders {
             return Err(DirError::NotFound);
         }
-        let number = self.slots.make_room()?;
-        if !self.names.add(self.alloc, &file.path, number)? {
-            return Err(DirError::Exists);
-        }
         let made = File {
             bytes: file.bytes,
             stamp: file.stamp,
         };
-        self.slots.push(Kept {
-            file: made,
-            names: 1,
-        });
+        if !add_file(
+            &mut self.names,
+            &mut self.slots,
+            self.alloc,
+            &file.path,
+            made,
+        )? {
+            return Err(DirError::Exists);
+        }
         Ok(())
     }
 }

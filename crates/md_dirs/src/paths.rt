@@ -47,7 +47,7 @@ impl Path {
 }
 
 // Compares a path with that of a name in a directory, by folder, then place, then the bytes of the name.
-pub fn compare(path: &Path, folder: u32, place: Place, name: &[u8]) -> Ordering
+pub(crate) fn compare(path: &Path, folder: u32, place: Place, name: &[u8]) -> Ordering
     ensures { result ≡ path_cmp path.now (path_of folder place name.now) }
 {
     match path.folder.cmp(&folder) {
@@ -60,7 +60,7 @@ pub fn compare(path: &Path, folder: u32, place: Place, name: &[u8]) -> Ordering
 }
 
 // The number of a directory.
-pub fn number_of(folder: u32, place: Place) -> usize
+pub(crate) fn number_of(folder: u32, place: Place) -> usize
     ensures number { result ≡ directory_number folder place }
     ensures small { result < 2 ^ 40 }
 {

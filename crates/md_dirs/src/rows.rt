@@ -118,7 +118,7 @@ impl<'a> RowRef<'a> {
 }
 
 // A copy of a row, if there is one. It is refused only when out of memory.
-pub fn copied_row(alloc: Global, row: Option<RowRef<'_>>) -> Result<Option<Row>, AllocError>
+pub(crate) fn copied_row(alloc: Global, row: Option<RowRef<'_>>) -> Result<Option<Row>, AllocError>
     ensures { IfOk result (λ copy. copy ≡ row.entry) }
 {
     let Some(row) = row else {
@@ -138,14 +138,14 @@ fn ends_unique_name(rest: &[u8]) -> bool
 }
 
 // Whether a name is a unique name, or a unique name, a colon and more.
-pub fn is_named(name: &[u8], unique: &[u8]) -> bool
+pub(crate) fn is_named(name: &[u8], unique: &[u8]) -> bool
     ensures { result ≡ is_named_by unique.now name.now }
 {
     name.starts_with(unique) && ends_unique_name(&name[unique.len()..])
 }
 
 // Whether a name is below a unique name.
-pub fn is_below(name: &[u8], unique: &[u8]) -> bool
+pub(crate) fn is_below(name: &[u8], unique: &[u8]) -> bool
     ensures { result ≡ nat_lt (zone unique.now name.now) 1 }
 {
     name.cmp(unique).is_lt()
@@ -162,7 +162,7 @@ fn goes_before_colon(rest: &[u8]) -> bool
 }
 
 // Whether a name is below a unique name with a colon.
-pub fn is_below_info(name: &[u8], unique: &[u8]) -> bool
+pub(crate) fn is_below_info(name: &[u8], unique: &[u8]) -> bool
     ensures { result ≡ nat_lt (zone unique.now name.now) 3 }
 {
     if name.starts_with(unique) {
@@ -173,7 +173,7 @@ pub fn is_below_info(name: &[u8], unique: &[u8]) -> bool
 }
 
 // The first row that has the unique name.
-pub fn first_named(rows: Vec<Row>, unique: &[u8]) -> Option<Row>
+pub(crate) fn first_named(rows: Vec<Row>, unique: &[u8]) -> Option<Row>
     ensures { result ≡ row_named unique.now rows.items }
 {
     rows.into_iter()

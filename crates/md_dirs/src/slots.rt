@@ -26,7 +26,7 @@ pub(crate) struct Block {
 ///
 /// A file comes into the tail, which is a block once it has as many as one.
 #[derive(Drop)]
-pub struct Slots {
+pub(crate) struct Slots {
     alloc: Global,
     blocks: Vec<Block>,
     tail: Block,
@@ -136,7 +136,7 @@ impl Slots {
     ghost use Rattle.md_dirs.specs.Slots.{slots_of, HasRoom};
 
     /// No file. It takes no memory.
-    pub fn new(alloc: Global) -> Self
+    pub(crate) fn new(alloc: Global) -> Self
         ensures { slots_of result ≡ [] }
     {
         Slots {
@@ -148,7 +148,7 @@ impl Slots {
 
     /// The file of a number.
     #[inline(always)]
-    pub fn get(&self, number: usize) -> Option<&Kept>
+    pub(crate) fn get(&self, number: usize) -> Option<&Kept>
         requires { number < length (slots_of self.now) }
         ensures { option_copied result ≡ slot_at (slots_of self.now) number }
     {
@@ -161,7 +161,7 @@ impl Slots {
     }
 
     /// Makes room for one more file, and gives the number that it will have.
-    pub fn make_room(&mut self) -> Result<usize, AllocError>
+    pub(crate) fn make_room(&mut self) -> Result<usize, AllocError>
         ensures number { IfOk result (λ number. number ≡ length (slots_of self.old)) }
         ensures room { OnOk result (HasRoom self.new) }
         ensures same { slots_of self.new ≡ slots_of self.old }
@@ -174,7 +174,7 @@ impl Slots {
     }
 
     /// Puts a file behind all, where there is room for it.
-    pub fn push(&mut self, kept: Kept)
+    pub(crate) fn push(&mut self, kept: Kept)
         requires { HasRoom self.old }
         ensures { slots_of self.new ≡ slots_of self.old ++ Some kept ∷ [] }
     {
@@ -186,7 +186,7 @@ impl Slots {
     }
 
     /// Adds bytes at the end of the file of a number. When out of memory, nothing has changed.
-    pub fn grow(&mut self, number: usize, bytes: &[u8], now: u64) -> Result<(), AllocError>
+    pub(crate) fn grow(&mut self, number: usize, bytes: &[u8], now: u64) -> Result<(), AllocError>
         requires { number < length (slots_of self.old) }
         ensures ok { OnOk result (slots_of self.new ≡ slice_set (slots_of self.old) number (grown_slot bytes.now now (slot_at (slots_of self.old) number))) }
         ensures err { OnErr result (slots_of self.new ≡ slots_of self.old) }
@@ -201,7 +201,12 @@ impl Slots {
 
     /// Adds all bytes of a body at the end of the file of a number, as `grow` does. A file without bytes takes the body itself. When out
     /// of memory, nothing has changed.
-    pub fn fill(&mut self, number: usize, body: &mut Bytes, now: u64) -> Result<(), AllocError>
+    pub(crate) fn fill(
+        &mut self,
+        number: usize,
+        body: &mut Bytes,
+        now: u64,
+    ) -> Result<(), AllocError>
         requires { number < length (slots_of self.old) }
         ensures ok { OnOk result (slots_of self.new ≡ slice_set (slots_of self.old) number (grown_slot body.old now (slot_at (slots_of self.old) number))) }
         ensures err { OnErr result (slots_of self.new ≡ slots_of self.old) }
@@ -216,7 +221,7 @@ impl Slots {
     }
 
     /// Says how many names the file of a number has.
-    pub fn set_names(&mut self, number: usize, names: usize)
+    pub(crate) fn set_names(&mut self, number: usize, names: usize)
         requires { number < length (slots_of self.old) }
         ensures { slots_of self.new ≡ slice_set (slots_of self.old) number (with_names names (slot_at (slots_of self.old) number)) }
     {
@@ -230,7 +235,7 @@ impl Slots {
 
     /// Counts one name less of the file of a number, and gives it back where that was its last, and the room of its block
     /// where it was the last there.
-    pub fn release(&mut self, number: usize)
+    pub(crate) fn release(&mut self, number: usize)
         requires { number < length (slots_of self.old) }
         ensures { slots_of self.new ≡ let_go (Some number) (slots_of self.old) }
     {

@@ -23,7 +23,7 @@ fn short_key(name: &[u8]) -> u128
 
 /// The sort key of a name: its first 16 bytes as one number, the first highest, and zeros behind a shorter name. Where the keys of two names
 /// differ, they go as the names do.
-pub fn key_of(name: &[u8]) -> u128
+pub(crate) fn key_of(name: &[u8]) -> u128
     ensures { IsKeyOf result name.now }
 {
     match name.first_chunk::<16>() {

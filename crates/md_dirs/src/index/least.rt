@@ -11,7 +11,7 @@ use crate::rows::is_named;
 
 /// Which names are looked for.
 #[derive(Clone, Copy)]
-pub enum Wanted<'a> {
+pub(crate) enum Wanted<'a> {
     /// A unique name, and what is it, a colon and more.
     Named(&'a [u8]),
     /// Those behind this name.
@@ -62,7 +62,7 @@ fn looked<'a>(
 }
 
 /// The least of the names that are wanted, and the number of its file. It looks at each name, and takes no memory.
-pub fn least<'a>(
+pub(crate) fn least<'a>(
     table: &'a Table<'static>,
     others: &'a Others,
     wanted: Wanted<'_>,
@@ -83,7 +83,7 @@ pub fn least<'a>(
 
 /// The name at a position in order, and the number of its file. It looks at each name once for each position up to that, and takes no
 /// memory.
-pub fn nth<'a>(
+pub(crate) fn nth<'a>(
     table: &'a Table<'static>,
     others: &'a Others,
     at: usize,

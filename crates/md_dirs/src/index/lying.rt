@@ -11,7 +11,7 @@ use crate::slots::Slots;
 use std::alloc::AllocError;
 
 /// Lent rows, and behind them those of a table. It is refused only when out of memory.
-pub fn with_rows<'a>(
+pub(crate) fn with_rows<'a>(
     mut lent: Vec<RowRef<'a>>,
     table: &'a Table<'static>,
     slots: &'a Slots,
@@ -28,7 +28,7 @@ pub fn with_rows<'a>(
 }
 
 /// Lent rows, and behind them those that stand beside a table. It is refused only when out of memory.
-pub fn with_others<'a>(
+pub(crate) fn with_others<'a>(
     mut lent: Vec<RowRef<'a>>,
     others: &'a Others,
     slots: &'a Slots,

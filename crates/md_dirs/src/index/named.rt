@@ -26,7 +26,7 @@ use std::marker::Model;
 /// Two are equal where their names have the same unique part, all before the first colon, whatever comes after it and whatever their files:
 /// so a table of them finds the one name of a message by its unique name. Its unique part goes to the hasher at once.
 #[derive(Drop)]
-pub struct Named<'a> {
+pub(crate) struct Named<'a> {
     name: Parted<'a>,
     file: usize,
 }
@@ -51,7 +51,7 @@ impl<'a> Model for Named<'a> {
 
 impl<'a> Named<'a> {
     /// A copy of a name, in place where it is short, with the number of its file. It is refused only when out of memory.
-    pub fn copied(alloc: Global, name: &[u8], file: usize) -> Result<Self, AllocError>
+    pub(crate) fn copied(alloc: Global, name: &[u8], file: usize) -> Result<Self, AllocError>
         ensures { IfOk result (λ named. named ≡ (name.now, file)) }
     {
         let unique = unique_part(name).len();
@@ -69,7 +69,7 @@ impl<'a> Named<'a> {
     }
 
     /// A name that is lent, to look it up. It takes no memory.
-    pub fn lent(name: &'a [u8]) -> Self
+    pub(crate) fn lent(name: &'a [u8]) -> Self
         ensures { result ≡ (name.now, 0) }
     {
         Named {
@@ -82,7 +82,7 @@ impl<'a> Named<'a> {
     }
 
     /// The name.
-    pub fn name(&self) -> &[u8]
+    pub(crate) fn name(&self) -> &[u8]
         ensures { result.now ≡ self.now.0 }
     {
         match &self.name {
@@ -102,7 +102,7 @@ impl<'a> Named<'a> {
     }
 
     /// The unique part of the name.
-    pub fn unique(&self) -> &[u8]
+    pub(crate) fn unique(&self) -> &[u8]
         ensures { result.now ≡ unique_of self.now.0 }
     {
         let name = self.name();
@@ -110,28 +110,28 @@ impl<'a> Named<'a> {
     }
 
     /// The number of the file.
-    pub fn file(&self) -> usize
+    pub(crate) fn file(&self) -> usize
         ensures { result ≡ self.now.1 }
     {
         self.file
     }
 
     /// Whether the name is that.
-    pub fn is(&self, name: &[u8]) -> bool
+    pub(crate) fn is(&self, name: &[u8]) -> bool
         ensures { result ≡ bytes_eq self.now.0 name.now }
     {
         self.name() == name
     }
 
     /// Whether the name goes on after its unique part, with a colon.
-    pub fn has_info(&self) -> bool
+    pub(crate) fn has_info(&self) -> bool
         ensures { result ≡ list_any is_colon self.now.0 }
     {
         self.unique_len() < self.name().len()
     }
 
     /// The name and the number of its file.
-    pub fn row(&self) -> (&[u8], usize)
+    pub(crate) fn row(&self) -> (&[u8], usize)
         ensures { (result.0.now, result.1) ≡ self.now }
     {
         (self.name(), self.file)
@@ -139,7 +139,7 @@ impl<'a> Named<'a> {
 
     /// What a directory shows of the name and its file. No byte of the name is looked at.
     #[inline(always)]
-    pub fn shown<'b>(&'b self, slots: &'b Slots) -> RowRef<'b>
+    pub(crate) fn shown<'b>(&'b self, slots: &'b Slots) -> RowRef<'b>
         requires { IsSome (file_by (files_of (slots_of slots.now)) self.now.1) }
         ensures { result ≡ name_row (files_of (slots_of slots.now)) self.now }
     {

@@ -41,7 +41,7 @@ const LENT: usize = 256;
 /// The order is the positions of the table's rows in order of their names. It is made when it is asked for, and kept while names come behind
 /// all others or change their info: so names that nobody lists, as those in tmp, have no order to be kept.
 #[derive(Drop)]
-pub struct Names {
+pub(crate) struct Names {
     table: Table<'static>,
     others: Others,
     order: Vec<usize>,
@@ -354,7 +354,7 @@ fn push_copies(shown: &mut Vec<Row>, alloc: Global, rows: &[RowRef<'_>]) -> Resu
 
 impl Names {
     /// No name, and the seed that names are hashed by. It takes no memory.
-    pub fn new(alloc: Global, seed: HashSeed) -> Self
+    pub(crate) fn new(alloc: Global, seed: HashSeed) -> Self
         ensures { result ≡ finmap.empty }
     {
         Names {
@@ -366,7 +366,7 @@ impl Names {
     }
 
     /// The number of the file of a name.
-    pub fn file_of(&self, name: &[u8]) -> Option<usize>
+    pub(crate) fn file_of(&self, name: &[u8]) -> Option<usize>
         ensures { result ≡ finmap.get self.now name.now }
     {
         match place_in(&self.table, name) {
@@ -376,7 +376,7 @@ impl Names {
     }
 
     /// The same. A name that was just found or added is found again without a hash.
-    pub fn find_file(&mut self, name: &[u8]) -> Option<usize>
+    pub(crate) fn find_file(&mut self, name: &[u8]) -> Option<usize>
         ensures file { result ≡ finmap.get self.old name.now }
         ensures same { self.new ≡ self.old }
     {
@@ -388,7 +388,12 @@ impl Names {
     }
 
     /// Gives a name to a file, unless it is there: whether it was not. The name is copied. When out of memory, nothing has changed.
-    pub fn add(&mut self, alloc: Global, name: &[u8], file: usize) -> Result<bool, AllocError>
+    pub(crate) fn add(
+        &mut self,
+        alloc: Global,
+        name: &[u8],
+        file: usize,
+    ) -> Result<bool, AllocError>
         ensures new { IfOk result (λ is_new. is_new ≡ is_none (finmap.get self.old name.now)) }
         ensures ok { IfOk result (λ is_new. self.new ≡ if is_new then finmap.insert self.old name.now file else self.old) }
         ensures err { OnErr result (self.new ≡ self.old) }
@@ -410,7 +415,7 @@ impl Names {
     }
 
     /// Gives a name to a file, also in place of the one that it named. The name is copied. When out of memory, nothing has changed.
-    pub fn put(&mut self, alloc: Global, name: &[u8], file: usize) -> Result<(), AllocError>
+    pub(crate) fn put(&mut self, alloc: Global, name: &[u8], file: usize) -> Result<(), AllocError>
         ensures ok { OnOk result (self.new ≡ finmap.insert self.old name.now file) }
         ensures err { OnErr result (self.new ≡ self.old) }
     {
@@ -428,7 +433,7 @@ impl Names {
 
     /// Takes a name away, and gives the number of its file. It takes no memory. In the table the last row takes the place that comes free,
     /// and the order is to be made again. The row after that place is the near one then: names mostly go in the order in which they came.
-    pub fn take(&mut self, name: &[u8]) -> Option<usize>
+    pub(crate) fn take(&mut self, name: &[u8]) -> Option<usize>
         ensures file { result ≡ finmap.get self.old name.now }
         ensures gone { self.new ≡ finmap.remove self.old name.now }
     {
@@ -443,7 +448,7 @@ impl Names {
 
     /// Gives the file of a name another name of the same unique part, where the old one was just found and no name stands beside the table:
     /// whether it did. The name is copied. Where both have info, the order stays as it is. When out of memory, nothing has changed.
-    pub fn rename(
+    pub(crate) fn rename(
         &mut self,
         alloc: Global,
         old: &[u8],
@@ -471,7 +476,7 @@ impl Names {
 
     /// The row of the first name that is a unique name, or a unique name, a colon and more (maildir(5)), lent: by hash, unless some names
     /// stand beside the table.
-    pub fn look<'a>(&'a self, unique: &[u8], slots: &'a Slots) -> Option<RowRef<'a>>
+    pub(crate) fn look<'a>(&'a self, unique: &[u8], slots: &'a Slots) -> Option<RowRef<'a>>
         requires { All (λ e. IsSome (file_by (files_of (slots_of slots.now)) e.1)) (finmap.entries self.now) }
         ensures { result ≡ option_map (name_row (files_of (slots_of slots.now))) (first_with (λ e. is_named unique.now e.0) (finmap.entries self.now)) }
     {
@@ -485,7 +490,7 @@ impl Names {
     }
 
     /// Whether no two names have one unique part: none stands beside the table. False says nothing.
-    pub fn holds_each_once(&self) -> bool
+    pub(crate) fn holds_each_once(&self) -> bool
         ensures { IsTrue result → EachOnce (finmap.get self.now) }
     {
         // To count the rows says that no two of the table are alike.
@@ -494,14 +499,14 @@ impl Names {
     }
 
     /// How many names there are.
-    pub fn count(&self) -> usize
+    pub(crate) fn count(&self) -> usize
         ensures { result ≡ length (finmap.entries self.now) }
     {
         self.table.len() + self.others.len()
     }
 
     /// Makes the order, unless it is made. It is refused only when out of memory.
-    pub fn arrange(&mut self, alloc: Global) -> Result<(), AllocError>
+    pub(crate) fn arrange(&mut self, alloc: Global) -> Result<(), AllocError>
         ensures { self.new ≡ self.old }
     {
         if !self.others.is_empty() || self.order.len() == self.table.len() {
@@ -513,7 +518,7 @@ impl Names {
     }
 
     /// The row at a position in order of the names, lent. Where the order is not made, each name is looked at for each position up to that.
-    pub fn row_at<'a>(&'a self, at: usize, slots: &'a Slots) -> Option<RowRef<'a>>
+    pub(crate) fn row_at<'a>(&'a self, at: usize, slots: &'a Slots) -> Option<RowRef<'a>>
         requires { All (λ e. IsSome (file_by (files_of (slots_of slots.now)) e.1)) (finmap.entries self.now) }
         ensures row { result ≡ option_map (name_row (files_of (slots_of slots.now))) (slice_get (finmap.entries self.now) at) }
         ensures few { IfSome result (λ _. at + 1 < 2 ^ 64) }
@@ -530,7 +535,11 @@ impl Names {
     }
 
     /// All rows, copied. It is refused only when out of memory.
-    pub fn rows<'a>(&'a self, alloc: Global, slots: &'a Slots) -> Result<Vec<Row>, AllocError>
+    pub(crate) fn rows<'a>(
+        &'a self,
+        alloc: Global,
+        slots: &'a Slots,
+    ) -> Result<Vec<Row>, AllocError>
         requires { All (λ e. IsSome (file_by (files_of (slots_of slots.now)) e.1)) (finmap.entries self.now) }
         ensures { IfOk result (λ shown. shown.items ≡ map (name_row (files_of (slots_of slots.now))) (finmap.entries self.now)) }
     {
@@ -545,7 +554,7 @@ impl Names {
     }
 
     /// Rows from a position on, lent: at least one, where there is one. It is refused only when out of memory.
-    pub fn rows_from<'a>(
+    pub(crate) fn rows_from<'a>(
         &'a self,
         alloc: Global,
         from: usize,
@@ -566,7 +575,7 @@ impl Names {
     }
 
     /// All rows as they lie, lent. It is refused only when out of memory.
-    pub fn rows_unordered<'a>(
+    pub(crate) fn rows_unordered<'a>(
         &'a self,
         alloc: Global,
         slots: &'a Slots,

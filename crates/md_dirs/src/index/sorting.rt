@@ -14,7 +14,7 @@ use std::alloc::{AllocError, Global};
 use std::cmp::Ordering;
 
 /// All rows of a directory, lent, in no order: those of its table, and then the others.
-pub fn all_rows<'a>(
+pub(crate) fn all_rows<'a>(
     alloc: Global,
     table: &'a Table<'static>,
     others: &'a Others,
@@ -81,7 +81,7 @@ fn compare(rows: &[(&[u8], usize)], first: &(u128, usize), second: &(u128, usize
 
 /// The positions of rows in order of their names. The rows stay where they are: only keys and positions are sorted, and a name is read where
 /// keys are equal. It is refused only when out of memory.
-pub fn sorted_order(alloc: Global, rows: &[(&[u8], usize)]) -> Result<Vec<usize>, AllocError>
+pub(crate) fn sorted_order(alloc: Global, rows: &[(&[u8], usize)]) -> Result<Vec<usize>, AllocError>
     requires { IsDistinct bytes_eq (keys_of (map lent_row rows.now)) }
     ensures { IfOk result (λ order. IsOrderOf (map lent_row rows.now) order.items) }
 {

@@ -22,7 +22,7 @@ use std::marker::Model;
 
 /// The directories of all folders, by their numbers, up to the last that had a name.
 #[derive(Drop)]
-pub struct Tree {
+pub(crate) struct Tree {
     seed: HashSeed,
     pub(crate) directories: Vec<Names>,
 }
@@ -78,7 +78,7 @@ fn make_directory(
 
 impl Tree {
     /// No directory has a name, and names are hashed by a seed. It takes no memory.
-    pub fn new(alloc: Global, seed: HashSeed) -> Self
+    pub(crate) fn new(alloc: Global, seed: HashSeed) -> Self
         ensures { result ≡ finmap.empty }
     {
         Tree {
@@ -88,7 +88,7 @@ impl Tree {
     }
 
     /// The seed that names are hashed by.
-    pub fn seed(&self) -> HashSeed {
+    pub(crate) fn seed(&self) -> HashSeed {
         self.seed
     }
 
@@ -102,14 +102,14 @@ impl Tree {
     }
 
     /// The number of the file of a name in a directory.
-    pub fn file_of(&self, folder: u32, place: Place, name: &[u8]) -> Option<usize>
+    pub(crate) fn file_of(&self, folder: u32, place: Place, name: &[u8]) -> Option<usize>
         ensures { result ≡ finmap.get self.now (path_of folder place name.now) }
     {
         self.directory(folder, place)?.file_of(name)
     }
 
     /// The number of the file of a path. A path that was just found or added is found again without a hash.
-    pub fn find_file(&mut self, path: &Path) -> Option<usize>
+    pub(crate) fn find_file(&mut self, path: &Path) -> Option<usize>
         ensures file { result ≡ finmap.get self.old path.now }
         ensures same { self.new ≡ self.old }
     {
@@ -122,7 +122,7 @@ impl Tree {
     }
 
     /// Takes a path away, and gives the number of its file. It takes no memory.
-    pub fn take(&mut self, path: &Path) -> Option<usize>
+    pub(crate) fn take(&mut self, path: &Path) -> Option<usize>
         ensures file { result ≡ finmap.get self.old path.now }
         ensures gone { self.new ≡ finmap.remove self.old path.now }
     {
@@ -135,7 +135,7 @@ impl Tree {
     }
 
     /// The row at a position of a directory, in order of the names, lent.
-    pub fn row_at<'a>(
+    pub(crate) fn row_at<'a>(
         &'a self,
         folder: u32,
         place: Place,
@@ -150,7 +150,7 @@ impl Tree {
     }
 
     /// The row of the first name of a directory that is a unique name, or a unique name, a colon and more, lent.
-    pub fn look<'a>(
+    pub(crate) fn look<'a>(
         &'a self,
         folder: u32,
         place: Place,
@@ -165,7 +165,7 @@ impl Tree {
     }
 
     /// Whether a directory holds each unique part once. False says nothing.
-    pub fn holds_each_once(&self, folder: u32, place: Place) -> bool
+    pub(crate) fn holds_each_once(&self, folder: u32, place: Place) -> bool
         ensures { IsTrue result → EachOnce (λ name. finmap.get self.now (path_of folder place name)) }
     {
         match self.directory(folder, place) {
@@ -175,7 +175,7 @@ impl Tree {
     }
 
     /// How many names a directory has.
-    pub fn count(&self, folder: u32, place: Place) -> usize
+    pub(crate) fn count(&self, folder: u32, place: Place) -> usize
         ensures { result ≡ length (rows_in self.now folder place) }
     {
         match self.directory(folder, place) {
@@ -185,7 +185,7 @@ impl Tree {
     }
 
     /// The rows of a directory, copied. It is refused only when out of memory.
-    pub fn rows_of(
+    pub(crate) fn rows_of(
         &self,
         alloc: Global,
         folder: u32,
@@ -202,7 +202,7 @@ impl Tree {
     }
 
     /// Rows of a directory from a position on, lent: at least one, where there is one. It is refused only when out of memory.
-    pub fn rows_from<'a>(
+    pub(crate) fn rows_from<'a>(
         &'a self,
         alloc: Global,
         folder: u32,
@@ -221,7 +221,7 @@ impl Tree {
     }
 
     /// All rows of a directory as they lie, lent. It is refused only when out of memory.
-    pub fn rows_unordered<'a>(
+    pub(crate) fn rows_unordered<'a>(
         &'a self,
         alloc: Global,
         folder: u32,
@@ -240,7 +240,7 @@ impl Tree {
 
     /// Gives the file of a path another path, unless that is there: whether it did. The new name is copied. When out of memory, nothing has
     /// changed.
-    pub fn rename_free(
+    pub(crate) fn rename_free(
         &mut self,
         alloc: Global,
         old: &Path,
@@ -268,7 +268,7 @@ impl Tree {
 
     /// Gives the file of a path another path, in place of the file that this named. The name is copied. When out of memory, nothing has
     /// changed.
-    pub fn replace(
+    pub(crate) fn replace(
         &mut self,
         alloc: Global,
         old: &Path,
@@ -296,7 +296,12 @@ impl Tree {
     }
 
     /// Makes the order of a directory, unless it is made. It is refused only when out of memory.
-    pub fn arrange(&mut self, alloc: Global, folder: u32, place: Place) -> Result<(), AllocError>
+    pub(crate) fn arrange(
+        &mut self,
+        alloc: Global,
+        folder: u32,
+        place: Place,
+    ) -> Result<(), AllocError>
         ensures { self.new ≡ self.old }
     {
         let number = number_of(folder, place);

@@ -33,7 +33,7 @@ fn copied_rows(alloc: Global, rows: &[(Path, usize)], slots: &Slots) -> Result<V
 
 /// The paths of all directories, each with the number of its file: one list, in the order of folder, place and name.
 #[derive(Drop)]
-pub struct PathList {
+pub(crate) struct PathList {
     rows: Vec<(Path, usize)>,
 }
 
@@ -54,7 +54,7 @@ impl Model for PathList {
 
 impl PathList {
     /// No path. It takes no memory.
-    pub fn new(alloc: Global) -> Self
+    pub(crate) fn new(alloc: Global) -> Self
         ensures { result ≡ finmap.empty }
     {
         PathList {
@@ -63,7 +63,7 @@ impl PathList {
     }
 
     /// The number of the file of a name in a directory.
-    pub fn file_of(&self, folder: u32, place: Place, name: &[u8]) -> Option<usize>
+    pub(crate) fn file_of(&self, folder: u32, place: Place, name: &[u8]) -> Option<usize>
         ensures { result ≡ finmap.get self.now (path_of folder place name.now) }
     {
         match find_name(&self.rows, folder, place, name) {
@@ -73,7 +73,7 @@ impl PathList {
     }
 
     /// Gives a path to a file, also in place of the one that it named. The path is copied. When out of memory, nothing has changed.
-    pub fn put(&mut self, alloc: Global, path: &Path, file: usize) -> Result<(), AllocError>
+    pub(crate) fn put(&mut self, alloc: Global, path: &Path, file: usize) -> Result<(), AllocError>
         ensures ok { OnOk result (self.new ≡ finmap.insert self.old path.now file) }
         ensures err { OnErr result (self.new ≡ self.old) }
     {
@@ -85,7 +85,7 @@ impl PathList {
     }
 
     /// Takes a path away, and gives the number of its file. It takes no memory.
-    pub fn take(&mut self, path: &Path) -> Option<usize>
+    pub(crate) fn take(&mut self, path: &Path) -> Option<usize>
         ensures file { result ≡ finmap.get self.old path.now }
         ensures gone { self.new ≡ finmap.remove self.old path.now }
     {
@@ -96,7 +96,7 @@ impl PathList {
     }
 
     /// The name at a position of a directory, in order of the names, and the number of its file.
-    pub fn row_at(&self, folder: u32, place: Place, at: usize) -> Option<(&[u8], usize)>
+    pub(crate) fn row_at(&self, folder: u32, place: Place, at: usize) -> Option<(&[u8], usize)>
         ensures row { option_map (λ r. (r.0.now, r.1)) result ≡ slice_get (rows_in self.now folder place) at }
         ensures few { IfSome result (λ _. at + 1 < 2 ^ 64) }
     {
@@ -105,7 +105,7 @@ impl PathList {
     }
 
     /// The first name of a directory that is a unique name, or a unique name, a colon and more, and the number of its file.
-    pub fn find(&self, folder: u32, place: Place, unique: &[u8]) -> Option<(&[u8], usize)>
+    pub(crate) fn find(&self, folder: u32, place: Place, unique: &[u8]) -> Option<(&[u8], usize)>
         ensures { option_map (λ r. (r.0.now, r.1)) result ≡ first_with (λ e. is_named_by unique.now e.0) (rows_in self.now folder place) }
     {
         let rows = directory(&self.rows, folder, place);
@@ -118,14 +118,14 @@ impl PathList {
     }
 
     /// How many names a directory has.
-    pub fn count(&self, folder: u32, place: Place) -> usize
+    pub(crate) fn count(&self, folder: u32, place: Place) -> usize
         ensures { result ≡ length (rows_in self.now folder place) }
     {
         directory(&self.rows, folder, place).len()
     }
 
     /// The rows of a directory, copied. It is refused only when out of memory.
-    pub fn rows_of(
+    pub(crate) fn rows_of(
         &self,
         alloc: Global,
         folder: u32,

@@ -11,7 +11,7 @@ use crate::paths::{Path, Place, compare, number_of};
 use std::cmp::Ordering;
 
 // Where the row of a name in a directory is, or where it would go.
-pub fn find_name(
+pub(crate) fn find_name(
     rows: &[(Path, usize)],
     folder: u32,
     place: Place,
@@ -35,7 +35,7 @@ pub fn find_name(
 }
 
 // Where the row of a path is, or where it would go.
-pub fn find_row(rows: &[(Path, usize)], path: &Path) -> Result<usize, usize>
+pub(crate) fn find_row(rows: &[(Path, usize)], path: &Path) -> Result<usize, usize>
     requires { IsTrue (is_sorted path_cmp rows.now) }
     ensures found { IfOk result (IsAt path_cmp rows.now path.now) }
     ensures absent { IfErr result (IsGap path_cmp rows.now path.now) }
@@ -51,7 +51,7 @@ fn directory_of(row: &(Path, usize)) -> usize
 }
 
 // The rows of a directory, which are side by side.
-pub fn directory(rows: &[(Path, usize)], folder: u32, place: Place) -> &[(Path, usize)]
+pub(crate) fn directory(rows: &[(Path, usize)], folder: u32, place: Place) -> &[(Path, usize)]
     requires { IsTrue (is_sorted path_cmp rows.now) }
     ensures { result.now ≡ filter (λ e. is_in folder place e.0) rows.now }
 {
