@@ -5,5 +5,3 @@ pub mod AllSay
 pub mod Turns
 pub mod Touches
 pub mod Files
-pub mod OfRun
-pub mod RunSparing

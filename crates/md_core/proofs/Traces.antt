@@ -5,7 +5,7 @@ pub mod Few
 pub mod Headline
 pub mod Clock
 pub mod Plain
-pub mod Telling
+pub mod Begun
 pub mod OneClock
 pub mod Files
 pub mod Old
@@ -13,5 +13,4 @@ pub mod All
 pub mod Grown
 pub mod Refused
 pub mod Shown
-pub mod Cleaners
 pub mod Kept

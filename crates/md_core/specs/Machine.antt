@@ -20,7 +20,7 @@ use Rattle.md_jobs.specs.declared.step.DirReply.{DirReply}
 use Rattle.md_jobs.specs.declared.step.Event.{Event}
 use Rattle.md_jobs.specs.declared.step.Moment.{Moment}
 use Rattle.md_jobs.specs.declared.step.StepOut.{StepOut}
-use Rattle.md_jobs.specs.Tasks.Purpose as purpose
+use Rattle.md_jobs.specs.declared.purpose.Purpose.TheVariants as purpose
 use Rattle.md_core.specs.Tasks.Task.{Task, Deliver, Errand, Clean}
 
 -- a turn of one kind of task, as a turn of a task

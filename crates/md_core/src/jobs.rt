@@ -1,3 +1,3 @@
-// The jobs of a world, over their machines.
+//! The jobs of a world, over their machines.
 pub(crate) mod job;
 pub mod task;

@@ -1,4 +1,4 @@
-// The names that are used up, looked up by their hash.
+//! The names that are used up, looked up by their hash.
 ghost use Rattle.std.specs.Prelude.{◌≡◌, ◌||◌, ◌++◌, [], not, OnOk, OnErr, IfOk};
 ghost use Rattle.std.specs.Str.{bytes_eq};
 ghost use Rattle.md_core.specs.Used.{is_among};

@@ -3,7 +3,7 @@ use crate::jobs::job::Job;
 use crate::used::Used;
 use log::Log;
 use md_dirs::Dirs;
-use md_jobs::Image;
+use md_jobs::Snapshot;
 use std::alloc::Global;
 use std::marker::Model;
 
@@ -30,7 +30,7 @@ pub(crate) mod submit;
 #[derive(Drop)]
 pub struct World<D: Dirs> {
     alloc: Global,
-    image: Image<D>,
+    image: Snapshot<D>,
     dirs: D,
     // The clock at the beginning, in seconds.
     began: u64,

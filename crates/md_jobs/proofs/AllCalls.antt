@@ -1,20 +1,18 @@
 -- All calls that a job makes over replies: how many, and with how many effects.
-use Rattle.std.proofs.Common.{ℕ, ◌≡◌, ◌<◌, ◌≤◌, ◌+◌, ◌*◌, List, [], ◌∷◌, Option, Some, None, Bool, true, false, cond, is_some, length, max, nat_lt, refl, sym, subst, ◌∙◌, arith}
+use Rattle.std.proofs.Common.{ℕ, ◌≡◌, ◌<◌, ◌≤◌, ◌+◌, ◌*◌, List, [], ◌∷◌, Option, Some, None, cond, is_some, length, max, refl, sym, subst, ◌∙◌, arith}
 use Rattle.md_dirs.specs.declared.rows.Row.{Row}
 use Rattle.md_jobs.specs.Laws.{IsLast}
 use Rattle.md_jobs.specs.Made.{Heard, made, effects}
-use Rattle.md_jobs.specs.Machines.Deliver.{new_delivery, is_in_time, create_turn, append_turn, link_turn, unlink_turn, delivery_turn}
+use Rattle.md_jobs.specs.Machines.Deliver.{new_delivery, create_turn, append_turn, link_turn, delivery_turn}
 use Rattle.md_jobs.specs.Machines.Deliver as delivered_by
 use Rattle.md_jobs.specs.Machines.Errand.{new_errand, errand_turn, steps_left}
 use Rattle.md_jobs.specs.Machines.Purposes.{first, searches}
-use Rattle.md_jobs.specs.Machines.Refusals.{refused_by}
 use Rattle.md_jobs.specs.Pieces.{pieces_of}
 use Rattle.md_jobs.specs.Tasks.Delivery.{Delivery, Start, Writing, Linked, Undo}
 use Rattle.md_jobs.specs.Tasks.Delivery as delivery
 use Rattle.md_jobs.specs.Tasks.Errand.{Errand, Look}
-use Rattle.md_jobs.specs.Tasks.Purpose.{Purpose}
-use Rattle.md_jobs.specs.Tasks.Purpose as purpose
-use Rattle.md_jobs.specs.Tasks.Refusal.{TimedOut}
+use Rattle.md_jobs.specs.declared.purpose.Purpose.{Purpose}
+use Rattle.md_jobs.specs.declared.purpose.Purpose.TheVariants as purpose
 use Rattle.md_jobs.specs.Asked.{Asked}
 use Rattle.md_jobs.specs.Turn.{Turn, After}
 use Rattle.md_jobs.specs.declared.answer.Answer.{Answer}
@@ -25,6 +23,7 @@ use Rattle.md_jobs.specs.declared.step.Moment.{Moment}
 use Rattle.md_jobs.proofs.Calls.{few, few-effects}
 use Rattle.md_jobs.proofs.Replies.{errand-nearer, errand-left, delivery-nearer, delivery-left}
 use Rattle.md_jobs.proofs.Turns.{effect-last}
+use Rattle.md_jobs.proofs.Cases.{by-delivery}
 
 -- ---- errands
 
@@ -114,17 +113,9 @@ module _ (job : ℕ) (d : Delivery) (at : Moment) (rows : List Row) where
   link-spends start k reply.NotFound = omega arith
   link-spends start k reply.Fault = omega arith
 
-  writing-spends : (start k : ℕ) (in_time more : Bool) (r : DirReply) →
-      Spends (Writing start k) (cond in_time (cond more (append_turn d start k) (link_turn job d)) (unlink_turn d (refused_by TimedOut))) r
-  writing-spends start k true true r = append-spends start k r
-  writing-spends start k true false r = link-spends start k r
-  writing-spends start k false more r = omega arith
-
   stage-spends : (stage : delivery.Stage) (r : DirReply) → Spends stage (delivered_by.stage_turn job d at stage) r
-  stage-spends Start r = create-spends r
-  stage-spends (Writing start k) r = writing-spends start k (is_in_time start at.own) (nat_lt k (length d.body)) r
-  stage-spends Linked r = omega arith
-  stage-spends (Undo refusal) r = omega arith
+  stage-spends stage r = by-delivery job d at (λ stage turn. Spends stage turn r) (create-spends r) (λ start k more. append-spends start k r)
+      (λ start k all. link-spends start k r) (λ start k. omega arith) (omega arith) (λ x. omega arith) stage
 
 one-left : (stage : delivery.Stage) → effects_left stage ≤ 1
 one-left Start = omega arith

@@ -9,7 +9,7 @@ use Rattle.md_dirs.specs.declared.rows.Row.{Row}
 use Rattle.md_jobs.specs.Asked.{Asked, list, unlink}
 use Rattle.md_jobs.specs.Laws.{IsInTmp, KeepsToTmp, CleansOld, unused_names}
 use Rattle.md_jobs.specs.Made.{Heard, Made, made, answer_in, unlinks, takes_away, is_done}
-use Rattle.md_jobs.specs.Machines.Clean.{new_cleaning, at_stage, old_rows, old_names, after_next, cleaning_turn}
+use Rattle.md_jobs.specs.Machines.Clean.{new_cleaning, old_names, after_next, cleaning_turn}
 use Rattle.md_jobs.specs.Machines.Clean as cleaned_by
 use Rattle.md_jobs.specs.Tasks.Cleaning.{Cleaning, Stage, Look, Remove}
 use Rattle.md_jobs.specs.Turn.{Turn}

@@ -1,6 +1,7 @@
 pub mod Performing
 pub mod Sets
 pub mod NoMemory
+pub mod Cases
 pub mod Turns
 pub mod Replies
 pub mod Pieces

@@ -1,10 +1,10 @@
 -- A directory call that obeys, and that is the one of a turn, takes the turn.
-use Rattle.std.proofs.Common.{◌≡◌, ◌+◌, Option, Some, Result, Ok, Err, cond, refl, sym, ap, subst, ◌∙◌, is_some}
+use Rattle.std.proofs.Common.{◌≡◌, Option, Some, Result, Ok, Err, refl, sym, ap, subst, ◌∙◌, is_some}
 use Rattle.md_dirs.specs.Calls.{Ask, Device, Obeys}
 use Rattle.md_dirs.specs.declared.calls.DirError.{DirError}
 use Rattle.md_dirs.specs.declared.calls.DirError.TheVariants.{Exists, NotFound, Fault, NoMemory}
-use Rattle.md_jobs.specs.Turn.{Turn, After, Replies, Takes, rows_for, reply_from, reply_of}
-use Rattle.md_jobs.specs.Asked.{ask_of, shown_call, reply_by, state_by, is_fault}
+use Rattle.md_jobs.specs.Turn.{Turn, After, Replies, Takes, rows_for, reply_from}
+use Rattle.md_jobs.specs.Asked.{ask_of, shown_call, reply_by}
 use Rattle.md_jobs.specs.declared.effect.Effect.{Effect}
 use Rattle.md_jobs.specs.declared.step.Moment.{Moment}
 use Rattle.md_jobs.specs.declared.step.StepOut.{StepOut}
@@ -17,7 +17,7 @@ pub replies : {X : Type 0} (ask : Ask) (old : Device) (answer : Result X DirErro
 replies {X} ask old answer new r obeys replied = by answer obeys replied
   where
     renamed : (q : DirReply) → q ≡ r → Replies ask old q new → Replies ask old r new
-    renamed q same h = subst (λ (x : DirReply). Replies ask old x new) same h
+    renamed q same = subst (λ (x : DirReply). Replies ask old x new) same
 
     by : (a : Result X DirError) → Obeys ask old a new → reply_from a ≡ Some r → Replies ask old r new
     by (Ok x) o h = renamed reply.Ok (cc)
@@ -39,10 +39,7 @@ pub takes : {T : Type 0} (turn : Turn T) (at : Moment) (old : Device) (r : DirRe
 takes turn at old r new out effect task made call shown after is_effect =
     record {
       call = call;
-      called = made.called;
-      replied = shown ∙ made.replied ∙ ap (λ q. reply_of (ask_of turn.asked at.clock) old.state (is_fault q)) (sym shown);
-      state = made.state ∙ ap (state_by (ask_of turn.asked at.clock) old.state) (sym shown);
-      failed = made.failed ∙ ap (λ q. cond (is_fault q) (old.failures + 1) old.failures) (sym shown);
+      made = subst (λ (q : DirReply). Replies (ask_of turn.asked at.clock) old q new) (sym shown) made;
       after = ap (λ q. turn.follows q (rows_for turn.asked old.state)) shown ∙ after;
       is_effect = is_effect;
     }

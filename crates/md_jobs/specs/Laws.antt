@@ -11,13 +11,13 @@ use Rattle.md_jobs.specs.Made.{Heard, Made, answer_in, unlinks, takes_away}
 use Rattle.md_jobs.specs.Machines.Purposes.{answer_by, decide, info_in}
 use Rattle.md_jobs.specs.Machines.Refusals.{refused_by}
 use Rattle.md_jobs.specs.Tasks.Cleaning.{Cleaning}
-use Rattle.md_jobs.specs.Tasks.Decision as decision
+use Rattle.md_jobs.specs.declared.purpose.Decision.TheVariants as decision
 use Rattle.md_jobs.specs.Tasks.Delivery.{Delivery}
 use Rattle.md_jobs.specs.Tasks.Delivery as delivery
 use Rattle.md_jobs.specs.Tasks.Errand.{Errand}
 use Rattle.md_jobs.specs.Tasks.Errand as errand
-use Rattle.md_jobs.specs.Tasks.Purpose.{Purpose}
-use Rattle.md_jobs.specs.Tasks.Refusal.{Refusal}
+use Rattle.md_jobs.specs.declared.purpose.Purpose.{Purpose}
+use Rattle.md_jobs.specs.declared.refusal.Refusal.{Refusal}
 use Rattle.md_jobs.specs.Turn.{After}
 use Rattle.md_jobs.specs.declared.answer.Answer.TheVariants as answer
 use Rattle.md_jobs.specs.declared.step.DirReply.{DirReply}
@@ -110,8 +110,8 @@ pub record KeepsToTmp (c : Cleaning) (asked : Asked) (after : After Cleaning) : 
 abbrev pub unused_names : ℕ → List Row → List (List ℕ)
 unused_names own rows = map (λ row. row.name) (filter (λ row. nat_le 129600 (own - row.stamp)) rows)
 
--- The calls of a clean: after its one listing it takes away, or tries to, the names that this showed to be old, one after another, each once.
--- Its answer says how many it took away.
+-- The calls of a clean: after its one listing it takes away, or tries to, the names that this showed to be old, one after another, each
+-- once. Its answer says how many it took away.
 pub record CleansOld (folder : ℕ) (listing : Heard) (calls : List Made) : Type 0 where
   pub n : ℕ
   pub names : unlinks calls ≡ map (path folder Tmp) (take n (unused_names listing.at.own listing.rows))

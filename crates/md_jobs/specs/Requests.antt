@@ -9,7 +9,7 @@ use Rattle.md_jobs.specs.Tasks.Delivery.{Delivery}
 use Rattle.md_jobs.specs.Tasks.Delivery as delivery
 use Rattle.md_jobs.specs.Tasks.Errand.{Errand}
 use Rattle.md_jobs.specs.Tasks.Errand as errand
-use Rattle.md_jobs.specs.Tasks.Views.Purposes.{deed_view}
+use Rattle.md_jobs.specs.Tasks.Views.Errands.{deed_view}
 use Rattle.md_jobs.specs.declared.deliver.DeliveryReady.{DeliveryReady}
 use Rattle.md_jobs.specs.declared.deliver.DeliveryReady.TheVariants as delivers
 use Rattle.md_jobs.specs.declared.errand.ErrandReady.{ErrandReady}

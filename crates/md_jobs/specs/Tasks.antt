@@ -1,6 +1,3 @@
-pub mod Refusal
-pub mod Purpose
-pub mod Decision
 pub mod Deed
 pub mod Errand
 pub mod Delivery

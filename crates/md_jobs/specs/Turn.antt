@@ -1,5 +1,6 @@
 -- A turn of a job: the one directory call that it makes next, and what follows each reply.
-use Rattle.std.specs.Prelude.{ℕ, ◌≡◌, ◌+◌, List, [], Option, Some, None, Result, Ok, Err, Bool, is_some, if◌then◌else◌}
+use Rattle.std.specs.Prelude.{ℕ, ◌≡◌, ◌+◌, List, [], ◌++◌, Option, Some, None, Result, Ok, Err, IfOk, IfErr, OnErr, Bool, is_some, if◌then◌else◌}
+use Rattle.std.specs.Option.{option_to_list}
 use Rattle.md_dirs.specs.State.{State}
 use Rattle.md_dirs.specs.Rows.{rows_of, row_named}
 use Rattle.md_dirs.specs.Calls.{Ask, Device}
@@ -10,10 +11,14 @@ use Rattle.md_dirs.specs.declared.calls.DirError.{DirError}
 use Rattle.md_dirs.specs.declared.calls.DirError.TheVariants.{Exists, NotFound, Fault, NoMemory}
 use Rattle.md_jobs.specs.declared.answer.Answer.{Answer}
 use Rattle.md_jobs.specs.declared.effect.Effect.{Effect}
+use Rattle.md_jobs.specs.declared.error.CoreError.{CoreError}
+use Rattle.md_jobs.specs.declared.error.CoreError.TheVariants as refused
+use Rattle.md_jobs.specs.declared.step.DirCall.{DirCall}
 use Rattle.md_jobs.specs.declared.step.DirReply.{DirReply}
 use Rattle.md_jobs.specs.declared.step.DirReply.TheVariants as reply
 use Rattle.md_jobs.specs.declared.step.Moment.{Moment}
 use Rattle.md_jobs.specs.declared.step.StepOut.{StepOut}
+use Rattle.md_jobs.specs.declared.turn.Turned.{Turned}
 use Rattle.md_jobs.specs.Asked.{Asked, create, append, link, rename, unlink, list, ask_of, shown_call, reply_by, state_by, is_fault}
 
 -- the rows that a listing reads, and none for other calls
@@ -72,7 +77,8 @@ pub record Replies (ask : Ask) (old : Device) (r : DirReply) (new : Device) : Ty
   pub called : new.calls ≡ old.calls + 1
 
 -- A look-up was made: one directory was listed, and where the listing was done, the row of the unique name was kept.
-pub record Looks (folder : ℕ) (place : Place) (unique : List ℕ) (old : Device) (r : DirReply) (row : Option Row) (new : Device) : Type 0 where
+pub record Looks (folder : ℕ) (place : Place) (unique : List ℕ) (old : Device) (r : DirReply) (row : Option Row) (new : Device)
+    : Type 0 where
   pub made : Replies (dirs.list folder place) old r new
   pub found : r ≡ reply.Ok → row ≡ row_named unique (rows_of old.state folder place)
 
@@ -82,15 +88,33 @@ pub record IsUntouched (old new : Device) : Type 0 where
   pub failures : new.failures ≡ old.failures
   pub calls : new.calls ≡ old.calls
 
--- A turn was taken: its one directory call was made and no other, and the job is as far as the turn says. The failures of the directories
--- rose by one where that call faulted, and at no other call.
+-- There was no memory, so no call was made, and the directories are as they were.
+pub record NoCall (old new : Device) (e : CoreError) : Type 0 where
+  pub memory : e ≡ refused.NoMemory
+  pub dirs : IsUntouched old new
+
+-- What a turn shows after this call and reply, and its effect, which joins the effects.
+pub record Shows (made : DirCall) (r : DirReply) (effects effects' : List Effect) (t : Turned) : Type 0 where
+  pub call : t.out.call ≡ made
+  pub reply : t.out.reply ≡ r
+  pub effect : t.out.effect ≡ is_some t.effect.value
+  pub pushed : effects' ≡ effects ++ option_to_list t.effect.value
+
+-- A turn was taken, and its effect joined the effects; or there was no memory for it, and then the job, the effects and the directories are
+-- as they were.
+pub record TurnOf {T : Type 0} (taken : Turned → Type 0) (before after : T) (effects effects' : List Effect) (old new : Device)
+    (result : Result Turned CoreError) : Type 0 where
+  pub ok : IfOk result taken
+  pub pushed : IfOk result (λ t. effects' ≡ effects ++ option_to_list t.effect.value)
+  pub refused : IfErr result (NoCall old new)
+  pub kept : OnErr result (effects' ≡ effects)
+  pub task : OnErr result (after ≡ before)
+
+-- A turn was taken: its one directory call was made and no other, and the job is as far as the turn says.
 pub record Takes {T : Type 0} (turn : Turn T) (at : Moment) (old : Device)
     (out : StepOut) (effect : Option Effect) (task : T) (new : Device) : Type 0 where
   pub call : out.call ≡ shown_call turn.asked
-  pub replied : out.reply ≡ reply_of (ask_of turn.asked at.clock) old.state (is_fault out.reply)
-  pub state : new.state ≡ state_by (ask_of turn.asked at.clock) old.state out.reply
-  pub failed : new.failures ≡ (if is_fault out.reply then old.failures + 1 else old.failures)
-  pub called : new.calls ≡ old.calls + 1
+  pub made : Replies (ask_of turn.asked at.clock) old out.reply new
   pub after : turn.follows out.reply (rows_for turn.asked old.state) ≡ record { task = task; answer = out.answer; effect = effect }
   pub is_effect : out.effect ≡ is_some effect
 

@@ -1,4 +1,4 @@
-// How jobs end.
+//! How jobs end.
 use md_name::Flags;
 
 /// How a job ended.

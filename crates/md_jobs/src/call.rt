@@ -1,4 +1,4 @@
-// What callers ask.
+//! What callers ask.
 use md_dirs::Bytes;
 use md_name::Flags;
 

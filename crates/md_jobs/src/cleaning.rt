@@ -5,7 +5,7 @@ ghost use Rattle.md_jobs.specs.Requests.{request_view};
 ghost use Rattle.md_jobs.specs.Tasks.Cleaning.{Remove};
 ghost use Rattle.md_jobs.specs.Tasks.Views.Stages.{next_of};
 ghost use Rattle.md_jobs.specs.Asked.{ask_of, shown_call};
-ghost use Rattle.md_jobs.specs.Turn.{Replies, Takes, IsUntouched, rows_for};
+ghost use Rattle.md_jobs.specs.Turn.{Replies, Takes, NoCall, rows_for};
 ghost use Rattle.md_jobs.specs.Machines.Clean.{new_cleaning, old_names, cleaning_turn, after_old, after_unlink};
 
 use crate::answer::Answer;
@@ -71,10 +71,8 @@ impl Cleaning {
             Takes (cleaning_turn self.old at.own) at (D.device dirs.old) t.out t.effect.value
             self.new (D.device dirs.new)) }
         ensures plain { IfOk result (λ t. t.effect.value ≡ None) }
-        ensures memory { IfErr result (λ e. e ≡ CoreError.NoMemory) }
+        ensures refused { IfErr result (NoCall (D.device dirs.old) (D.device dirs.new)) }
         ensures task { OnErr result (self.new ≡ self.old) }
-        ensures dirs { OnErr result (IsUntouched (D.device dirs.old)
-            (D.device dirs.new)) }
     {
         let (reply, old) = self.call(alloc, dirs, at)?;
         Ok(self.take(reply, old))
@@ -91,9 +89,7 @@ impl Cleaning {
             Replies (ask_of (cleaning_turn self.now at.own).asked at.clock) (D.device dirs.old) made.0 (D.device dirs.new)) }
         ensures old { IfOk result (λ made. made.0 ≡ DirReply.Ok →
             made.1.items ≡ old_names at.own (rows_for (cleaning_turn self.now at.own).asked (D.device dirs.old).state)) }
-        ensures memory { IfErr result (λ e. e ≡ CoreError.NoMemory) }
-        ensures dirs { OnErr result (IsUntouched (D.device dirs.old)
-            (D.device dirs.new)) }
+        ensures refused { IfErr result (NoCall (D.device dirs.old) (D.device dirs.new)) }
     {
         match &self.stage {
             Stage::Look => {

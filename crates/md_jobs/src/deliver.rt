@@ -3,18 +3,17 @@ ghost use Rattle.std.specs.Prelude.{◌≡◌, ◌+◌, ◌-◌, ◌^◌, ◌<�
 ghost use Rattle.std.specs.Option.{option_to_list};
 ghost use Rattle.md_jobs.specs.Asked.{ask_of, shown_call};
 ghost use Rattle.md_jobs.specs.Requests.{request_view, ready_turn, IsDeliveryReady};
-ghost use Rattle.md_jobs.specs.Turn.{Replies, Takes, IsUntouched};
+ghost use Rattle.md_jobs.specs.Turn.{Replies, Takes, TurnOf, NoCall, Shows};
 ghost use Rattle.md_jobs.specs.Machines.Deliver.{new_delivery, at_stage, after_create, after_append, after_link, append_turn, delivery_turn, delivery_effect, piece_len, target as target_of, is_in_time as is_in_time_by};
 ghost use Rattle.md_jobs.specs.Tasks.Delivery.{Delivery as DeliveryView, Start, Writing};
-ghost use Rattle.md_jobs.specs.Tasks.Views.Stages.{delivery_stage};
 
 use crate::answer::Answer;
 use crate::call::JobId;
 use crate::effect::{Change, Effect};
 use crate::error::CoreError;
-use crate::image::Image;
 use crate::refusal::Refusal;
 use crate::request::{PathRef, Request};
+use crate::snapshot::Snapshot;
 use crate::step::{DirCall, DirReply, Moment};
 use crate::turn::{Turned, reply_of};
 use md_dirs::{Bytes, Dirs, FileName, Path, Place};
@@ -58,7 +57,7 @@ pub struct Delivery {
     // The whole body, while a piece of it is still to be written.
     body: Bytes,
     // The whole body, for contracts alone.
-    whole: Image<Bytes>,
+    whole: Snapshot<Bytes>,
     size: u64,
     chunk: u64,
     stage: Stage,
@@ -66,7 +65,6 @@ pub struct Delivery {
 
 impl Model for Delivery {
     ghost use Rattle.md_jobs.specs.Tasks.Delivery.{Delivery as DeliveryView};
-    ghost use Rattle.md_jobs.specs.Tasks.Views.Stages.{delivery_stage};
     ghost use Rattle.md_jobs.specs.Tasks.Views.Bodies.{HasBody};
     ghost use Rattle.std.specs.Coded.{codes};
     ghost use Rattle.md_name.specs.contracts.flags.Flags as flags;
@@ -75,9 +73,9 @@ impl Model for Delivery {
 
     ghost coded = { Prim.hlevel (codes, flags.the_row.coded) };
 
-    ghost view = { λ d. record { tmp = d.tmp; body = d.whole.value; chunk = d.chunk; stage = delivery_stage d.stage } };
+    ghost view = { λ d. record { tmp = d.tmp; body = d.whole.value; chunk = d.chunk; stage = d.stage } };
 
-    ghost invariant = { λ d. HasBody (delivery_stage d.stage) d.whole.value d.body d.size };
+    ghost invariant = { λ d. HasBody d.stage d.whole.value d.body d.size };
 }
 
 // Whether a delivery that began at `start` is in time at `own`, both by its own clock. A clock that went back counts as none.
@@ -101,8 +99,8 @@ fn piece(body: &[u8], chunk: u64, written: u64) -> &[u8]
 
 // Says how far a delivery is after an append, where so many bytes are written if it was done.
 fn appended(stage: &mut Stage, start: u64, written: u64, reply: DirReply) -> Option<Answer>
-    ensures { (d : DeliveryView) (k : _) → delivery_stage stage.old ≡ d.stage → written ≡ k + piece_len d k →
-        after_append d start k reply ≡ record { task = at_stage d (delivery_stage stage.new); answer = result; effect = None } }
+    ensures { (d : DeliveryView) (k : _) → stage.old ≡ d.stage → written ≡ k + piece_len d k →
+        after_append d start k reply ≡ record { task = at_stage d stage.new; answer = result; effect = None } }
 {
     match reply {
         DirReply::Ok => {
@@ -129,7 +127,7 @@ impl Delivery {
                 place: Place::Tmp,
                 name: FileName::of(unique),
             },
-            whole: Image::of(&body),
+            whole: Snapshot::of(&body),
             size: body.len() as u64,
             body,
             chunk,
@@ -147,15 +145,10 @@ impl Delivery {
         at: Moment,
         effects: &mut Vec<Effect>,
     ) -> Result<Turned, CoreError>
-        ensures ok { IfOk result (λ t.
+        ensures { TurnOf (λ t.
             Takes (delivery_turn job self.old at) at (D.device dirs.old) t.out t.effect.value
-            self.new (D.device dirs.new)) }
-        ensures pushed { IfOk result (λ t. effects.new.items ≡ effects.old.items ++ option_to_list t.effect.value) }
-        ensures memory { IfErr result (λ e. e ≡ CoreError.NoMemory) }
-        ensures kept { OnErr result (effects.new.items ≡ effects.old.items) }
-        ensures task { OnErr result (self.new ≡ self.old) }
-        ensures dirs { OnErr result (IsUntouched (D.device dirs.old)
-            (D.device dirs.new)) }
+            self.new (D.device dirs.new))
+            self.old self.new effects.old.items effects.new.items (D.device dirs.old) (D.device dirs.new) result }
     {
         // Room is made before the call, as one that was made can't be refused any more.
         effects.reserve(1)?;
@@ -239,9 +232,7 @@ impl Delivery {
         requires room { vec_len effects.old < vec_capacity effects.old }
         ensures follows { (rows : _) → (ready_turn job self.old ready).follows reply rows ≡
             record { task = self.new; answer = result.out.answer; effect = result.effect.value } }
-        ensures shown { (result.out.call ≡ shown_call (ready_turn job self.old ready).asked) × (result.out.reply ≡ reply) }
-        ensures effect { result.out.effect ≡ is_some result.effect.value }
-        ensures pushed { effects.new.items ≡ effects.old.items ++ option_to_list result.effect.value }
+        ensures shown { Shows (shown_call (ready_turn job self.old ready).asked) reply effects.old.items effects.new.items result }
     {
         match ready {
             DeliveryReady::Create { own } => {
@@ -274,9 +265,7 @@ impl Delivery {
         requires { IsDeliveryReady self.now ready.now }
         ensures made { IfOk result (λ reply. (job : _) →
             Replies (ask_of (ready_turn job self.now ready.now).asked at.clock) (D.device dirs.old) reply (D.device dirs.new)) }
-        ensures memory { IfErr result (λ e. e ≡ CoreError.NoMemory) }
-        ensures dirs { OnErr result (IsUntouched (D.device dirs.old)
-            (D.device dirs.new)) }
+        ensures refused { IfErr result (NoCall (D.device dirs.old) (D.device dirs.new)) }
     {
         reply_of(match ready {
             DeliveryReady::Create { .. } => dirs.create(&self.tmp, at.clock),
@@ -303,10 +292,8 @@ impl Delivery {
             Takes (append_turn self.old start 0) at (D.device dirs.old) t.out t.effect.value
             self.new (D.device dirs.new)) }
         ensures plain { IfOk result (λ t. t.effect.value ≡ None) }
-        ensures memory { IfErr result (λ e. e ≡ CoreError.NoMemory) }
+        ensures refused { IfErr result (NoCall (D.device dirs.old) (D.device dirs.new)) }
         ensures task { OnErr result (self.new ≡ self.old) }
-        ensures dirs { OnErr result (IsUntouched (D.device dirs.old)
-            (D.device dirs.new)) }
     {
         let reply = reply_of(dirs.append_body(&self.tmp, &mut self.body, at.clock))?;
         let answer = appended(&mut self.stage, start, self.size, reply);
@@ -362,9 +349,7 @@ impl Delivery {
         requires room { vec_len effects.old < vec_capacity effects.old }
         ensures follows { (job : _) → effect ≡ delivery_effect job self.old →
             after_link job self.old reply ≡ record { task = self.new; answer = result.out.answer; effect = result.effect.value } }
-        ensures shown { (result.out.call ≡ DirCall.Link) × (result.out.reply ≡ reply) }
-        ensures effect { result.out.effect ≡ is_some result.effect.value }
-        ensures pushed { effects.new.items ≡ effects.old.items ++ option_to_list result.effect.value }
+        ensures shown { Shows DirCall.Link reply effects.old.items effects.new.items result }
     {
         match reply {
             // At the link the message is delivered. Whatever comes now, it stays so.

@@ -1,4 +1,4 @@
-// Effects: the steps at which calls take effect on the mailbox.
+//! Effects: the steps at which calls take effect on the mailbox.
 ghost use Rattle.std.specs.Prelude.{◌≡◌, IfOk};
 
 use crate::answer::Answer;

@@ -5,10 +5,9 @@ ghost use Rattle.md_dirs.specs.Rows.{row_named};
 ghost use Rattle.md_dirs.specs.declared.rows.Row.{Row as RowView};
 ghost use Rattle.md_jobs.specs.Requests.{request_view, IsErrandReady};
 ghost use Rattle.std.specs.Option.{option_to_list};
-ghost use Rattle.md_jobs.specs.Turn.{Replies, TakesOrEnds, FollowsOrEnds, IsUntouched, rows_for};
+ghost use Rattle.md_jobs.specs.Turn.{Replies, TakesOrEnds, FollowsOrEnds, TurnOf, NoCall, Shows, rows_for};
 ghost use Rattle.md_jobs.specs.Asked.{ask_of, shown_call};
-ghost use Rattle.md_jobs.specs.Tasks.Views.Purposes.{purpose_view, deed_view};
-ghost use Rattle.md_jobs.specs.Tasks.Views.Errands.{errand_view};
+ghost use Rattle.md_jobs.specs.Tasks.Views.Errands.{errand_view, deed_view};
 ghost use Rattle.md_jobs.specs.Machines.Purposes.{searches, place_after, decide, info_in};
 ghost use Rattle.md_jobs.specs.Machines.Errand.{new_errand, asked_of, after_none, after_decision, after_look, lost_or_again, after_act, errand_turn};
 
@@ -55,7 +54,7 @@ pub struct Errand {
 impl Errand {
     /// An errand that has not begun.
     pub fn new(alloc: Global, folder: u32, unique: Bytes, purpose: Purpose, tries: u64) -> Errand
-        ensures { errand_view result ≡ new_errand folder unique (purpose_view purpose) tries }
+        ensures { errand_view result ≡ new_errand folder unique purpose tries }
     {
         Errand {
             path: Target::nameless(alloc, folder, purpose.first()),
@@ -75,15 +74,10 @@ impl Errand {
         at: Moment,
         effects: &mut Vec<Effect>,
     ) -> Result<Turned, CoreError>
-        ensures ok { IfOk result (λ t.
+        ensures { TurnOf (λ t.
             TakesOrEnds (errand_turn job (errand_view self.old)) at (D.device dirs.old) t.out t.effect.value
-            (errand_view self.new) (D.device dirs.new)) }
-        ensures pushed { IfOk result (λ t. effects.new.items ≡ effects.old.items ++ option_to_list t.effect.value) }
-        ensures memory { IfErr result (λ e. e ≡ CoreError.NoMemory) }
-        ensures kept { OnErr result (effects.new.items ≡ effects.old.items) }
-        ensures task { OnErr result (self.new ≡ self.old) }
-        ensures dirs { OnErr result (IsUntouched (D.device dirs.old)
-            (D.device dirs.new)) }
+            (errand_view self.new) (D.device dirs.new))
+            self.old self.new effects.old.items effects.new.items (D.device dirs.old) (D.device dirs.new) result }
     {
         // Room is made before the call, as one that was made can't be refused any more.
         effects.reserve(1)?;
@@ -134,9 +128,7 @@ impl Errand {
             Replies (ask_of (errand_turn job (errand_view self.now)).asked clock) (D.device dirs.old) made.0 (D.device dirs.new)) }
         ensures row { IfOk result (λ made. (job : _) → made.0 ≡ DirReply.Ok →
             made.1 ≡ row_named self.now.unique (rows_for (errand_turn job (errand_view self.now)).asked (D.device dirs.old).state)) }
-        ensures memory { IfErr result (λ e. e ≡ CoreError.NoMemory) }
-        ensures dirs { OnErr result (IsUntouched (D.device dirs.old)
-            (D.device dirs.new)) }
+        ensures refused { IfErr result (NoCall (D.device dirs.old) (D.device dirs.new)) }
     {
         let path = self.path.path();
         match ready {
@@ -165,9 +157,7 @@ impl Errand {
         ensures follows { (rows : List RowView) → (reply ≡ DirReply.Ok → row ≡ row_named self.old.unique rows) →
             FollowsOrEnds ((errand_turn job (errand_view self.old)).follows reply rows)
             (errand_view self.new) result.out.answer result.effect.value }
-        ensures shown { (result.out.call ≡ shown_call (errand_turn job (errand_view self.old)).asked) × (result.out.reply ≡ reply) }
-        ensures effect { result.out.effect ≡ is_some result.effect.value }
-        ensures pushed { effects.new.items ≡ effects.old.items ++ option_to_list result.effect.value }
+        ensures shown { Shows (shown_call (errand_turn job (errand_view self.old)).asked) reply effects.old.items effects.new.items result }
     {
         match ready {
             ErrandReady::Look => {
@@ -196,9 +186,7 @@ impl Errand {
         requires room { vec_len effects.old < vec_capacity effects.old }
         ensures follows { after_look job (errand_view self.old) self.old.path.place tries reply row ≡
             record { task = errand_view self.new; answer = result.out.answer; effect = result.effect.value } }
-        ensures shown { (result.out.call ≡ DirCall.List self.old.path.place) × (result.out.reply ≡ reply) }
-        ensures effect { result.out.effect ≡ is_some result.effect.value }
-        ensures pushed { effects.new.items ≡ effects.old.items ++ option_to_list result.effect.value }
+        ensures shown { Shows (DirCall.List self.old.path.place) reply effects.old.items effects.new.items result }
     {
         let call = DirCall::List(self.path.path().place);
         if reply != DirReply::Ok {
@@ -213,7 +201,7 @@ impl Errand {
 
     // The message is looked for in the next place, if there is one.
     fn not_found(&mut self, tries: u64) -> Option<Answer>
-        ensures { after_none (errand_view self.old) tries (place_after (searches (purpose_view self.old.purpose)) self.old.path.place) ≡
+        ensures { after_none (errand_view self.old) tries (place_after (searches self.old.purpose) self.old.path.place) ≡
             record { task = errand_view self.new; answer = result; effect = None } }
     {
         let Some(place) = self.purpose.after(self.path.path().place) else {
@@ -228,11 +216,9 @@ impl Errand {
     fn found(&mut self, job: JobId, row: Row, tries: u64, effects: &mut Vec<Effect>) -> Turned
         requires room { vec_len effects.old < vec_capacity effects.old }
         ensures follows { after_decision job (errand_view self.old) self.old.path.place tries row
-            (decide (purpose_view self.old.purpose) (info_in row.name)) ≡
+            (decide self.old.purpose (info_in row.name)) ≡
             record { task = errand_view self.new; answer = result.out.answer; effect = result.effect.value } }
-        ensures shown { (result.out.call ≡ DirCall.List self.old.path.place) × (result.out.reply ≡ DirReply.Ok) }
-        ensures effect { result.out.effect ≡ is_some result.effect.value }
-        ensures pushed { effects.new.items ≡ effects.old.items ++ option_to_list result.effect.value }
+        ensures shown { Shows (DirCall.List self.old.path.place) DirReply.Ok effects.old.items effects.new.items result }
     {
         let call = DirCall::List(self.path.path().place);
         let (decision, info) = self.purpose.decide(row.name.as_slice());
@@ -272,9 +258,7 @@ impl Errand {
         requires room { vec_len effects.old < vec_capacity effects.old }
         ensures follows { FollowsOrEnds (after_act job (errand_view self.old) (deed_view self.old.path deed) answer size tries reply)
             (errand_view self.new) result.out.answer result.effect.value }
-        ensures shown { (result.out.call ≡ shown_call (asked_of (deed_view self.old.path deed))) × (result.out.reply ≡ reply) }
-        ensures effect { result.out.effect ≡ is_some result.effect.value }
-        ensures pushed { effects.new.items ≡ effects.old.items ++ option_to_list result.effect.value }
+        ensures shown { Shows (shown_call (asked_of (deed_view self.old.path deed))) reply effects.old.items effects.new.items result }
     {
         let call = deed.shown();
         match reply {

@@ -1,4 +1,4 @@
-// The refusals of a world.
+//! The refusals of a world.
 use std::alloc::{AllocError, AllocFailed};
 use thiserror::Error;
 

@@ -16,7 +16,7 @@ ghost use Rattle.md_jobs.specs.Machines.Purposes.{searches};
 ghost use Rattle.md_jobs.specs.Tasks.Cleaning.{Cleaning};
 ghost use Rattle.md_jobs.specs.Tasks.Delivery.{Delivery};
 ghost use Rattle.md_jobs.specs.Tasks.Errand.{Errand};
-ghost use Rattle.md_jobs.specs.Tasks.Purpose.{Purpose};
+ghost use Rattle.md_jobs.specs.declared.purpose.Purpose.{Purpose};
 
 /// A turn that is the effect of an errand is its last one, and answers as its purpose does of some message.
 pub fn an_errand_ends_by_its_effect()

@@ -3,7 +3,7 @@
 ghost use Rattle.std.specs.Prelude.{◌≡◌, IfOk, IfErr, IfSome, OnErr, MatchResult};
 ghost use Rattle.md_dirs.specs.Path.{path_of};
 ghost use Rattle.md_dirs.specs.Calls.{Obeys};
-ghost use Rattle.md_jobs.specs.Tasks.Views.Purposes.{purpose_view, decision_view, deed_view, refusal_view};
+ghost use Rattle.md_jobs.specs.Tasks.Views.Errands.{deed_view};
 ghost use Rattle.md_name.specs.Names.{flags_of, flagged};
 ghost use Rattle.md_jobs.specs.Requests.{request_view};
 ghost use Rattle.md_jobs.specs.Sets.{is_same_set};
@@ -94,7 +94,7 @@ fn is_trashed(info: Info) -> bool
 
 // What is done by a test, or refused.
 fn act_if(test: bool, refusal: Refusal) -> Decision
-    ensures { decision_view result ≡ act_if_by test (refusal_view refusal) }
+    ensures { result ≡ act_if_by test refusal }
 {
     if test {
         return Decision::Act;
@@ -138,7 +138,7 @@ fn marked(alloc: Global, folder: u32, unique: &Bytes, flags: Flags) -> Result<Sp
 impl Purpose {
     /// The place that is looked in first.
     pub(crate) fn first(&self) -> Place
-        ensures { result ≡ first (purpose_view self.now) }
+        ensures { result ≡ first self.now }
     {
         match self {
             Purpose::Seen(_) => Place::New,
@@ -151,14 +151,14 @@ impl Purpose {
 
     // Whether cur is looked in too, where the message is not in new.
     fn searches(&self) -> bool
-        ensures { result ≡ searches (purpose_view self.now) }
+        ensures { result ≡ searches self.now }
     {
         matches!(self, Purpose::Move { .. } | Purpose::Copy { .. })
     }
 
     /// The place that is looked in after this one.
     pub(crate) fn after(&self, place: Place) -> Option<Place>
-        ensures { result ≡ place_after (searches (purpose_view self.now)) place }
+        ensures { result ≡ place_after (searches self.now) place }
     {
         match place {
             Place::New if self.searches() => Some(Place::Cur),
@@ -168,7 +168,7 @@ impl Purpose {
 
     // The flags that a message with these gets.
     fn wanted(&self, had: Flags) -> Flags
-        ensures { result ≡ wanted_by (purpose_view self.now) had }
+        ensures { result ≡ wanted_by self.now had }
     {
         match self {
             Purpose::Seen(given) => had.with(*given),
@@ -179,7 +179,7 @@ impl Purpose {
 
     // A Flag keeps the name of a message that has its flags.
     fn decide_flag(&self, info: Info) -> Decision
-        ensures { decision_view result ≡ decide_flag (purpose_view self.now) (flags_of info) }
+        ensures { result ≡ decide_flag self.now (flags_of info) }
     {
         let Some(had) = info.flags() else {
             return Decision::Refuse(Refusal::OtherInfo);
@@ -192,7 +192,7 @@ impl Purpose {
 
     // What is decided of a message of this info.
     fn decide_by(&self, info: &Info) -> Decision
-        ensures { decision_view result ≡ decide_by (purpose_view self.now) info.now }
+        ensures { result ≡ decide_by self.now info.now }
     {
         match self {
             Purpose::Seen(_) => act_if(info.flags().is_some(), Refusal::OtherInfo),
@@ -205,7 +205,7 @@ impl Purpose {
 
     /// What is decided of a message of this name, and the info of the name, where that was read: a Move goes by no info.
     pub(crate) fn decide(&self, name: &[u8]) -> (Decision, Option<Info>)
-        ensures decision { decision_view result.0 ≡ decide_by (purpose_view self.now) (info_in name.now) }
+        ensures decision { result.0 ≡ decide_by self.now (info_in name.now) }
         ensures info { IfSome result.1 (λ info. info ≡ info_in name.now) }
     {
         if matches!(self, Purpose::Move { .. }) {
@@ -218,14 +218,14 @@ impl Purpose {
 
     // The answer that says which flags the message has then.
     fn flags(&self, name: &[u8]) -> Answer
-        ensures { result ≡ Answer.Flags (wanted_by (purpose_view self.now) (shown_by (info_in name.now))) }
+        ensures { result ≡ Answer.Flags (wanted_by self.now (shown_by (info_in name.now))) }
     {
         Answer::Flags(self.wanted(shown(info_of(name))))
     }
 
     /// The answer of one whose call took effect on a message of this name.
     pub(crate) fn answer(&self, name: &[u8]) -> Answer
-        ensures { result ≡ answer_by (purpose_view self.now) (info_in name.now) }
+        ensures { result ≡ answer_by self.now (info_in name.now) }
     {
         match self {
             Purpose::Seen(_) | Purpose::Flag { .. } => self.flags(name),
@@ -244,8 +244,8 @@ impl Purpose {
         old: &Target,
     ) -> Result<(Deed, Answer), CoreError>
         ensures deed { IfOk result (λ done. deed_view old.now done.0 ≡
-            deed_by (purpose_view self.now) old.now.folder unique.now old.now.place old.now.name (info_in old.now.name)) }
-        ensures answer { IfOk result (λ done. done.1 ≡ answer_by (purpose_view self.now) (info_in old.now.name)) }
+            deed_by self.now old.now.folder unique.now old.now.place old.now.name (info_in old.now.name)) }
+        ensures answer { IfOk result (λ done. done.1 ≡ answer_by self.now (info_in old.now.name)) }
         ensures memory { IfErr result (λ e. e ≡ CoreError.NoMemory) }
     {
         let Spot {
@@ -361,7 +361,7 @@ impl Deed {
 
     /// What it says where a name is there: a link makes a name, and nothing else does.
     pub(crate) fn taken(&self) -> Refusal
-        ensures { (old : _) → refusal_view result ≡ taken_by (deed_view old self.now) }
+        ensures { (old : _) → result ≡ taken_by (deed_view old self.now) }
     {
         match self {
             Deed::Link { .. } => Refusal::NameTaken,

@@ -1,6 +1,5 @@
 //! Refusals: how a job ends that has not done what its call asks.
 ghost use Rattle.std.specs.Prelude.{◌≡◌};
-ghost use Rattle.md_jobs.specs.Tasks.Views.Purposes.{refusal_view};
 ghost use Rattle.md_jobs.specs.Machines.Refusals.{refused_by};
 
 use crate::answer::Answer;
@@ -29,7 +28,7 @@ pub enum Refusal {
 impl Refusal {
     /// The answer that says so.
     pub(crate) fn answer(self) -> Answer
-        ensures { result ≡ refused_by (refusal_view self) }
+        ensures { result ≡ refused_by self }
     {
         match self {
             Refusal::NotThere => Answer::NotThere,

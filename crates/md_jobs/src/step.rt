@@ -1,4 +1,4 @@
-// Steps, and what they show.
+//! Steps, and what they show.
 ghost use Rattle.std.specs.Prelude.{◌≡◌};
 ghost use Rattle.md_jobs.specs.Asked.{is_fault as is_fault_by};
 

@@ -1,11 +1,11 @@
 //! What one turn of a job gave.
 ghost use Rattle.std.specs.Prelude.{◌≡◌, ◌<◌, ◌++◌, ◌∷◌, [], vec_len, vec_capacity, IfOk, IfErr, OnErr, MatchResult, Some, None, false, true, is_some};
-ghost use Rattle.md_jobs.specs.Turn.{reply_from, Looks, IsUntouched};
+ghost use Rattle.md_jobs.specs.Turn.{reply_from, Looks, NoCall};
 
 use crate::answer::Answer;
 use crate::effect::Effect;
 use crate::error::CoreError;
-use crate::image::Image;
+use crate::snapshot::Snapshot;
 use crate::step::{DirCall, DirReply, StepOut};
 use md_dirs::{DirError, Dirs, Place, Row};
 
@@ -14,7 +14,7 @@ use md_dirs::{DirError, Dirs, Place, Row};
 #[derive(Drop)]
 pub struct Turned {
     pub out: StepOut,
-    pub effect: Image<Option<Effect>>,
+    pub effect: Snapshot<Option<Effect>>,
 }
 
 impl Turned {
@@ -31,7 +31,7 @@ impl Turned {
         };
         Turned {
             out,
-            effect: Image::of(&None),
+            effect: Snapshot::of(&None),
         }
     }
 
@@ -55,11 +55,14 @@ impl Turned {
             effect: true,
         };
         let effect = Some(effect);
-        let image = Image::of(&effect);
+        let snapshot = Snapshot::of(&effect);
         if let Some(effect) = effect {
             effects.push_reserved(effect);
         }
-        Turned { out, effect: image }
+        Turned {
+            out,
+            effect: snapshot,
+        }
     }
 }
 
@@ -85,12 +88,9 @@ pub(crate) fn look<D: Dirs>(
     place: Place,
     unique: &[u8],
 ) -> Result<(DirReply, Option<Row>), CoreError>
-    ensures obeys { MatchResult result
-        (λ found. Looks folder place unique.now (D.device dirs.old) found.0 found.1
-        (D.device dirs.new))
-        (λ e. e ≡ CoreError.NoMemory) }
-    ensures dirs { OnErr result (IsUntouched (D.device dirs.old)
-        (D.device dirs.new)) }
+    ensures { MatchResult result
+        (λ found. Looks folder place unique.now (D.device dirs.old) found.0 found.1 (D.device dirs.new))
+        (NoCall (D.device dirs.old) (D.device dirs.new)) }
 {
     match dirs.find(folder, place, unique) {
         Ok(row) => Ok((DirReply::Ok, row)),

@@ -1,20 +1,14 @@
 -- The steps of a job: each comes at a moment at which the job works, and the last of a job that is answered gives its answer.
 use Rattle.std.proofs.Common.{ℕ, zero, suc, ◌≡◌, ◌≢◌, ◌<◌, ◌≤◌, ◌+◌, ◌-◌, List, Option, Some, None, refl, sym, ap, subst, ◌∙◌, length, slice_get, slice_set, arith}
 use Rattle.std.proofs.lemmas.Option.{slice_get_within}
-use Rattle.std.specs.Option.{option_and_then}
 use Rattle.md_dirs.proofs.Sound.{by_number, get-set_same, get-set_other}
-use Rattle.md_core.proofs.Values.{Call, Answer, DirReply, Task}
+use Rattle.md_core.proofs.Values.{Call, Answer, DirReply, Task, After, Turn, rows_for, Machine, Standing, working, answered, Occurrence, job_at, new_job, moment_of, turn_of, reply_to, standing_of, step_of, step_by, Step, call_at, IsStepOf, Run, machine_at, beginning, jobs_of, done_at, IsRun, trace_of, option_and_then}
 use Rattle.md_jobs.specs.declared.call.Call.TheVariants as call
-use Rattle.md_jobs.specs.Turn.{After, Turn, rows_for}
-use Rattle.md_core.specs.Machine.{Machine, Standing, working, answered, Occurrence, job_at, new_job, moment_of, turn_of, reply_to, standing_of, step_of, step_by}
-use Rattle.md_core.specs.Trace.{Step, call_at}
-use Rattle.md_core.specs.Runs.{Run, machine_at, beginning, jobs_of, done_at}
-use Rattle.md_core.specs.Stepping.{IsRun}
-use Rattle.md_core.proofs.Answers.OfRun.{IsStep}
 use Rattle.md_core.proofs.Lists.Places.{at_place}
 use Rattle.md_core.proofs.Runs.Events.{goes_on-exact, happens-turned, done-turned, job_at-within}
 use Rattle.md_core.proofs.Runs.ByEvent.{moment-start, moment-more, moment-over, moment-end}
 use Rattle.md_core.proofs.Induction.GoodRuns.{new_at}
+use Rattle.md_core.proofs.Traces.Same.{done-step}
 
 -- the turn that an event is, of a job with this task, and how the job stands after it
 abbrev pub turn_by : Machine → Occurrence → Task → Turn Task
@@ -53,7 +47,7 @@ set-there : (jobs : List Standing) (number job : ℕ) (new : Standing) → 0 < n
 set-there jobs number zero new some differ = refl
 set-there jobs number (suc j) new some differ = get-set_other jobs (number - 1) j new (λ same. differ (omega (arith, same, some)))
 
--- a turn of a job is a step of it
+-- what a turn of a job does, and how jobs stand after it
 module _ (r : Run) (k job : ℕ) (t : IsTurn r k job) where
   there-own : job_at (machine_at r k).jobs t.event.event.job ≡ Some (working t.task)
   there-own = ap (job_at (machine_at r k).jobs) t.own ∙ t.there
@@ -63,9 +57,6 @@ module _ (r : Run) (k job : ℕ) (t : IsTurn r k job) where
 
   pub done-in : done_at r k ≡ Some (done_in r k job t)
   done-in = ap (option_and_then (step_of (machine_at r k))) t.at ∙ done-turned (machine_at r k) t.event t.task there-own
-
-  abbrev pub is-step : IsStep r job k
-  is-step = record { what = done_in r k job t; at = done-in; own = t.own }
 
   abbrev S : Standing
   S = standing_of (left_by r k job t).task (left_by r k job t).answer
@@ -98,6 +89,9 @@ new-works (call.Clean folder) a is = cc
 new-works c a is = cc
 
 module _ (r : Run) (run : IsRun r) where
+  abbrev pub is-step : (k job : ℕ) (t : IsTurn r k job) → IsStepOf (trace_of r) job k
+  is-step k job t = record { step = done_in r k job t; at = done-step r run k (done_in r k job t) (done-in r k job t); own = t.own }
+
   -- each event is the turn of its job
   pub turn-at : (k : ℕ) (e : Occurrence) → slice_get r.events k ≡ Some e → IsTurn r k e.event.job
   turn-at k e at =

@@ -1,19 +1,9 @@
 -- Runs by the numbers of their moments: what a turn finds and leaves, and what holds at each moment by induction.
 use Rattle.std.proofs.Common.{ℕ, zero, suc, ◌≡◌, ◌≢◌, ◌≤◌, ◌+◌, ◌-◌, List, [], ◌∷◌, Some, None, Bool, true, false, cond, not, ◌==◌, sym, ap, subst, ◌∙◌, length, slice_get, arith}
-use Rattle.std.specs.List.{position_or_len}
-use Rattle.std.specs.Option.{option_and_then}
 use Rattle.std.proofs.lemmas.Bool.Decides.{nat_tests}
 use Rattle.std.proofs.lemmas.Option.{slice_get_within, slice_get_past}
-use Rattle.md_core.proofs.Values.{IsSound, Call, DirReply, Moment, Task}
+use Rattle.md_core.proofs.Values.{IsSound, Call, DirReply, Moment, Task, Asked, ask_of, state_by, After, rows_for, Machine, Standing, working, Occurrence, step_of, job_at, moment_of, turn_of, after_turn, Step, call_at, IsStepOf, Run, machine_at, done_at, first_step, IsRun, MakesMessage, trace_of, position_or_len, option_and_then}
 use Rattle.md_dirs.proofs.Sound.{by_number}
-use Rattle.md_jobs.specs.Asked.{Asked, ask_of, state_by}
-use Rattle.md_jobs.specs.Turn.{After, rows_for}
-use Rattle.md_core.specs.Machine.{Machine, Standing, working, Occurrence, step_of, job_at, moment_of, turn_of, after_turn}
-use Rattle.md_core.specs.Trace.{Step, call_at}
-use Rattle.md_core.specs.Runs.{Run, machine_at, done_at, first_step}
-use Rattle.md_core.specs.Stepping.{IsRun}
-use Rattle.md_core.specs.Accepting.{MakesMessage}
-use Rattle.md_core.proofs.Answers.OfRun.{IsStep}
 use Rattle.md_core.proofs.Induction.Good.{IsGood, TaskFits}
 use Rattle.md_core.proofs.Machines.EachTurn.{each-turn}
 use Rattle.md_core.proofs.Runs.Events.{happens-turned}
@@ -22,6 +12,7 @@ use Rattle.md_core.proofs.Induction.GoodRuns.{good-moment}
 use Rattle.md_core.proofs.Lists.Places.{at_place}
 use Rattle.md_core.proofs.Runs.ByEvent.{moment-more, moment-over}
 use Rattle.md_core.proofs.Answers.LastStep.{IsTurn, turn_by, reply_in, done_in, done-in, turn-at}
+use Rattle.md_core.proofs.Traces.Same.{done-step}
 
 -- a job that works has its call, which its task fits
 call-there : (calls : List Call) (m : Machine) (n : ℕ) (job : Standing) → IsGood calls m → job_at m.jobs n ≡ Some job →
@@ -168,5 +159,9 @@ module _ (r : Run) (k n j : ℕ) (t : IsTurn r k n) (none : k ≤ first_step r j
       let this : (t.event.event.job == j) ≡ true = grind (arith, nat_tests) in
       first-now (λ (e : Occurrence). e.event.job == j) r.events k t.event t.at this none
 
-  abbrev pub first-is : j ≡ n → IsStep r j (first_step r j)
-  first-is same = record { what = done_in r k n t; at = ap (done_at r) (is-first same) ∙ done-in r k n t; own = t.own ∙ sym same }
+  abbrev pub first-is : IsRun r → j ≡ n → IsStepOf (trace_of r) j (first_step r j)
+  first-is run same = record {
+    step = done_in r k n t;
+    at = done-step r run (first_step r j) (done_in r k n t) (ap (done_at r) (is-first same) ∙ done-in r k n t);
+    own = t.own ∙ sym same;
+  }

@@ -2,19 +2,10 @@
 use Rattle.md_jobs.specs.Tasks.Errand as errand
 use Rattle.md_jobs.specs.Tasks.Errand.{Look, Act}
 use Rattle.std.proofs.Common.{ℕ, ◌≡◌, ◌+◌, ◌≤◌, List, Some, None, refl, subst, ◌∙◌, length, arith}
-use Rattle.md_core.proofs.Values.{State, Call, DirReply, Task, Deliver, Errand, Clean}
-use Rattle.md_jobs.specs.declared.answer.Answer.{Answer}
+use Rattle.md_core.proofs.Values.{State, Call, DirReply, Task, Deliver, Errand, Clean, Answer, Stage, Start, Writing, Linked, Undo, After, working, job_at, new_job, Run, machine_at, call_at, IsRun, IsFaulted, trace_of, refused_by}
 use Rattle.md_jobs.specs.declared.answer.Answer.TheVariants as answer
 use Rattle.md_jobs.specs.declared.call.Call.TheVariants as call
-use Rattle.md_jobs.specs.Machines.Refusals.{refused_by}
-use Rattle.md_jobs.specs.Tasks.Delivery.{Stage, Start, Writing, Linked, Undo}
 use Rattle.md_jobs.specs.declared.step.DirReply.TheVariants as reply
-use Rattle.md_jobs.specs.Turn.{After}
-use Rattle.md_core.specs.Machine.{working, job_at, new_job}
-use Rattle.md_core.specs.Runs.{Run, machine_at}
-use Rattle.md_core.specs.Trace.{call_at}
-use Rattle.md_core.specs.Stepping.{IsRun}
-use Rattle.md_core.proofs.Answers.OfRun.{IsFaulted}
 use Rattle.md_core.proofs.Answers.LastStep.{IsTurn, LastStep, reply_in, left_by, is-step, is_within, holds}
 use Rattle.md_core.proofs.Answers.Turns.OneMessage.{TriesOn, errand_trying, trying_of, idle, Tells}
 use Rattle.md_core.proofs.Answers.Turns.OfDeliver.{DeliveryTells, Undoes}
@@ -31,7 +22,7 @@ module _ (s s' : State) (u : List ℕ) where
 
 -- a delivery that takes its file away again does so for a fault of its own
 abbrev PendingAt : Run → ℕ → Stage → Type 0
-PendingAt r job (Undo a) = (refused_by a ≡ answer.Fault) × IsFaulted r job
+PendingAt r job (Undo a) = (refused_by a ≡ answer.Fault) × IsFaulted (trace_of r) job
 PendingAt r job other = Unit {0}
 
 abbrev Pending : Run → ℕ → Task → Type 0
@@ -48,18 +39,18 @@ module _ (r : Run) (job : ℕ) where
   not-idle (Deliver d) tries = absurd (tries refl)
   not-idle other tries = tt
 
-  pending-stage : (stage : Stage) (given : DirReply) → Undoes given stage → (given ≡ reply.Fault → IsFaulted r job) → PendingAt r job stage
+  pending-stage : (stage : Stage) (given : DirReply) → Undoes given stage → (given ≡ reply.Fault → IsFaulted (trace_of r) job) → PendingAt r job stage
   pending-stage (Undo a) given h faulted = (h.0, faulted h.1)
   pending-stage other given h faulted = tt
 
-  pending-delivery : (task : Task) (given : DirReply) → UndoesTask given task → (given ≡ reply.Fault → IsFaulted r job) → Pending r job task
+  pending-delivery : (task : Task) (given : DirReply) → UndoesTask given task → (given ≡ reply.Fault → IsFaulted (trace_of r) job) → Pending r job task
   pending-delivery (Deliver d) given h faulted = pending-stage d.stage given h faulted
   pending-delivery task given h faulted = absurd h
 
   -- so does a job that goes on
   pending-on : (s s' : State) (asked : Call) (task : Task) (given : DirReply) (after : After Task) →
       TaskSays s s' asked given task after → after.answer ≡ None →
-      (given ≡ reply.Fault → IsFaulted r job) → Pending r job after.task
+      (given ≡ reply.Fault → IsFaulted (trace_of r) job) → Pending r job after.task
   pending-on s s' asked (Deliver d) given after says none faulted =
       pending-delivery after.task given (at-none after.answer _ _ none says) faulted
   pending-on s s' asked (Errand e) given after says none faulted =
@@ -80,8 +71,8 @@ module _ (r : Run) (job : ℕ) where
       by c = tt
 
 module _ (r : Run) (run : IsRun r) where
-  faulted-at : (k job : ℕ) (t : IsTurn r k job) → reply_in (machine_at r k) t.event t.task ≡ reply.Fault → IsFaulted r job
-  faulted-at k job t is = record { k = k; step = is-step r k job t; faulted = is }
+  faulted-at : (k job : ℕ) (t : IsTurn r k job) → reply_in (machine_at r k) t.event t.task ≡ reply.Fault → IsFaulted (trace_of r) job
+  faulted-at k job t is = record { k = k; at = is-step r run k job t; faulted = is }
 
   pending-at : (k job : ℕ) (task : Task) → k ≤ length r.events → job_at (machine_at r k).jobs job ≡ Some (working task) → IsPending r k job task
   pending-at = holds r run (IsPending r)
@@ -91,11 +82,11 @@ module _ (r : Run) (run : IsRun r) where
       (λ k job task e at differ there was. was)
 
   -- what the last turn of a job that faulted tells
-  told-fault : (s : State) (asked : Call) (task : Task) (job : ℕ) (given : DirReply) → (given ≡ reply.Fault → IsFaulted r job) →
-      Pending r job task → Told s asked task given answer.Fault → IsFaulted r job
+  told-fault : (s : State) (asked : Call) (task : Task) (job : ℕ) (given : DirReply) → (given ≡ reply.Fault → IsFaulted (trace_of r) job) →
+      Pending r job task → Told s asked task given answer.Fault → IsFaulted (trace_of r) job
   told-fault s asked (Deliver d) job given faulted pending h = by d.stage pending h
     where
-      by : (stage : Stage) → PendingAt r job stage → DeliveryTells stage given answer.Fault → IsFaulted r job
+      by : (stage : Stage) → PendingAt r job stage → DeliveryTells stage given answer.Fault → IsFaulted (trace_of r) job
       by Start was told = faulted told
       by (Writing start k) was told = faulted told
       by Linked was told = faulted told
@@ -161,7 +152,7 @@ module _ (r : Run) (run : IsRun r) where
         pending-at last.k job last.turn.task
         (let within = is_within r last.k job last.turn in omega (arith, within)) last.turn.there asked of
 
-    pub says-fault : a ≡ answer.Fault → IsFaulted r job
+    pub says-fault : a ≡ answer.Fault → IsFaulted (trace_of r) job
     says-fault is =
         told-fault (machine_at r last.k).dirs asked last.turn.task job reply-then (faulted-at last.k job last.turn) pending-last
         (subst (Told (machine_at r last.k).dirs asked last.turn.task reply-then) is last-tells)

@@ -1,27 +1,13 @@
 -- A call whose job alone took steps answers, and leaves the mailbox, as it does alone.
 use Rattle.std.proofs.Common.{ℕ, zero, suc, ◌≡◌, ◌≢◌, ◌<◌, ◌≤◌, ◌+◌, ◌-◌, ◌++◌, List, [], ◌∷◌, Option, Some, None, true, false, refl, sym, ap, subst, ◌∙◌, inl, inr, length, take, slice_get, is_some, unwrap_or, max, arith, length-append}
 use Rattle.std.specs.Prelude.{count_by}
-use Rattle.std.specs.List.{filter_map, cons_option}
 use Rattle.std.proofs.lemmas.Bool.{cases_lt}
 use Rattle.std.proofs.lemmas.List.{take_all, drop_all, append-nil}
 use Rattle.std.proofs.lemmas.List.Elements.{filter_map-append}
 use Rattle.std.proofs.lemmas.Option.{slice_get_within}
-use Rattle.md_core.proofs.Values.{Path, Call, Effect, Event}
-use Rattle.md_jobs.specs.declared.answer.Answer.{Answer}
+use Rattle.md_core.proofs.Values.{Path, Call, Effect, Event, Answer, IsAccepted, alone, is_touch, IsOfSpan, IsTouched, IsLost, IsOutOfTime, IsTimedOut, IsTmpGone, Says, Mailbox, mailbox_of, Occurrence, job_at, answered, Run, machine_at, dirs_of, and_call, IsRun, Succeeds, Trace, Step, IsStepOf, IsAnswered, call_at, step_at, state_after, state, box, effects, trace_of, clock_before, is_success, Acts, TakesEffect, filter_map, cons_option, submit_refusal, next_job, StepsAlone, HasAnswer, AnswersAlone, AnswersAsAlone}
 use Rattle.md_jobs.specs.declared.answer.Answer.TheVariants as answer
 use Rattle.md_jobs.specs.declared.call.Call.TheVariants as call
-use Rattle.md_core.specs.Accepting.{IsAccepted}
-use Rattle.md_core.specs.Alone.{alone}
-use Rattle.md_core.specs.Answering.{is_touch, IsOfSpan, IsTouched, IsLost, IsOutOfTime, IsTimedOut, IsTmpGone, Says}
-use Rattle.md_core.specs.Mailbox.{Mailbox, mailbox_of}
-use Rattle.md_core.specs.Machine.{Occurrence, job_at, answered}
-use Rattle.md_core.specs.Runs.{Run, machine_at, dirs_of, and_call}
-use Rattle.md_core.specs.Submitting.{submit_refusal}
-use Rattle.md_core.specs.Stepping.{IsRun, Succeeds}
-use Rattle.md_core.specs.Trace.{Trace, Step, IsStepOf, IsAnswered, call_at, step_at, state_after, state, box, effects}
-use Rattle.md_core.specs.Tracing.{trace_of, clock_before}
-use Rattle.md_core.specs.Interleaving.{is_success, Acts, TakesEffect}
-use Rattle.md_core.specs.Calling.{next_job, StepsAlone, HasAnswer, AnswersAlone, AnswersAsAlone}
 use Rattle.md_core.proofs.Lists.Places.{at_place, at_joint, get-pushed, take-one_more}
 use Rattle.md_core.proofs.Runs.Events.{goes_on-exact, job_at-within}
 use Rattle.md_core.proofs.Runs.ByEvent.{length-jobs}
@@ -33,7 +19,7 @@ use Rattle.md_core.proofs.Traces.Shown.{shown}
 use Rattle.md_core.proofs.Traces.Kept.{steps-keep, call-keeps}
 use Rattle.md_core.proofs.Traces.Plain.{is-trace}
 use Rattle.md_core.proofs.Traces.Headline.{acts as acts_of, quiet, theorem}
-use Rattle.md_core.proofs.Traces.Telling.{says}
+use Rattle.md_core.proofs.Answers.AllSay.{says}
 use Rattle.md_core.proofs.Machines.Errand.Table.Calls.{sought, tries_in}
 use Rattle.md_core.proofs.Machines.Errand.Table.Checks.{tried}
 use Rattle.md_core.proofs.Machines.Errand.Table.Alone.{alone-refused}

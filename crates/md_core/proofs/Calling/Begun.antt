@@ -1,11 +1,6 @@
 -- The job of a call that was just submitted: it is there, the other jobs are as they were, and a job without an answer goes on.
 use Rattle.std.proofs.Common.{ℕ, zero, suc, ◌≡◌, ◌≢◌, ◌≤◌, ◌+◌, ◌-◌, ◌++◌, List, [], ◌∷◌, Some, None, refl, sym, ap, ◌∙◌, length, slice_get, arith, length-append}
-use Rattle.md_jobs.specs.declared.call.Call.{Call}
-use Rattle.md_core.specs.Laws.{HasJob}
-use Rattle.md_core.specs.Machine.{Machine, Standing, working, answered, job_at, new_job}
-use Rattle.md_core.specs.Runs.{Run, jobs_of, and_call, answer_of, step_refusal}
-use Rattle.md_core.specs.Stepping.{IsRun}
-use Rattle.md_core.specs.Calling.{next_job, OthersStay, IsUnanswered}
+use Rattle.md_core.proofs.Values.{Call, Machine, Standing, working, answered, job_at, new_job, Run, jobs_of, and_call, answer_of, step_refusal, IsRun, HasJob, next_job, OthersStay, IsUnanswered}
 use Rattle.md_core.proofs.Lists.Places.{at_place}
 use Rattle.md_core.proofs.Runs.Events.{job_at-place}
 use Rattle.md_core.proofs.Runs.ByEvent.{length-jobs_of, machine-and_call}

@@ -1,12 +1,6 @@
 -- A run that goes on by one more step of its one job.
 use Rattle.std.proofs.Common.{ℕ, ◌≡◌, ◌++◌, [], ◌∷◌, Option, None, Bool, sym, ap, subst, ◌∙◌, append_assoc}
-use Rattle.md_jobs.specs.declared.call.Call.{Call}
-use Rattle.md_jobs.specs.declared.step.Event.{Event}
-use Rattle.md_core.specs.Laws.{HasJob}
-use Rattle.md_core.specs.Machine.{Occurrence, job_at}
-use Rattle.md_core.specs.Runs.{Run, jobs_of, and_event, and_call, step_refusal}
-use Rattle.md_core.specs.Stepping.{IsRun}
-use Rattle.md_core.specs.Calling.{next_job, GoesOnBy, StepsAlone}
+use Rattle.md_core.proofs.Values.{Call, Event, Occurrence, job_at, Run, jobs_of, and_event, and_call, step_refusal, IsRun, HasJob, next_job, GoesOnBy, StepsAlone}
 use Rattle.md_core.proofs.Lists.Places.{at_end}
 use Rattle.md_core.proofs.Runs.Extended.{is_run-and_event}
 use Rattle.md_core.proofs.Runs.Going.{there-after}

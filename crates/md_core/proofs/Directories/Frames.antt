@@ -1,15 +1,10 @@
 -- A call that acts on the paths of one name leaves what fits the deliveries of others.
 use Rattle.std.proofs.Common.{ℕ, ◌≡◌, ◌≢◌, ◌⊎◌, inl, inr, List, Option, Some, None, true, cond, refl, sym, ap, subst, ◌∙◌, not, ◌&&◌, ◌<◌, take}
-use Rattle.md_core.proofs.Values.{State, file_at, Place, Tmp, New, Cur, Call, Task, Deliver, Errand, Clean}
-use Rattle.md_dirs.specs.declared.paths.Path.{Path}
-use Rattle.md_name.specs.Names.{unique_of, is_message_name}
-use Rattle.md_core.specs.Mailbox.{is_message, is_tmp}
+use Rattle.md_core.proofs.Values.{State, file_at, Place, Tmp, New, Cur, Call, Task, Deliver, Errand, Clean, Path, unique_of, is_message_name, is_message, is_tmp, Delivery, Stage, Start, Writing, Linked, Undo, MakesMessage, name_used}
 use Rattle.md_core.proofs.Induction.Good.{bytes_at, IsUnused, HasNoMessage, IsAlone, StageFits, DeliveryFits, ErrandFits, TaskFits}
 use Rattle.md_core.proofs.Mailbox.Changes.{by_name}
 use Rattle.md_core.proofs.Machines.Errand.Table.Calls.{folder_to}
-use Rattle.md_jobs.specs.Tasks.Delivery.{Delivery, Stage, Start, Writing, Linked, Undo}
 use Rattle.md_jobs.specs.Tasks.Errand.{Errand as ErrandOf}
-use Rattle.md_core.specs.Accepting.{MakesMessage, name_used}
 
 pub message-key : (p : Path) → is_message p ≡ true → name_used p ≡ unique_of p.name
 message-key p m = by p.place m

@@ -1,7 +1,6 @@
 -- A call that changes no message: all that it does to directories, by the name whose paths it acts on.
 use Rattle.std.proofs.Common.{ℕ, ◌≡◌, ◌<◌, inl, inr, List, Some, refl}
-use Rattle.md_core.proofs.Values.{State, IsSound, file_at, Path, Tmp}
-use Rattle.md_dirs.specs.Calls.{after_create, after_append, after_unlink}
+use Rattle.md_core.proofs.Values.{State, IsSound, file_at, Path, Tmp, after_create, after_append, after_unlink}
 use Rattle.md_core.proofs.Induction.Good.{IsUnused, IsAlone}
 use Rattle.md_core.proofs.Mailbox.Changes.{Keeps}
 use Rattle.md_core.proofs.Directories.Frames.{Frame}

@@ -1,10 +1,7 @@
 -- What a call leaves whatever it does: the number of folders, the file of each path that stays, and names that are no messages.
 use Rattle.std.proofs.Common.{◌≡◌, ◌≢◌, ◌⊎◌, inl, inr, None, true, false, sym, subst}
-use Rattle.md_dirs.specs.State.{State, file_at}
-use Rattle.md_dirs.specs.declared.paths.Path.{Path}
+use Rattle.md_core.proofs.Values.{State, file_at, Path, is_tmp, is_message, NoneOverwritten}
 use Rattle.md_dirs.proofs.Sound.{by_path}
-use Rattle.md_core.specs.Mailbox.{is_tmp, is_message}
-use Rattle.md_core.specs.Interleaving.{NoneOverwritten}
 
 pub record Spares (s s' : State) : Type 0 where
   pub folders : s'.folders ≡ s.folders

@@ -1,13 +1,8 @@
 -- What an event of a waiting job does to a machine where all is good, as one record.
 use Rattle.std.proofs.Common.{ℕ, suc, ◌≡◌, ◌≢◌, ◌-◌, ◌++◌, List, Option, Some, None, refl, sym, ap, subst, ◌∙◌, length, slice_get, slice_set, arith}
-use Rattle.std.specs.Option.{option_to_list}
 use Rattle.std.proofs.lemmas.Option.{slice_get_within}
 use Rattle.md_dirs.proofs.Sound.{by_number, get-set_same, get-set_other}
-use Rattle.md_core.proofs.Values.{Call, Answer}
-use Rattle.md_core.specs.Tasks.Task.{Task}
-use Rattle.md_jobs.specs.Turn.{rows_for}
-use Rattle.md_core.specs.Machine.{Machine, Standing, working, Occurrence, job_at, standing_of, after_event, step_by, reply_to}
-use Rattle.md_core.specs.Trace.{Step}
+use Rattle.md_core.proofs.Values.{Call, Answer, Task, rows_for, Machine, Standing, working, Occurrence, job_at, standing_of, after_event, step_by, reply_to, Step, option_to_list}
 use Rattle.md_core.proofs.Induction.Good.{IsGood, IsApart, Does, EachTurn}
 use Rattle.md_core.proofs.Lists.Places.{at_place, length-changed}
 use Rattle.md_core.proofs.Runs.Events.{at, turn, job_at-place, job_at-within, happens-turned}

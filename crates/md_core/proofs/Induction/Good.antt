@@ -1,28 +1,12 @@
 -- What holds of a machine at each moment, and what one turn does. No contract speaks of these: they are the induction.
 use Rattle.std.proofs.Common.{ℕ, suc, ◌⊎◌, ◌≡◌, ◌<◌, ◌≤◌, List, Option, Some, None, Bool, true, false, if◌then◌else◌, take, length, slice_get, is_some, MatchBool, IfSome, MatchOption}
-use Rattle.std.specs.Option.{option_or}
-use Rattle.md_core.proofs.Values.{State, file_at, file_by, IsSound, Place, Tmp, Cur, Row, Call, Answer, Effect, DirReply, Moment, Task, Deliver, Errand, Clean}
-use Rattle.md_dirs.specs.declared.paths.Path.{Path}
-use Rattle.md_name.specs.Names.{unique_of, info_text, is_message_name, is_unique_name}
+use Rattle.md_core.proofs.Values.{State, file_at, file_by, IsSound, Place, Tmp, Cur, Row, Call, Answer, Effect, DirReply, Moment, Task, Deliver, Errand, Clean, Path, unique_of, info_text, is_message_name, is_unique_name, Delivery, Stage, Start, Writing, Linked, Undo, Entry, Mailbox, mailbox_of, bytes_of, is_tmp, is_message, HasOnePath, names_of, names_after_change, IsAllowed, Asked, ask_of, state_by, After, rows_for, reply_of, AsAlone, NoneOverwritten, is_success, is_effect_at, name_used, MakesMessage, option_or, Cleaning, refused_by, Purpose, delivery_effect, first, searches, info_in, decide}
 use Rattle.md_jobs.specs.declared.call.Call.TheVariants as call
-use Rattle.md_jobs.specs.Tasks.Cleaning.{Cleaning}
-use Rattle.md_jobs.specs.Machines.Refusals.{refused_by}
-use Rattle.md_jobs.specs.Tasks.Delivery.{Delivery, Stage, Start, Writing, Linked, Undo}
 use Rattle.md_jobs.specs.Tasks.Errand.{Errand as ErrandOf, Look, Act}
 use Rattle.md_jobs.specs.Tasks.Errand as errand
-use Rattle.md_jobs.specs.Tasks.Decision as decision
-use Rattle.md_jobs.specs.Tasks.Purpose.{Purpose}
+use Rattle.md_jobs.specs.declared.purpose.Decision.TheVariants as decision
 use Rattle.std.specs.FinMap as finmap
-use Rattle.md_core.specs.Mailbox.{Entry, Mailbox, mailbox_of, bytes_of, is_tmp, is_message, HasOnePath}
-use Rattle.md_core.specs.History.{names_of, names_after_change, IsAllowed}
-use Rattle.md_jobs.specs.Asked.{Asked, ask_of, state_by}
-use Rattle.md_jobs.specs.Turn.{After, rows_for, reply_of}
-use Rattle.md_jobs.specs.Machines.Deliver.{delivery_effect}
-use Rattle.md_jobs.specs.Machines.Purposes.{first, searches, info_in, decide}
 use Rattle.md_core.specs.Machine.{Machine, working, turn_of, steps_left}
-use Rattle.md_core.specs.Stepping.{AsAlone}
-use Rattle.md_core.specs.Interleaving.{NoneOverwritten, is_success, is_effect_at}
-use Rattle.md_core.specs.Accepting.{name_used, MakesMessage}
 use Rattle.md_core.proofs.Theorem.RunLaw.{is_linked}
 use Rattle.md_core.proofs.Machines.Errand.Table.Calls.{call_by, folder_to, IsFor}
 

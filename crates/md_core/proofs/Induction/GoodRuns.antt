@@ -2,18 +2,9 @@
 use Rattle.std.proofs.Common.{ℕ, zero, suc, ◌+◌, ◌≡◌, ◌<◌, ◌++◌, inl, inr, List, [], ◌∷◌, Some, refl, sym, ap, subst, ◌∙◌, length, take, map, slice_get}
 use Rattle.std.proofs.lemmas.Bool.{cases_order}
 use Rattle.std.proofs.lemmas.List.{length-map}
-use Rattle.md_core.proofs.Values.{Call, Task}
+use Rattle.md_core.proofs.Values.{Call, Task, Machine, Standing, working, answered, Occurrence, job_at, new_job, after_event, step_of, step_by, Step, Run, beginning, machine_at, machine_of, done_at, IsRun, MakesMessage, IsAccepted, Purpose, new_delivery, new_errand, option_and_then}
 use Rattle.md_jobs.specs.declared.call.Call.TheVariants.{Deliver, Clean}
-use Rattle.md_jobs.specs.Tasks.Purpose.{Purpose}
 use Rattle.md_core.specs.Tasks.Task as task
-use Rattle.md_jobs.specs.Machines.Deliver.{new_delivery}
-use Rattle.md_jobs.specs.Machines.Errand.{new_errand}
-use Rattle.md_core.specs.Machine.{Machine, Standing, working, answered, Occurrence, job_at, new_job, after_event, step_of, step_by}
-use Rattle.md_core.specs.Trace.{Step}
-use Rattle.md_core.specs.Runs.{Run, beginning, machine_at, machine_of, done_at}
-use Rattle.std.specs.Option.{option_and_then}
-use Rattle.md_core.specs.Stepping.{IsRun}
-use Rattle.md_core.specs.Accepting.{MakesMessage, IsAccepted}
 use Rattle.md_core.proofs.Induction.Good.{IsGood, EachTurn, TaskFits, Found}
 use Rattle.md_core.proofs.Lists.Places.{get-take}
 use Rattle.md_core.proofs.Runs.Events.{goes_on-exact, done-turned}

@@ -1,9 +1,6 @@
 -- All is good after an event of a machine where all is good.
 use Rattle.std.proofs.Common.{ℕ, ◌≡◌, List, Some, sym, ap, subst, ◌∙◌, slice_get}
-use Rattle.md_jobs.specs.declared.call.Call.{Call}
-use Rattle.md_core.specs.Tasks.Task.{Task}
-use Rattle.md_core.specs.Machine.{Machine, working}
-use Rattle.md_core.specs.Trace.{Step}
+use Rattle.md_core.proofs.Values.{Call, Task, Machine, working, Step}
 use Rattle.md_core.proofs.Induction.Good.{IsGood, TaskFits}
 use Rattle.md_core.proofs.Induction.Going.{Goes, AllApart, goes-cases, goes-as_many, still-working}
 use Rattle.md_core.proofs.Induction.Knowing.{found-after}

@@ -1,16 +1,7 @@
 -- What is known of a message that was found stays known: its bytes stay, and nothing makes its name again.
 use Rattle.std.proofs.Common.{ℕ, suc, ◌≡◌, inl, inr, List, Option, Some, None, cond, MatchOption, IfSome, sym, ap, subst, ◌∙◌, length, slice_get}
-use Rattle.std.specs.Option.{option_or}
 use Rattle.std.specs.FinMap as finmap
-use Rattle.md_core.proofs.Values.{State, Call, Effect, Task, Deliver, Errand, Clean}
-use Rattle.md_jobs.specs.declared.answer.Answer.{Answer}
-use Rattle.md_jobs.specs.Tasks.Delivery.{Stage, Start, Writing, Linked, Undo}
-use Rattle.md_core.specs.Mailbox.{Entry, Mailbox, mailbox_of}
-use Rattle.md_jobs.specs.Machines.Deliver.{delivery_effect}
-use Rattle.md_core.specs.Machine.{Machine, working}
-use Rattle.md_core.specs.Trace.{Step}
-use Rattle.md_core.specs.Stepping.{AsAlone}
-use Rattle.md_core.specs.Accepting.{MakesMessage}
+use Rattle.md_core.proofs.Values.{State, Call, Effect, Task, Deliver, Errand, Clean, Answer, Stage, Start, Writing, Linked, Undo, Entry, Mailbox, mailbox_of, Machine, working, Step, AsAlone, MakesMessage, option_or, delivery_effect}
 use Rattle.md_core.proofs.Theorem.RunLaw.{is_linked}
 use Rattle.md_core.proofs.Induction.Good.{HasNoMessage, StageFits, TaskFits, IsGood, Found, HasSize, IsOfSize, Known, Settles, own_effect}
 use Rattle.md_core.proofs.Directories.Frames.{unused-no_message}

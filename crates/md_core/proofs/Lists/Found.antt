@@ -1,10 +1,9 @@
 -- What is found by its key in a list made of another list.
-use Rattle.std.proofs.Common.{◌≡◌, inl, inr, List, [], ◌∷◌, Option, Some, None, true, false, cond, map, refl, sym, ap, ◌∙◌}
+use Rattle.std.proofs.Common.{◌≡◌, inl, inr, List, [], ◌∷◌, Option, Some, None, true, false, cond, refl, sym, ap, ◌∙◌}
 use Rattle.std.specs.declared.cmp.Ordering.{Ordering}
 use Rattle.std.specs.Ordering.{eq_by_cmp, is_eq}
 use Rattle.std.specs.Cmp.{Equal-is, IsTotalOrder}
-use Rattle.std.specs.List.{filter_map, cons_option}
-use Rattle.std.specs.FinMap.{find}
+use Rattle.md_core.proofs.Values.{filter_map, cons_option, find}
 use Rattle.std.proofs.lemmas.Cmp.{tied_itself}
 use Rattle.std.proofs.lemmas.Map.Lookups.{CmpEqualImpliesEq}
 use Rattle.lists.proofs.Members.{Has}
@@ -51,8 +50,3 @@ module _ {A K X : Type 0} {R : K → K → Ordering} (o : IsTotalOrder R) (exact
               | inr later ↦ rest later
             ]
           ] refl
-
--- a map keeps each element
-pub map-filter_map : {A B : Type 0} (f : A → B) (xs : List A) → map f xs ≡ filter_map (λ x. Some (f x)) xs
-map-filter_map f [] = refl
-map-filter_map f (x ∷ xs) = ap (λ ys. f x ∷ ys) (map-filter_map f xs)

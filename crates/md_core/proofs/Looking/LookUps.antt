@@ -1,19 +1,11 @@
 -- What a look-up of one message tells of directories and their mailbox, and the turn that made it.
 use Rattle.std.proofs.Common.{ℕ, ◌≡◌, ◌≢◌, inl, inr, List, [], ◌∷◌, Option, Some, None, Bool, true, false, cond, not, ◌&&◌, length, map, filter, drop, nat_lt, nat_eq, refl, sym, ap, ◌∙◌}
-use Rattle.std.specs.List.{list_any, before_first, starts_with}
-use Rattle.std.specs.FinMap.{entries, get}
 use Rattle.std.proofs.lemmas.Bool.{eqb-true, eq-eqb, or_parts, and_from}
-use Rattle.md_core.proofs.Values.{State, file_at, Path, Place, Tmp, New, Cur, Row, Info}
-use Rattle.md_dirs.specs.Path.{path_of, place_index}
-use Rattle.md_dirs.specs.Rows.{rows_of, row_named, row_of, row_by, is_in, is_named, ends_unique}
-use Rattle.md_dirs.specs.declared.paths.File.{File}
+use Rattle.md_core.proofs.Values.{State, file_at, Path, Place, Tmp, New, Cur, Row, Info, path_of, place_index, rows_of, row_named, row_of, row_by, is_in, is_named, ends_unique, Entry, mailbox_of, entry_of, is_message, is_tmp, HasOnePath, entry_if, is_in_place, stamp_of, list_any, before_first, starts_with, entries, get, File, info_in, info_in_parts}
 use Rattle.md_dirs.proofs.PathOrder.{path_total, path_exact}
 use Rattle.md_name.specs.Names.{is_colon, unique_of, info_of, begins_with_dot, is_message_name, is_unique_name}
 use Rattle.md_name.proofs.Digits.{and_first, and_second}
 use Rattle.md_name.proofs.Flagged.{IsUniquePart, IsUniquePart-maildir}
-use Rattle.md_core.specs.Mailbox.{Entry, mailbox_of, entry_of, is_message, is_tmp, HasOnePath}
-use Rattle.md_core.specs.Alone.{entry_if, is_in_place}
-use Rattle.md_jobs.specs.Machines.Purposes.{info_in, info_in_parts}
 use Rattle.lists.proofs.Members.{Has, get-has, has-get}
 use Rattle.md_core.proofs.Mailbox.Shown.{mailbox-shows, shows-mailbox}
 use Rattle.md_core.proofs.Mailbox.WholeName.{before}
@@ -80,6 +72,10 @@ info-in name message = ap (λ b. info_in_parts (cond {A = Option (List ℕ × In
 pub name-row : (name : List ℕ) (o : Option File) → (row_by name o).name ≡ name
 name-row name None = refl
 name-row name (Some file) = refl
+
+pub row-stamp : (name : List ℕ) (o : Option File) → (row_by name o).stamp ≡ stamp_of o
+row-stamp name None = refl
+row-stamp name (Some file) = refl
 
 module _ (s : State) (folder : ℕ) (place : Place) (u : List ℕ) where
   abbrev rows : List (Path × ℕ) → List Row

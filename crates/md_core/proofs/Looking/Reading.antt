@@ -1,22 +1,10 @@
 -- What looks for a message in each directory tell of the mailbox.
 use Rattle.std.proofs.Common.{ℕ, ◌≡◌, ◌+◌, ◌≤◌, inl, inr, List, Option, Some, None, Bool, true, false, cond, not, ◌&&◌, ◌==◌, IsSome, refl, sym, ap, subst, ◌∙◌, arith}
-use Rattle.std.specs.Option.{option_map, option_and_then}
-use Rattle.std.specs.FinMap.{get}
-use Rattle.std.specs.Str.{bytes_eq}
 use Rattle.std.proofs.lemmas.Bool.{cases_lt, eq-eqb, and_from}
 use Rattle.std.proofs.lemmas.Slice.Eq.{bytes_eq-Decides}
-use Rattle.md_dirs.specs.Path.{path_of, place_index}
-use Rattle.md_dirs.specs.State.{State, IsSound, file_by, bytes_at_path}
-use Rattle.md_dirs.specs.Rows.{rows_of, row_named}
-use Rattle.md_dirs.specs.declared.paths.File.{File}
-use Rattle.md_core.proofs.Values.{Place, Row, Info}
-use Rattle.md_dirs.specs.declared.paths.Place.TheVariants.{Tmp, New, Cur}
-use Rattle.md_name.specs.Names.{unique_of, is_message_name}
+use Rattle.md_core.proofs.Values.{Place, Row, Info, path_of, place_index, State, IsSound, file_by, bytes_at_path, rows_of, row_named, Tmp, New, Cur, unique_of, is_message_name, entry_if, is_in_place, Entry, mailbox_of, entry_of, bytes_of, is_tmp, HasOnePath, option_map, option_and_then, get, bytes_eq, File, is_of}
 use Rattle.md_name.proofs.Digits.{and_first, and_second}
 use Rattle.md_name.proofs.Flagged.{IsUniquePart, IsUniquePart-unique_of, split_of-bare}
-use Rattle.md_core.specs.Alone.{entry_if, is_in_place}
-use Rattle.md_core.specs.Looking.{is_of}
-use Rattle.md_core.specs.Mailbox.{Entry, mailbox_of, entry_of, bytes_of, is_tmp, HasOnePath}
 use Rattle.md_core.proofs.Mailbox.Shown.{mailbox-shows}
 use Rattle.md_core.proofs.Looking.LookUps.{row-of_part, row-entry, no-entry}
 

@@ -1,12 +1,7 @@
 -- A turn that changes nothing: the job goes on, or ends without an effect.
 use Rattle.std.proofs.Common.{ℕ, ◌≡◌, ◌<◌, ◌⊎◌, List, Option, Some, None, Bool, true, false, refl, sym, ◌∙◌, MatchBool, MatchOption}
-use Rattle.md_core.proofs.Values.{State, IsSound, Call, Effect, DirReply, Task}
-use Rattle.md_jobs.specs.declared.answer.Answer.{Answer}
-use Rattle.md_core.specs.Mailbox.{mailbox_of, HasOnePath}
+use Rattle.md_core.proofs.Values.{State, IsSound, Call, Effect, DirReply, Task, Answer, mailbox_of, HasOnePath, Asked, After, is_effect_at, is_success}
 use Rattle.md_core.specs.Machine.{steps_left, working}
-use Rattle.md_jobs.specs.Asked.{Asked}
-use Rattle.md_jobs.specs.Turn.{After}
-use Rattle.md_core.specs.Interleaving.{is_effect_at, is_success}
 use Rattle.md_core.proofs.Induction.Good.{TaskFits, Found, IsFixed, IsOfSize, Settles, own_effect, Does}
 use Rattle.md_core.proofs.Directories.Spares.{Spares, spares-all}
 

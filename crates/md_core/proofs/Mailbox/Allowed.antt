@@ -4,14 +4,10 @@ use Rattle.std.proofs.lemmas.Cmp.{nat_list_cmp_total}
 use Rattle.std.proofs.lemmas.Map.Lookups.{exact_bytes}
 use Rattle.std.specs.FinMap as finmap
 use Rattle.lists.proofs.Maps.{beside_put, beside_drop}
-use Rattle.md_name.specs.Names.{unique_of}
 use Rattle.md_name.proofs.Flagged.{unique_of-flagged, colonless-unique_of}
-use Rattle.md_core.proofs.Values.{Place, Answer, Change}
-use Rattle.md_dirs.specs.declared.paths.Place.TheVariants.{Tmp, New, Cur}
+use Rattle.md_core.proofs.Values.{Place, Answer, Change, unique_of, Tmp, New, Cur, Listed, Names, IsThere, IsAllowed, AddsName}
 use Rattle.md_jobs.specs.declared.answer.Answer.TheVariants as answer
 use Rattle.md_jobs.specs.declared.effect.Change.TheVariants.{Add, Rename, Remove, Same}
-use Rattle.md_core.specs.History.{Listed, Names, IsThere, IsAllowed}
-use Rattle.md_core.specs.Joining.{AddsName}
 
 -- A name that is added is fresh, and one that is given another keeps its unique part, and its place unless it goes to cur.
 abbrev pub FitsNames : Names → (List ℕ → Type 0) → Change → Type 0

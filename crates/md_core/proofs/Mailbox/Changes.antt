@@ -1,13 +1,9 @@
 -- Three ways in which a call changes what directories show: not at all, one message put, one message dropped.
 use Rattle.std.proofs.Common.{ℕ, ◌≡◌, ◌≢◌, List, Some, None, true, refl, sym, ap, ◌∙◌}
 use Rattle.std.specs.FinMap as finmap
-use Rattle.std.specs.FinMap.{get}
 use Rattle.std.proofs.lemmas.Cmp.{nat_list_cmp_total}
 use Rattle.std.proofs.lemmas.Map.Lookups.{exact_bytes}
-use Rattle.md_dirs.specs.State.{State, file_at}
-use Rattle.md_dirs.specs.declared.paths.Path.{Path}
-use Rattle.md_name.specs.Names.{unique_of, info_text}
-use Rattle.md_core.specs.Mailbox.{Entry, Mailbox, mailbox_of, is_message, entry_of, HasOnePath}
+use Rattle.md_core.proofs.Values.{State, file_at, Path, unique_of, info_text, Entry, Mailbox, mailbox_of, is_message, entry_of, HasOnePath, get}
 use Rattle.lists.proofs.Maps as maps
 use Rattle.md_core.proofs.Induction.Good.{bytes_at}
 use Rattle.md_core.proofs.Mailbox.Shown.{Shows, mailbox-shows, shows-mailbox, same_mailbox}

@@ -1,15 +1,12 @@
 -- The names of a mailbox, message by message, and as messages come, change and go.
 use Rattle.std.proofs.Common.{ℕ, ◌≡◌, List, [], ◌∷◌, Option, Some, Bool, true, false, cond, map, refl, sym, ap, ◌∙◌}
-use Rattle.std.specs.Option.{option_map}
 use Rattle.std.specs.Cmp.{Equal-is}
 use Rattle.std.specs.Ordering.{eq_by_cmp}
 use Rattle.std.specs.FinMap as finmap
-use Rattle.std.specs.FinMap.{find, get, get-from_entries, get-entries, entries, same_map}
 use Rattle.std.proofs.lemmas.Cmp.{nat_list_cmp_total}
 use Rattle.std.proofs.lemmas.Map.Lookups.{exact_bytes}
 use Rattle.lists.proofs.Maps as maps
-use Rattle.md_core.specs.Mailbox.{Entry, Mailbox, name_cmp}
-use Rattle.md_core.specs.History.{Listed, Names, as_listed, names_of}
+use Rattle.md_core.proofs.Values.{Entry, Mailbox, name_cmp, Listed, Names, as_listed, names_of, option_map, find, get, get-from_entries, get-entries, entries, same_map}
 
 -- what is found in a list of which each element was made of one of its key
 find-listed : (u : List ℕ) (es : List (List ℕ × Entry)) → find name_cmp u (map (λ x. (x.0, as_listed x.0 x.1)) es) ≡ option_map (as_listed u) (find name_cmp u es)

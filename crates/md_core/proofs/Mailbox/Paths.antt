@@ -1,11 +1,6 @@
 -- What is listed of a mailbox is what the paths of its directories show.
 use Rattle.std.proofs.Common.{ℕ, ◌≡◌, List, Option, Some, None, refl, sym, ap, ◌∙◌}
-use Rattle.std.specs.Option.{option_map}
-use Rattle.std.specs.FinMap.{get}
-use Rattle.md_dirs.specs.State.{State}
-use Rattle.md_core.specs.Mailbox.{Entry, mailbox_of, entry_of, HasOnePath}
-use Rattle.md_core.specs.History.{Listed, as_listed, names_of}
-use Rattle.md_core.specs.Laws.{HasPath}
+use Rattle.md_core.proofs.Values.{State, Entry, mailbox_of, entry_of, HasOnePath, Listed, as_listed, names_of, option_map, get, HasPath}
 use Rattle.md_core.proofs.Mailbox.Naming.{get-names}
 use Rattle.md_core.proofs.Mailbox.Renamed.{listed-entry}
 use Rattle.md_core.proofs.Mailbox.Shown.{mailbox-shows, shows-mailbox}

@@ -1,15 +1,10 @@
 -- What the names of a mailbox show of a message that gets another path of its unique name.
 use Rattle.std.proofs.Common.{ℕ, ◌≡◌, List, Option, Some, sym, ap, ◌∙◌, length}
-use Rattle.std.specs.Option.{option_map, option_map_or}
 use Rattle.std.specs.FinMap as finmap
-use Rattle.std.specs.FinMap.{get}
 use Rattle.std.proofs.lemmas.Cmp.{nat_list_cmp_total}
 use Rattle.std.proofs.lemmas.Map.Lookups.{exact_bytes}
-use Rattle.md_core.proofs.Values.{State, Path}
+use Rattle.md_core.proofs.Values.{State, Path, unique_of, Mailbox, entry_of, Listed, Names, as_listed, names_of, size_in, IsThere, option_map, option_map_or, get}
 use Rattle.lists.proofs.Maps as maps
-use Rattle.md_name.specs.Names.{unique_of}
-use Rattle.md_core.specs.Mailbox.{Mailbox, entry_of}
-use Rattle.md_core.specs.History.{Listed, Names, as_listed, names_of, size_in, IsThere}
 use Rattle.md_core.proofs.Mailbox.Changes.{by_name}
 use Rattle.md_core.proofs.Mailbox.Naming.{get-names, same_names}
 use Rattle.md_core.proofs.Mailbox.WholeName.{whole-name}

@@ -1,14 +1,9 @@
 -- What a mailbox has is what directories show.
 use Rattle.std.proofs.Common.{ℕ, ◌≡◌, List, Option, Some, None, Bool, true, false, cond, refl, sym, ap, ◌∙◌}
-use Rattle.std.specs.List.{filter_map}
-use Rattle.std.specs.FinMap.{find, get, get-from_entries, entries, same_map}
 use Rattle.std.proofs.lemmas.Cmp.{nat_list_cmp_total}
 use Rattle.std.proofs.lemmas.Map.Lookups.{exact_bytes}
-use Rattle.md_dirs.specs.State.{State, file_at}
-use Rattle.md_dirs.specs.declared.paths.Path.{Path}
+use Rattle.md_core.proofs.Values.{State, file_at, Path, unique_of, Entry, Mailbox, mailbox_of, name_cmp, is_message, entry_of, message_of, HasOnePath, filter_map, find, get, get-from_entries, entries, same_map}
 use Rattle.md_dirs.proofs.PathOrder.{path_total, path_exact}
-use Rattle.md_name.specs.Names.{unique_of}
-use Rattle.md_core.specs.Mailbox.{Entry, Mailbox, mailbox_of, name_cmp, is_message, entry_of, message_of, HasOnePath}
 use Rattle.lists.proofs.Members.{get-has, has-get}
 use Rattle.md_core.proofs.Lists.Found.{found, finds}
 

@@ -1,9 +1,8 @@
 -- A file name is its unique part and its info again.
 use Rattle.std.proofs.Common.{ℕ, suc, ◌≡◌, ◌+◌, ◌++◌, ◌||◌, List, [], ◌∷◌, Some, None, Bool, true, false, cond, not, take, drop, refl, ap, ◌∙◌, arith}
 use Rattle.std.proofs.lemmas.Bool.Decides.{nat_tests}
-use Rattle.std.specs.List.{before_first, after_first, list_any, position_or_len}
+use Rattle.md_core.proofs.Values.{before_first, after_first, list_any, position_or_len, name_of}
 use Rattle.md_name.specs.Names.{is_colon, unique_of, info_text}
-use Rattle.md_core.specs.History.{name_of}
 
 colon : (c : ℕ) → is_colon c ≡ true → 58 ≡ c
 colon c is = grind (arith, nat_tests)

@@ -4,10 +4,7 @@ use Rattle.std.specs.FinMap as finmap
 use Rattle.std.proofs.lemmas.Cmp.{nat_list_cmp_total}
 use Rattle.std.proofs.lemmas.Map.Lookups.{exact_bytes}
 use Rattle.lists.proofs.Maps.{by_key, at_put, beside_put, at_drop, beside_drop}
-use Rattle.md_core.proofs.Values.{Call, Effect}
-use Rattle.md_core.specs.Mailbox.{Entry, Mailbox}
-use Rattle.md_core.specs.Alone.{Outcome, alone}
-use Rattle.md_core.specs.Stepping.{AsAlone}
+use Rattle.md_core.proofs.Values.{Call, Effect, Entry, Mailbox, Outcome, alone, AsAlone}
 use Rattle.md_core.proofs.Machines.Errand.Table.Alone.{Had, Gives, IsOutcome, keeps, puts, drops, outcome}
 
 -- each message after has its bytes from before, or from the call

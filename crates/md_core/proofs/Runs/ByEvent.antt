@@ -1,11 +1,8 @@
 -- Runs event by event: their moments, and that a call which is submitted later changes nothing of them.
 use Rattle.std.proofs.Common.{ℕ, zero, suc, ◌≡◌, ◌≤◌, ◌+◌, ◌++◌, List, [], ◌∷◌, Some, refl, sym, ap, subst, ◌∙◌, take, length, slice_get, arith}
 use Rattle.std.proofs.lemmas.List.{map-append, length-map, take_all, take-append-le}
-use Rattle.md_jobs.specs.declared.call.Call.{Call}
-use Rattle.md_core.specs.Tasks.Task.{Task}
-use Rattle.md_core.specs.Machine.{Machine, working, Occurrence, job_at, new_job, after_event}
+use Rattle.md_core.proofs.Values.{Call, Task, Machine, working, Occurrence, job_at, new_job, after_event, IsRun}
 use Rattle.md_core.specs.Runs.{Run, beginning, run_from, machine_at, machine_of, jobs_of, and_event, and_call}
-use Rattle.md_core.specs.Stepping.{IsRun}
 use Rattle.md_core.proofs.Lists.Places.{at_place, take-one_more, length-changed}
 use Rattle.md_core.proofs.Runs.Events.{goes_on-exact, happens-turned, with_job, happens-with_job}
 

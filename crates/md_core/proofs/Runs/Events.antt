@@ -1,12 +1,7 @@
 -- One event: which job it is of, where it is refused, and that it would go the same with one more job.
 use Rattle.std.proofs.Common.{ℕ, zero, suc, ◌≡◌, ◌<◌, ◌≤◌, ◌-◌, ◌++◌, ◌↔◌, List, [], ◌∷◌, Option, Some, None, refl, sym, ap, ◌∙◌, length, slice_get, arith}
-use Rattle.std.specs.Option.{option_map}
 use Rattle.std.proofs.lemmas.Option.{slice_get_within}
-use Rattle.md_core.proofs.Values.{DirReply, Task}
-use Rattle.md_jobs.specs.declared.step.Moment.{Moment}
-use Rattle.md_jobs.specs.Turn.{Turn, rows_for}
-use Rattle.md_core.specs.Machine.{Machine, Standing, working, Occurrence, job_at, task_of, turn_of, moment_of, standing_of, after_turn, reply_to, after_turn_of, after_event, step_of, step_by}
-use Rattle.md_core.specs.Runs.{step_refusal}
+use Rattle.md_core.proofs.Values.{DirReply, Task, Moment, Turn, rows_for, Machine, Standing, working, Occurrence, job_at, task_of, turn_of, moment_of, standing_of, after_turn, reply_to, after_turn_of, after_event, step_of, step_by, step_refusal, option_map}
 use Rattle.md_core.proofs.Lists.Places.{get-more, set-more}
 
 -- numbers are places from 1 on

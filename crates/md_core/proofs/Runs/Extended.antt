@@ -2,13 +2,7 @@
 use Rattle.std.proofs.Common.{ℕ, ◌≡◌, ◌≤◌, List, [], ◌∷◌, Some, None, sym, ap, ◌∙◌, length, take, arith}
 use Rattle.std.proofs.lemmas.List.{take_at, take-take, take-append-le}
 use Rattle.std.proofs.lemmas.Option.{slice_get_within}
-use Rattle.md_dirs.specs.State.{State, IsSound}
-use Rattle.md_jobs.specs.declared.call.Call.{Call}
-use Rattle.md_core.specs.Machine.{Machine, working, Occurrence, job_at, new_job}
-use Rattle.md_core.specs.Loading.{load_refusal}
-use Rattle.md_core.specs.Runs.{Run, first_clock, beginning, run_from, machine_at, machine_of, jobs_of, and_event, and_call, step_refusal}
-use Rattle.md_core.specs.Submitting.{submit_refusal}
-use Rattle.md_core.specs.Stepping.{IsRun}
+use Rattle.md_core.proofs.Values.{State, IsSound, Call, Machine, working, Occurrence, job_at, new_job, Run, first_clock, beginning, run_from, machine_at, machine_of, jobs_of, and_event, and_call, step_refusal, IsRun, load_refusal, submit_refusal}
 use Rattle.md_core.proofs.Lists.Places.{at_end, get-from_take}
 use Rattle.md_core.proofs.Runs.Events.{goes_on-exact, job_at-more}
 use Rattle.md_core.proofs.Runs.ByEvent.{moment-end, moment-and_event, moment-and_call}

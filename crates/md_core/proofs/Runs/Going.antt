@@ -1,8 +1,6 @@
 -- A job that goes on is there, and stays there.
 use Rattle.std.proofs.Common.{ℕ, ◌≡◌, None, sym, subst, ◌≤◌, ap, ◌∙◌, length}
-use Rattle.md_core.specs.Laws.{HasJob}
-use Rattle.md_core.specs.Machine.{Machine, Occurrence, job_at}
-use Rattle.md_core.specs.Runs.{Run, machine_of, jobs_of, and_event, step_refusal}
+use Rattle.md_core.proofs.Values.{Machine, Occurrence, job_at, Run, machine_of, jobs_of, and_event, step_refusal, HasJob}
 use Rattle.md_core.proofs.Runs.ByEvent.{machine-and_event, length-met}
 use Rattle.md_core.proofs.Runs.Events.{goes_on-exact, job_at-within}
 

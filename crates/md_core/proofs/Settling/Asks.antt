@@ -1,19 +1,12 @@
 -- The path that the directory call of a task makes has no fault by itself: a delivery and a copy make one of a fresh unique name, a change
 -- of flags one of the message's, and a move keeps the name.
 use Rattle.std.proofs.Common.{ℕ, ◌≡◌, List, true}
-use Rattle.md_core.proofs.Values.{State, Call, Moment, Task, Deliver, Errand, Clean}
-use Rattle.md_name.specs.Names.{is_unique_name}
-use Rattle.md_core.specs.Machine.{turn_of}
+use Rattle.md_core.proofs.Values.{State, Call, Moment, Task, Deliver, Errand, Clean, is_unique_name, turn_of, Delivery, Stage, MakesMessage, target, info_in, Cleaning}
 use Rattle.md_jobs.specs.Machines.Clean as cleaned_by
-use Rattle.md_jobs.specs.Machines.Deliver.{target}
 use Rattle.md_jobs.specs.Machines.Errand as errands_by
-use Rattle.md_jobs.specs.Machines.Purposes.{info_in}
-use Rattle.md_jobs.specs.Tasks.Cleaning.{Cleaning}
 use Rattle.md_jobs.specs.Tasks.Cleaning as cleaning
-use Rattle.md_jobs.specs.Tasks.Delivery.{Delivery, Stage, Start, Writing}
 use Rattle.md_jobs.specs.Tasks.Errand as errand
-use Rattle.md_core.specs.Accepting.{MakesMessage}
-use Rattle.md_core.proofs.Answers.Files.Asking.{asked_at, writing-by}
+use Rattle.md_core.proofs.Answers.Files.Asking.{asked_at}
 use Rattle.md_core.proofs.Induction.Good.{TaskFits}
 use Rattle.md_core.proofs.Directories.Frames.{makes-delivery}
 use Rattle.md_core.proofs.Settling.Loadable.{IsLoadable}
@@ -21,12 +14,12 @@ use Rattle.md_core.proofs.Settling.Leaving.{MakesGood}
 use Rattle.md_core.proofs.Settling.Names.{unique-good}
 use Rattle.md_core.proofs.Machines.Errand.Table.Calls.{IsFor}
 use Rattle.md_core.proofs.Machines.Errand.Table.Loads.{deed-good}
+use Rattle.md_jobs.proofs.Cases.{by-delivery}
 
 module _ (s : State) (clock : ℕ) (h : IsLoadable s clock) where
   delivery-good : (number : ℕ) (d : Delivery) (at : Moment) → is_unique_name d.tmp.name ≡ true → (stage : Stage) → MakesGood s (asked_at number d at stage)
-  delivery-good number d at valid Start = unique-good d.tmp valid
-  delivery-good number d at valid (Writing start k) = writing-by number d at (MakesGood s) start k tt (unique-good (target d) valid) tt
-  delivery-good number d at valid other = tt
+  delivery-good number d at valid = by-delivery number d at (λ stage turn. MakesGood s turn.asked) (unique-good d.tmp valid)
+      (λ start k more. tt) (λ start k all. unique-good (target d) valid) (λ start k. tt) tt (λ x. tt)
 
   errand-good : (number : ℕ) (e : errand.Errand) → is_unique_name e.unique ≡ true → IsFor e.folder e.purpose → (stage : errand.Stage) →
       MakesGood s (errands_by.stage_turn number e stage).asked

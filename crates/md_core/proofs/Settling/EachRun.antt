@@ -1,15 +1,6 @@
 -- The directories of a run load at each moment, and none of their stamps is past the clock; so a run may begin again with them.
 use Rattle.std.proofs.Common.{ℕ, zero, suc, ◌≡◌, ◌≤◌, ◌+◌, List, Some, None, true, sym, subst, length, take, arith}
-use Rattle.md_core.proofs.Values.{State, Call}
-use Rattle.md_name.specs.Names.{is_unique_name}
-use Rattle.md_core.specs.Loading.{load_refusal}
-use Rattle.md_core.specs.Machine.{Machine}
-use Rattle.md_core.specs.Mailbox.{HasOnePath}
-use Rattle.md_core.specs.Runs.{Run, first_clock, machine_at, machine_of, dirs_of, failures_of, calls_made_of}
-use Rattle.md_core.specs.Settling.{settled}
-use Rattle.md_core.specs.Stepping.{IsRun}
-use Rattle.md_core.specs.Trace.{call_at}
-use Rattle.md_core.specs.Accepting.{MakesMessage}
+use Rattle.md_core.proofs.Values.{State, Call, is_unique_name, Machine, HasOnePath, Run, first_clock, machine_at, machine_of, dirs_of, failures_of, calls_made_of, IsRun, call_at, MakesMessage, load_refusal, settled}
 use Rattle.md_core.proofs.Answers.LastStep.{IsTurn, turn_by, reply_in}
 use Rattle.md_core.proofs.Answers.Moments.{at, its-call, its-fits, sound-now, next-dirs, next-clock, clock-grows, each-moment}
 use Rattle.md_core.proofs.Induction.GoodRuns.{good-machine, accepted-at}

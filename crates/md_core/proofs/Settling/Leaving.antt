@@ -1,14 +1,10 @@
 -- What a directory call leaves can be loaded, where what it found could, and the path that it makes has no fault by itself.
 use Rattle.std.proofs.Common.{ℕ, ◌≡◌, ◌≢◌, ◌≤◌, List, Option, Some, None, Bool, true, false, cond, refl, sym, ap, subst, ◌∙◌, slice_set, length, IsSome, arith}
-use Rattle.md_core.proofs.Values.{State, IsSound, file_at, file_by, Path, DirReply}
-use Rattle.md_dirs.specs.Calls.{after_create, empty_file, after_append, file_with_more, with_path, without_path, with_files_still_named, is_one_file}
-use Rattle.md_dirs.specs.declared.paths.File.{File}
+use Rattle.md_core.proofs.Values.{State, IsSound, file_at, file_by, Path, DirReply, stamp_of, Asked, create, append, link, rename, unlink, list, ask_of, state_by, after_create, empty_file, after_append, file_with_more, with_path, without_path, with_files_still_named, is_one_file, File}
 use Rattle.md_dirs.proofs.PathOrder.{path_total, path_exact}
 use Rattle.lists.proofs.Maps as maps
 use Rattle.md_dirs.proofs.Sound.{by_path, by_number, file_by-push, file_by-last, file_by-set_same, file_by-set_other, number-within, swept-kept}
 use Rattle.md_jobs.specs.declared.step.DirReply.TheVariants as reply
-use Rattle.md_core.specs.Runs.{stamp_of}
-use Rattle.md_jobs.specs.Asked.{Asked, create, append, link, rename, unlink, list, ask_of, state_by}
 use Rattle.md_core.proofs.Answers.Files.Tmp.{stamp_at}
 use Rattle.md_core.proofs.Settling.Loadable.{IsGoodPath, IsLoadable}
 

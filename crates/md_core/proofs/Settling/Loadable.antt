@@ -2,24 +2,14 @@
 -- message has one path, they load.
 use Rattle.std.proofs.Common.{ℕ, ◌≡◌, ◌≤◌, inl, inr, List, [], ◌∷◌, Option, Some, None, Bool, true, false, cond, T, ◌&&◌, ◌||◌, nat_lt, max, fold, length, refl, ap, ◌∙◌, arith}
 use Rattle.std.specs.declared.cmp.Ordering.TheVariants.{Less, Equal}
-use Rattle.std.specs.Option.{option_or}
-use Rattle.std.specs.List.{list_any}
-use Rattle.std.specs.Str.{bytes_eq}
-use Rattle.std.specs.FinMap.{is_sorted, entries, entries_sorted}
 use Rattle.std.specs.FinMap.Entries.{below_all}
 use Rattle.std.proofs.lemmas.Bool.{and_parts}
 use Rattle.std.proofs.lemmas.Bool.Decides.{nat_tests}
 use Rattle.std.proofs.lemmas.Cmp.{tied_itself}
 use Rattle.std.proofs.lemmas.Slice.Eq.{bytes_eq-Decides}
-use Rattle.md_dirs.specs.Path.{path_cmp}
-use Rattle.md_core.proofs.Values.{State, file_at, file_by, CoreError}
-use Rattle.md_dirs.specs.declared.paths.Path.{Path}
+use Rattle.md_core.proofs.Values.{State, file_at, file_by, CoreError, path_cmp, Path, unique_of, is_message, HasOnePath, stamp_of, first_clock, option_or, list_any, bytes_eq, is_sorted, entries, entries_sorted, is_bad_name, is_long_unique, is_same_message, fault_of, first_fault, load_refusal}
 use Rattle.md_dirs.proofs.PathOrder.{path_total, path_exact}
-use Rattle.md_name.specs.Names.{unique_of}
 use Rattle.md_jobs.specs.declared.error.CoreError.TheVariants as core
-use Rattle.md_core.specs.Mailbox.{is_message, HasOnePath}
-use Rattle.md_core.specs.Loading.{is_bad_name, is_long_unique, is_same_message, fault_of, first_fault, load_refusal}
-use Rattle.md_core.specs.Runs.{stamp_of, first_clock}
 use Rattle.lists.proofs.Members.{Has, has-get}
 use Rattle.md_core.proofs.Answers.Files.Tmp.{stamp_at}
 use Rattle.md_core.proofs.Worlds.Loading.Loaded.{loaded-name, loaded-short, first-clock}

@@ -1,13 +1,11 @@
 -- The names that jobs make have no fault: a unique name has at most 200 bytes, and with `:2,` and 52 letters a name has at most 255.
 use Rattle.std.proofs.Common.{ℕ, ◌≡◌, ◌<◌, ◌≤◌, ◌++◌, List, [], ◌∷◌, true, false, not, ◌&&◌, ◌||◌, ◌==◌, nat_lt, nat_le, length, codes, refl, ap, ◌∙◌, arith, length-append}
-use Rattle.std.specs.List.{list_any}
+use Rattle.md_core.proofs.Values.{list_any, Path, is_bad_name}
 use Rattle.std.proofs.lemmas.Bool.{and_parts, or_parts, not-true}
 use Rattle.std.proofs.lemmas.Bool.Decides.{nat_tests}
-use Rattle.md_dirs.specs.declared.paths.Path.{Path}
 use Rattle.md_name.specs.Letters.{Set, spelling}
 use Rattle.md_name.specs.Names.{is_colon, is_slash, is_terminator, begins_with_dot, unique_of, is_maildir_unique, is_unique_name, flagged}
 use Rattle.md_name.proofs.Flagged.{unique_of-flagged, length-flagged-le, slash-flagged, terminator-flagged}
-use Rattle.md_core.specs.Loading.{is_bad_name}
 use Rattle.md_core.proofs.Settling.Loadable.{IsGoodPath}
 use Rattle.md_core.proofs.Worlds.UniqueNames.{no_colon-unique}
 

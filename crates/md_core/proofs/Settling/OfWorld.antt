@@ -1,16 +1,7 @@
 -- What a settled world keeps. And which job has no answer, by what a world keeps of its jobs.
 use Rattle.std.proofs.Common.{ℕ, ◌≡◌, ◌+◌, List, [], ◌∷◌, Some, None, Bool, cond, not, nat_lt, option_map, position, refl, sym, ap, subst, ◌∙◌}
-use Rattle.std.specs.List.{position_or_len}
 use Rattle.std.proofs.lemmas.List.{length-map}
-use Rattle.md_dirs.specs.Calls.{Device}
-use Rattle.md_core.proofs.Values.{Effect, Event}
-use Rattle.md_core.specs.Machine.{Machine, is_working}
-use Rattle.md_core.specs.Runs.{Run}
-use Rattle.md_core.specs.Settling.{first_unanswered, settled}
-use Rattle.md_core.specs.Standing.{JobView, standings}
-use Rattle.md_core.specs.Stepping.{IsRun}
-use Rattle.md_core.specs.declared.used.Used.{Used}
-use Rattle.md_core.specs.Worlds.{IsWorld, run_of, machine_by}
+use Rattle.md_core.proofs.Values.{Effect, Event, Machine, is_working, Run, IsRun, position_or_len, Device, first_unanswered, settled, JobView, standings, Used, IsWorld, run_of, machine_by}
 use Rattle.md_core.proofs.Worlds.Submitted.{IsBare, begun-bare}
 use Rattle.md_core.proofs.Settling.EachRun.{is_run-settled}
 

@@ -1,19 +1,14 @@
 -- The steps of a job and those left are never more than at its first step, and each step leaves less.
 use Rattle.std.proofs.Common.{ℕ, zero, suc, ◌≡◌, ◌≢◌, ◌<◌, ◌≤◌, ◌+◌, ◌++◌, ◌⊎◌, inl, inr, List, [], ◌∷◌, Option, Some, None, true, false, cond, MatchOption, refl, ◌↔◌, sym, ap, subst, ◌∙◌, length, take, slice_get, arith, ◌==◌}
-use Rattle.std.specs.List.{position_or_len}
 use Rattle.std.specs.Prelude.{count_by}
 use Rattle.std.proofs.lemmas.Bool.Decides.{nat_tests}
 use Rattle.std.proofs.lemmas.List.{take_all, take-append-le}
 use Rattle.std.proofs.lemmas.List.Sums.{sum_by-append}
-use Rattle.md_core.proofs.Values.{State, Call, Task, Deliver, Errand, Clean}
-use Rattle.md_jobs.specs.declared.answer.Answer.{Answer}
+use Rattle.md_core.proofs.Values.{State, Call, Task, Deliver, Errand, Clean, Answer, Step, call_at, Run, beginning, run_from, machine_of, dirs_of, jobs_of, and_event, step_refusal, dirs_at_first, IsRun, position_or_len, searches}
 use Rattle.md_jobs.specs.Tasks.Cleaning as cleaning
 use Rattle.md_jobs.specs.Machines.Clean as cleaned_by
 use Rattle.md_core.specs.Machine.{Machine, Standing, working, Occurrence, job_at, steps_left, standing_of, new_job, after_event, step_by}
-use Rattle.md_core.specs.Trace.{Step, call_at}
-use Rattle.md_core.specs.Runs.{Run, beginning, run_from, machine_of, dirs_of, jobs_of, and_event, step_refusal, dirs_at_first}
 use Rattle.md_core.specs.Runs as runs
-use Rattle.md_core.specs.Stepping.{IsRun}
 use Rattle.md_core.proofs.Theorem.RunLaw.{steps_of}
 use Rattle.md_core.proofs.Induction.Good.{EachTurn, IsGood, IsFixed}
 use Rattle.md_core.proofs.Runs.Events.{goes_on-exact}
@@ -22,7 +17,6 @@ use Rattle.md_core.proofs.Lists.Places.{none-of_kind, some-of_kind, first-of_kin
 use Rattle.md_core.proofs.Runs.ByEvent.{at_last, machine-and_event, run_from-none, run_from-more_event}
 use Rattle.md_core.proofs.Induction.Going.{Goes, goes, goes-cases, goes-here, goes-others}
 use Rattle.md_core.proofs.Induction.GoodRuns.{new_at, all-apart, good-beginning, good-machine}
-use Rattle.md_jobs.specs.Machines.Purposes.{searches}
 use Rattle.md_jobs.proofs.Replies.{errand-left, delivery-left}
 
 -- a turn leaves less to its job

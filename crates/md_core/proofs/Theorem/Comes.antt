@@ -1,13 +1,7 @@
 -- Each message of a run has whole bytes, at each moment.
 use Rattle.std.proofs.Common.{ℕ, zero, suc, ◌≡◌, ◌≤◌, ◌+◌, ◌⊎◌, inl, inr, List, Option, Some, None, true, is_some, refl, sym, ap, subst, ◌∙◌, slice_get, arith}
 use Rattle.std.specs.FinMap as finmap
-use Rattle.md_jobs.specs.declared.call.Call.{Call}
-use Rattle.md_jobs.specs.declared.effect.Effect.{Effect}
-use Rattle.md_core.specs.Mailbox.{Entry, Mailbox}
-use Rattle.md_core.specs.Machine.{Machine, Occurrence}
-use Rattle.md_core.specs.Trace.{Step, call_at}
-use Rattle.md_core.specs.Runs.{Run, machine_at, box_in}
-use Rattle.md_core.specs.Stepping.{IsRun, AsAlone}
+use Rattle.md_core.proofs.Values.{Call, Effect, Entry, Mailbox, Machine, Occurrence, Step, call_at, Run, machine_at, box_in, IsRun, AsAlone}
 use Rattle.md_core.proofs.Theorem.RunLaw.{IsWhole}
 use Rattle.md_core.proofs.Induction.Good.{EachTurn}
 use Rattle.md_core.proofs.Induction.Going.{Goes}

@@ -5,11 +5,9 @@ use Rattle.std.proofs.lemmas.Bool.{cases_lt}
 use Rattle.std.proofs.lemmas.Cmp.{nat_list_cmp_total}
 use Rattle.std.proofs.lemmas.Map.Lookups.{exact_bytes}
 use Rattle.std.specs.FinMap as finmap
-use Rattle.md_name.specs.Names.{unique_of}
-use Rattle.md_core.proofs.Values.{Place, Change, Effect}
+use Rattle.md_core.proofs.Values.{Place, Change, Effect, unique_of, Names, names_after_change, names_after, IsThere, IsNowhere, WasNowhere}
 use Rattle.lists.proofs.Maps.{beside_put, beside_drop, at_drop}
 use Rattle.md_jobs.specs.declared.effect.Change.TheVariants as change
-use Rattle.md_core.specs.History.{Names, names_after_change, names_after, IsThere, IsNowhere, WasNowhere}
 use Rattle.md_core.proofs.Mailbox.Changes.{by_name}
 use Rattle.md_core.proofs.Mailbox.Allowed.{FitsNames, renamed-beside}
 

@@ -1,8 +1,7 @@
 -- The history at a later moment begins with that of an earlier one.
 use Rattle.std.proofs.Common.{ℕ, zero, suc, ◌≡◌, ◌≤◌, ◌+◌, ◌-◌, ◌++◌, List, [], sym, ap, subst, ◌∙◌, arith}
 use Rattle.std.proofs.lemmas.List.{append-nil, append_assoc}
-use Rattle.md_jobs.specs.declared.effect.Effect.{Effect}
-use Rattle.md_core.specs.Runs.{Run, machine_at}
+use Rattle.md_core.proofs.Values.{Effect, Run, machine_at}
 
 abbrev pub Grows : Run → ℕ → ℕ → Type 0
 Grows r k l = (more : List Effect) × ((machine_at r l).effects ≡ (machine_at r k).effects ++ more)

@@ -1,19 +1,10 @@
 -- The history of a run: it is legal, it gives the names of the mailbox, and it has the effect of each job that had one.
 use Rattle.std.proofs.Common.{ℕ, zero, suc, ◌≡◌, ◌≢◌, ◌<◌, ◌≤◌, length, ◌++◌, List, [], ◌∷◌, Option, Some, None, Bool, true, false, cond, MatchBool, MatchOption, IfSome, refl, sym, ap, subst, ◌∙◌, filter, slice_get, arith, ◌==◌}
-use Rattle.std.specs.Option.{option_to_list, option_or}
 use Rattle.std.proofs.lemmas.Bool.Decides.{nat_tests}
 use Rattle.std.proofs.lemmas.List.{append-nil, take-append-le, take_at}
 use Rattle.std.proofs.lemmas.List.Elements.{filter-append}
 use Rattle.std.proofs.lemmas.Option.{slice_get_within}
-use Rattle.md_core.proofs.Values.{Call, Answer, Task}
-use Rattle.md_jobs.specs.declared.effect.Effect.{Effect}
-use Rattle.md_core.specs.Mailbox.{mailbox_of}
-use Rattle.md_core.specs.History.{Names, names_of, names_after_change, names_after, WasNowhere, IsAllowed, IsAllowedAfter, IsLegal}
-use Rattle.md_core.specs.Machine.{Machine, Standing, working, answered, standing_of}
-use Rattle.md_core.specs.Trace.{Step}
-use Rattle.md_core.specs.Stepping.{AsAlone}
-use Rattle.md_core.specs.Interleaving.{is_success}
-use Rattle.md_core.specs.Accepting.{MakesMessage}
+use Rattle.md_core.proofs.Values.{Call, Answer, Task, Effect, mailbox_of, Names, names_of, names_after_change, names_after, WasNowhere, IsAllowed, IsAllowedAfter, IsLegal, Machine, Standing, working, answered, standing_of, Step, AsAlone, is_success, MakesMessage, option_to_list, option_or}
 use Rattle.md_core.proofs.Induction.Good.{IsGood, own_effect, Affects, Settles}
 use Rattle.md_core.proofs.Lists.Places.{at_end}
 use Rattle.md_core.proofs.Induction.Going.{Goes, AllApart, goes-cases, goes-as_many, still-working}

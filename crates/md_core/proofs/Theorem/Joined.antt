@@ -1,15 +1,12 @@
 -- Two histories as one are legal unless a name is used again, and then they are not.
 use Rattle.std.proofs.Common.{ℕ, ◌≡◌, ◌≤◌, ◌+◌, ◌-◌, ◌++◌, List, [], ◌∷◌, Option, Some, None, refl, sym, ap, subst, ◌∙◌, inl, inr, length, take, slice_get, arith}
-use Rattle.std.specs.Option.{option_map}
 use Rattle.std.specs.FinMap as finmap
 use Rattle.std.proofs.lemmas.Bool.{cases_lt}
 use Rattle.std.proofs.lemmas.List.{take_all, take-append-le, take-map}
 use Rattle.std.proofs.lemmas.Option.{slice_get_within, slice_get-map}
 use Rattle.std.proofs.Math.Seq.{take-append-add}
-use Rattle.md_core.proofs.Values.{Change, Effect}
+use Rattle.md_core.proofs.Values.{Change, Effect, Listed, Names, names_after_change, names_after, IsNowhere, WasNowhere, IsAllowed, IsAllowedAfter, IsLegal, option_map, job_after, numbered_after, joined, AddsName, UsesAgain, HasJobsTo, HasJobsFromOne}
 use Rattle.md_jobs.specs.declared.effect.Change.TheVariants as change
-use Rattle.md_core.specs.History.{Listed, Names, names_after_change, names_after, IsNowhere, WasNowhere, IsAllowed, IsAllowedAfter, IsLegal}
-use Rattle.md_core.specs.Joining.{job_after, numbered_after, joined, AddsName, UsesAgain, HasJobsTo, HasJobsFromOne}
 use Rattle.md_core.proofs.Lists.Places.{at_joint, get-second}
 use Rattle.md_core.proofs.Mailbox.Allowed.{FitsNames, allowed-fits, allowed-fresh}
 

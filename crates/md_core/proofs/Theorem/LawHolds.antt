@@ -1,22 +1,11 @@
 -- What holds of every run, from what each turn does.
 use Rattle.std.proofs.Common.{ℕ, zero, suc, ◌≡◌, ◌≢◌, ◌<◌, ◌≤◌, ◌+◌, List, [], ◌∷◌, Option, Some, None, Bool, true, false, cond, MatchBool, IfSome, refl, sym, ap, subst, ◌∙◌, length, take, slice_get, arith}
-use Rattle.std.specs.Option.{option_to_list, option_map}
 use Rattle.std.specs.FinMap as finmap
 use Rattle.std.proofs.lemmas.List.{take_all}
-use Rattle.md_core.proofs.Values.{State, file_at, Call, Answer, Effect, Task, Deliver, Errand, Clean}
-use Rattle.md_dirs.specs.declared.paths.Path.{Path}
+use Rattle.md_core.proofs.Values.{State, file_at, Call, Answer, Effect, Task, Deliver, Errand, Clean, Path, Entry, mailbox_of, is_tmp, is_message, Names, names_of, as_listed, names_after, IsNowhere, Step, call_at, Run, beginning, machine_at, machine_of, jobs_of, dirs_of, dirs_at_first, IsRun, Simulates, effects_by, NoneOverwritten, is_success, MakesMessage, IsAccepted, option_to_list, option_map, most_over, delivery_effect}
 use Rattle.md_jobs.specs.declared.call.Call.TheVariants as call
-use Rattle.md_core.specs.Mailbox.{Entry, mailbox_of, is_tmp, is_message}
-use Rattle.md_core.specs.History.{Names, names_of, as_listed, names_after, IsNowhere}
 use Rattle.md_core.specs.Machine.{Machine, Standing, working, answered, Occurrence, job_at, steps_left, new_job}
-use Rattle.md_core.specs.Bounds.{most_over}
-use Rattle.md_core.specs.Trace.{Step, call_at}
-use Rattle.md_jobs.specs.Machines.Deliver.{delivery_effect}
-use Rattle.md_core.specs.Runs.{Run, beginning, machine_at, machine_of, jobs_of, dirs_of, dirs_at_first}
-use Rattle.md_core.specs.Stepping.{IsRun, Simulates, effects_by}
 use Rattle.md_core.proofs.Theorem.RunLaw.{Happened, IsSafe, is_linked, is_past_link, steps_of, JobLaw, RunLaw}
-use Rattle.md_core.specs.Interleaving.{NoneOverwritten, is_success}
-use Rattle.md_core.specs.Accepting.{MakesMessage, IsAccepted}
 use Rattle.md_core.proofs.Induction.Good.{EachTurn, IsGood, HasNoMessage, Affects, own_effect}
 use Rattle.md_core.proofs.Lists.Places.{at_place}
 use Rattle.md_core.proofs.Directories.Frames.{message-key}
@@ -28,7 +17,6 @@ use Rattle.md_core.proofs.Induction.GoodRuns.{new_at, all-apart, good-moment, wh
 use Rattle.md_core.proofs.Theorem.Histories.{Has, Tells, tells-more}
 use Rattle.md_core.proofs.Theorem.Comes.{wholes-moment}
 use Rattle.md_core.proofs.Theorem.Bounds.{bounded-machine, steps_left-some}
-use Rattle.md_core.proofs.Answers.AllSay.{all-say}
 use Rattle.md_core.proofs.Machines.Errand.Table.Calls.{each-new}
 use Rattle.md_core.proofs.Machines.Errand.Table.Rows.{all-tries}
 use Rattle.md_core.proofs.Machines.Errand.Table.Checks.{makes-fresh, accepted-errand}
@@ -181,7 +169,6 @@ module _ (turns : EachTurn) (r : Run) (run : IsRun r) where
         success = λ a is success. by_success (suc j) a (effects_by r (suc j)) (subst (λ (x : Standing). Has (suc j) x (effects_by r (suc j))) is own) success;
         failure = λ a is failure. by_failure (suc j) a (effects_by r (suc j)) (subst (λ (x : Standing). Has (suc j) x (effects_by r (suc j))) is own) failure;
         unanswered = λ t is some. by_link (suc j) t (effects_by r (suc j)) (subst (λ (x : Standing). Has (suc j) x (effects_by r (suc j))) is own) some;
-        says = λ a is. all-say r run (suc j) asked a from (at ∙ ap Some is);
         bounded = subst (λ (n : ℕ). steps_of r (suc j) + steps_left (dirs_of r) (Some job) ≤ n) whole most;
         ends = λ all. ends-by (dirs_of r) job (omega (arith, most, whole, all));
       }

@@ -3,13 +3,9 @@ use Rattle.std.proofs.Common.{◌≡◌, ◌≢◌, ℕ, List, Option, Some, sym
 use Rattle.std.proofs.lemmas.Cmp.{nat_list_cmp_total}
 use Rattle.std.proofs.lemmas.Map.Lookups.{exact_bytes}
 use Rattle.std.specs.FinMap as finmap
-use Rattle.md_name.specs.Names.{unique_of}
-use Rattle.md_core.proofs.Values.{Place, Change}
-use Rattle.md_dirs.specs.declared.paths.Place.TheVariants.{Tmp, Cur}
+use Rattle.md_core.proofs.Values.{Place, Change, unique_of, Tmp, Cur, Listed, Names, names_after_change, IsPlaced}
 use Rattle.lists.proofs.Maps.{at_put, beside_put, at_drop, beside_drop}
 use Rattle.md_jobs.specs.declared.effect.Change.TheVariants as change
-use Rattle.md_core.specs.History.{Listed, Names, names_after_change}
-use Rattle.md_core.specs.Laws.{IsPlaced}
 use Rattle.md_core.proofs.Mailbox.Changes.{by_name}
 use Rattle.md_core.proofs.Mailbox.Allowed.{FitsNames}
 

@@ -1,19 +1,9 @@
 -- What holds of every run, by its machine. The interleaving theorem says it of the trace of the run, without a machine.
 use Rattle.std.specs.Prelude.{ℕ, ◌≡◌, ◌≢◌, ◌+◌, ◌≤◌, ◌<◌, ◌∷◌, ◌⊎◌, ◌==◌, List, [], Some, Bool, true, false, length, slice_get, is_some, count_by}
 use Rattle.std.specs.FinMap as finmap
-use Rattle.md_core.proofs.Values.{IsSound, file_at, Call, Answer, Effect, Task}
-use Rattle.md_dirs.specs.declared.paths.Path.{Path}
-use Rattle.md_core.specs.Mailbox.{Entry, mailbox_of, is_tmp, is_message, HasOnePath}
-use Rattle.md_core.specs.History.{names_of, names_after, IsLegal}
-use Rattle.md_core.specs.Bounds.{most_over}
-use Rattle.md_core.specs.Trace.{Step, call_at}
+use Rattle.md_core.proofs.Values.{IsSound, file_at, Call, Answer, Effect, Task, Path, Entry, mailbox_of, is_tmp, is_message, HasOnePath, names_of, names_after, IsLegal, Step, call_at, Run, machine_at, dirs_of, done_at, jobs_of, effects_of, box_in, dirs_at_first, Stage, Linked, Simulates, effects_by, is_success, NoneOverwritten, IsDeliveryOf, IsCopyTo, most_over}
 use Rattle.md_core.specs.Machine.{Standing, working, answered, job_at, steps_left}
-use Rattle.md_core.specs.Runs.{Run, machine_at, dirs_of, done_at, jobs_of, effects_of, box_in, dirs_at_first}
-use Rattle.md_jobs.specs.Tasks.Delivery.{Stage, Linked}
 use Rattle.md_core.specs.Tasks.Task as task
-use Rattle.md_core.specs.Stepping.{Simulates, effects_by}
-use Rattle.md_core.specs.Interleaving.{is_success, NoneOverwritten, IsDeliveryOf, IsCopyTo}
-use Rattle.md_core.proofs.Answers.OfRun.{Says}
 
 -- event k was done, and simulates its call
 pub record Happened (r : Run) (k : ℕ) : Type 0 where
@@ -75,8 +65,6 @@ pub record JobLaw (r : Run) (number : ℕ) (call : Call) (job : Standing) : Type
   pub success : (a : Answer) → job ≡ answered a → is_success a ≡ true → (e : Effect) × (effects_by r number ≡ e ∷ []) × (e.answer ≡ a)
   pub failure : (a : Answer) → job ≡ answered a → is_success a ≡ false → effects_by r number ≡ []
   pub unanswered : (t : Task) → job ≡ working t → effects_by r number ≢ [] → is_past_link t ≡ true
-  -- an answer that came without an effect says what happened
-  pub says : (a : Answer) → job ≡ answered a → Says r number call a
   -- the steps that it has taken, and those that it may still take, are together no more than its call takes
   pub bounded : steps_of r number + steps_left (dirs_of r) (Some job) ≤ most_steps r number call
   -- given that many steps it has its answer, whatever the replies were

@@ -2,10 +2,7 @@
 use Rattle.std.proofs.Common.{ℕ, zero, suc, ◌≡◌, ◌≢◌, ◌≤◌, ◌+◌, ◌-◌, List, Some, None, refl, sym, ap, subst, ◌∙◌, take, arith}
 use Rattle.std.proofs.lemmas.List.{take_all, take-take}
 use Rattle.std.specs.FinMap as finmap
-use Rattle.md_core.proofs.Values.{Place, Effect}
-use Rattle.md_dirs.specs.declared.paths.Place.TheVariants.{Tmp, Cur}
-use Rattle.md_core.specs.History.{Listed, Names, names_after, IsLegal, WasNowhere}
-use Rattle.md_core.specs.Laws.{IsPlaced, IsInCur, IsNotInTmp, KeepsPlaces}
+use Rattle.md_core.proofs.Values.{Place, Effect, Tmp, Cur, Listed, Names, names_after, IsLegal, WasNowhere, IsPlaced, IsInCur, IsNotInTmp, KeepsPlaces}
 use Rattle.md_core.proofs.Lists.Places.{at_place, take-one_more}
 use Rattle.md_core.proofs.Theorem.Effects.{after-push}
 use Rattle.md_core.proofs.Theorem.Placed.{placed-kept}

@@ -1,11 +1,8 @@
 -- The interleaving theorem: all its clauses, of the trace of every run.
-use Rattle.md_core.specs.Runs.{Run}
-use Rattle.md_core.specs.Stepping.{IsRun}
-use Rattle.md_core.specs.Interleaving.{Interleaves}
-use Rattle.md_core.specs.Tracing.{trace_of}
+use Rattle.md_core.proofs.Values.{Run, IsRun, Interleaves, trace_of}
 use Rattle.md_core.proofs.Traces.Plain.{legal, names, none_overwritten, sound, one_path, whole, bounded, ends}
 use Rattle.md_core.proofs.Traces.Headline.{acts, own, placed, quiet}
-use Rattle.md_core.proofs.Traces.Telling.{says}
+use Rattle.md_core.proofs.Answers.AllSay.{says}
 use Rattle.md_core.proofs.Traces.Files.{others}
 use Rattle.md_core.proofs.Traces.Old.{in_tmp}
 

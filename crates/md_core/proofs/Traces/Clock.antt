@@ -1,13 +1,7 @@
 -- The moments of steps: the store's clock never goes back, and each moment is what the log gives.
 use Rattle.std.proofs.Common.{ℕ, zero, suc, ◌≡◌, ◌≤◌, ◌+◌, Option, Some, sym, ap, subst, ◌∙◌, length, slice_get, unwrap_or, max, arith}
-use Rattle.std.specs.Option.{option_map, option_map_or}
 use Rattle.std.proofs.lemmas.Option.{slice_get-map}
-use Rattle.md_core.proofs.Values.{Event}
-use Rattle.md_core.specs.Machine.{Machine, Occurrence}
-use Rattle.md_core.specs.Trace.{Step, Trace, step_at}
-use Rattle.md_core.specs.Runs.{Run, machine_at, log_of}
-use Rattle.md_core.specs.Stepping.{IsRun}
-use Rattle.md_core.specs.Tracing.{trace_of, clock_before, IsLogged}
+use Rattle.md_core.proofs.Values.{Event, Machine, Occurrence, Step, Trace, step_at, Run, machine_at, log_of, IsRun, trace_of, clock_before, IsLogged, option_map, option_map_or}
 use Rattle.md_core.proofs.Lists.Places.{at_place}
 use Rattle.md_core.proofs.Runs.ByEvent.{moment-start}
 use Rattle.md_core.proofs.Answers.LastStep.{is_within}

@@ -1,35 +1,21 @@
 -- The clauses on files: in new and cur, those that are no messages stay as they are; in tmp, a delivery changes its own, and a clean takes
 -- away what it saw to be old.
-use Rattle.md_jobs.specs.Machines.Errand.{errand_turn}
 use Rattle.md_core.proofs.Machines.Errand.Asks.{errand-of-mail, no-append}
-use Rattle.std.proofs.Common.{ℕ, zero, suc, ◌≡◌, ◌≤◌, ◌+◌, List, Option, Some, None, Bool, true, false, cond, refl, sym, ap, subst, ◌∙◌, length, take, arith, nat_lt}
-use Rattle.std.specs.Option.{option_and_then}
+use Rattle.std.proofs.Common.{ℕ, zero, suc, ◌≡◌, ◌≤◌, ◌+◌, List, Option, Some, None, Bool, true, false, cond, refl, sym, ap, subst, ◌∙◌, length, take, arith}
 use Rattle.std.proofs.lemmas.List.{take_all}
-use Rattle.md_core.proofs.Values.{State, IsSound, file_at, file_by, Path, Tmp, Call, DirReply, Moment, Task, Deliver, Errand, Clean}
-use Rattle.md_dirs.specs.Calls.{after_append, file_with_more, with_path, without_path, with_files_still_named, is_one_file}
-use Rattle.md_dirs.specs.declared.paths.File.{File}
+use Rattle.md_core.proofs.Values.{State, IsSound, file_at, file_by, Path, Tmp, Call, DirReply, Moment, Task, Deliver, Errand, Clean, Delivery, Stage, is_tmp, is_message, Asked, create, append, link, rename, unlink, list, ask_of, state_by, Step, call_at, Trace, step_at, state, state_after, file_in, turn_of, Run, machine_at, IsRun, IsTmpOf, trace_of, errand_turn, option_and_then, after_append, file_with_more, with_path, without_path, with_files_still_named, is_one_file, File}
 use Rattle.md_dirs.proofs.Sound.{file_by-push, file_by-set_other, number-within, swept-kept}
-use Rattle.md_jobs.specs.declared.answer.Answer.TheVariants as answer
-use Rattle.md_jobs.specs.Tasks.Delivery.{Delivery, Stage, Start, Writing, Linked, Undo}
 use Rattle.md_jobs.specs.Tasks.Cleaning as cleaning
 use Rattle.md_jobs.specs.declared.step.DirReply.TheVariants as reply
-use Rattle.md_core.specs.Mailbox.{is_tmp, is_message}
-use Rattle.md_jobs.specs.Asked.{Asked, create, append, link, rename, unlink, list, ask_of, state_by}
-use Rattle.md_core.specs.Trace.{Step, call_at, Trace, step_at, state, state_after, file_in}
-use Rattle.md_core.specs.Machine.{turn_of}
-use Rattle.md_jobs.specs.Machines.Deliver as delivered_by
-use Rattle.md_jobs.specs.Machines.Deliver.{append_turn, link_turn, unlink_turn, is_in_time}
 use Rattle.md_jobs.specs.Machines.Clean as cleaned_by
-use Rattle.md_core.specs.Runs.{Run, machine_at}
-use Rattle.md_core.specs.Stepping.{IsRun}
-use Rattle.md_core.specs.Interleaving.{IsTmpOf}
-use Rattle.md_core.specs.Tracing.{trace_of}
 use Rattle.md_core.proofs.Induction.Good.{TaskFits, DeliveryFits, StageFits}
 use Rattle.md_core.proofs.Lists.Places.{at_place, take-one_more}
 use Rattle.md_core.proofs.Answers.Moments.{its-call, its-fits, at}
 use Rattle.md_core.proofs.Traces.Same.{state-same, state-none, state-more}
 use Rattle.md_core.proofs.Traces.Stands.{turn-of}
 use Rattle.md_core.proofs.Traces.Headline.{theorem}
+use Rattle.md_core.proofs.Answers.Files.Asking.{asked_at}
+use Rattle.md_jobs.proofs.Cases.{by-delivery}
 
 -- the call writes to no file that the path names
 abbrev pub Away : State → Path → Asked → Type 0
@@ -71,9 +57,6 @@ pub file-kept : (s : State) (sound : IsSound s) (clock : ℕ) (q : Path) (asked 
     file_at (state_by (ask_of asked clock) s r) q ≡ file_at s q → file_in (state_by (ask_of asked clock) s r) q ≡ file_in s q
 file-kept s sound clock q asked r away names = by (file_at s q) refl
   where
-    s' : State
-    s' = state_by (ask_of asked clock) s r
-
     by : (o : Option ℕ) → file_at s q ≡ o → file_in (state_by (ask_of asked clock) s r) q ≡ file_in s q
     by None is =
         ap (option_and_then (file_by (state_by (ask_of asked clock) s r).files)) (names ∙ is)
@@ -94,31 +77,12 @@ tmp-of s asked d p fits is = subst (IsTmpOf p) (sym fits.of)
     (sym is ∙ (λ i. record { folder = d.tmp.folder; place = fits.in_tmp i; name = d.tmp.name }))
 
 module _ (s : State) (number : ℕ) (d : Delivery) (at : Moment) where
-  abbrev asked_at : Stage → Asked
-  asked_at stage = (delivered_by.stage_turn number d at stage).asked
-
-  pub writing-by : (P : Asked → Type 0) (start k : ℕ) → P (append_turn d start k).asked → P (link_turn number d).asked →
-      P (unlink_turn d answer.TimedOut).asked → P (asked_at (Writing start k))
-  writing-by P start k appends links unlinks = by (is_in_time start at.own) (nat_lt k (length d.body))
-    where
-      by : (b more : Bool) → P (cond b (cond more (append_turn d start k) (link_turn number d)) (unlink_turn d answer.TimedOut)).asked
-      by true true = appends
-      by true false = links
-      by false more = unlinks
-
-  delivery-appends : (p : Path) (bytes : List ℕ) (stage : Stage) → StageFits s d stage → asked_at stage ≡ append p bytes →
+  delivery-appends : (p : Path) (bytes : List ℕ) (stage : Stage) → StageFits s d stage → asked_at number d at stage ≡ append p bytes →
       (d.tmp ≡ p) × ((n : ℕ) (q : Path) → file_at s d.tmp ≡ Some n → file_at s q ≡ Some n → q ≡ d.tmp)
-  delivery-appends p bytes Start fits is = cc
-  delivery-appends p bytes (Writing start k) fits is = (
-    writing-by (λ asked. asked ≡ append p bytes → d.tmp ≡ p) start k (λ h. cc) (λ h. cc) (λ h. cc) is,
-    λ n q a b. fits.2.only n q a b,
-  )
-  delivery-appends p bytes Linked fits is = cc
-  delivery-appends p bytes (Undo a) fits is = cc
-
-  pub delivery-unlinks : (p : Path) (stage : Stage) → asked_at stage ≡ unlink p → d.tmp ≡ p
-  delivery-unlinks p (Writing start k) is = writing-by (λ asked. asked ≡ unlink p → d.tmp ≡ p) start k (λ h. cc) (λ h. cc) (λ h. cc) is
-  delivery-unlinks p other is = cc
+  delivery-appends p bytes = by-delivery number d at (λ stage turn. StageFits s d stage → turn.asked ≡ append p bytes →
+      (d.tmp ≡ p) × ((n : ℕ) (q : Path) → file_at s d.tmp ≡ Some n → file_at s q ≡ Some n → q ≡ d.tmp))
+      (λ fits is. cc) (λ start k more fits is. (cc, λ n q a b. fits.2.only n q a b)) (λ start k all fits is. cc) (λ start k fits is. cc)
+      (λ fits is. cc) (λ x fits is. cc)
 
 pub appends : (s : State) (asked : Call) (number : ℕ) (at : Moment) (task : Task) → TaskFits s asked task → (p : Path) (bytes : List ℕ) →
     (turn_of number task at).asked ≡ append p bytes → Writes s asked p

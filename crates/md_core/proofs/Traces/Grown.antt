@@ -1,13 +1,6 @@
 -- The trace of a run grows by what its next event does.
 use Rattle.std.proofs.Common.{◌≡◌, ◌++◌, Option, Some, None, refl, sym, ap, ◌∙◌}
-use Rattle.std.specs.Option.{option_to_list, option_map}
-use Rattle.md_jobs.specs.declared.step.StepOut.{StepOut}
-use Rattle.md_core.specs.Tasks.Task.{Task}
-use Rattle.md_core.specs.Trace.{Step}
-use Rattle.md_core.specs.Machine.{Occurrence, job_at, task_of, step_of, step_by}
-use Rattle.md_core.specs.Runs.{Run, beginning, machine_of, and_event}
-use Rattle.md_core.specs.Tracing.{deeds_from, trace_of, GrowsByStep}
-use Rattle.md_core.specs.Stepping.{ShowsStep}
+use Rattle.md_core.proofs.Values.{StepOut, Task, Step, Occurrence, job_at, task_of, step_of, step_by, Run, beginning, machine_of, and_event, deeds_from, trace_of, GrowsByStep, ShowsStep, option_to_list, option_map}
 use Rattle.md_core.proofs.Traces.Same.{deeds-more}
 
 -- what an event did is of its job

@@ -1,22 +1,11 @@
 -- The clauses on effects: each call takes effect at one step of its own.
 use Rattle.std.proofs.Common.{ℕ, ◌≡◌, ◌<◌, ◌≤◌, ◌+◌, ◌==◌, List, [], ◌∷◌, Option, Some, None, Bool, true, refl, sym, ap, subst, ◌∙◌, length, filter, is_some, arith, MatchOption}
-use Rattle.std.specs.List.{filter_map}
-use Rattle.std.specs.Option.{option_or}
 use Rattle.std.proofs.lemmas.Bool.Decides.{nat_tests}
 use Rattle.std.proofs.lemmas.List.{take_all}
 use Rattle.std.proofs.lemmas.Option.{slice_get_within}
-use Rattle.md_core.proofs.Values.{State, Call, Effect, Task}
-use Rattle.md_jobs.specs.declared.answer.Answer.{Answer}
+use Rattle.md_core.proofs.Values.{State, Call, Effect, Task, Answer, Mailbox, mailbox_of, alone, Machine, Standing, answered, job_at, Step, call_at, Trace, IsStepOf, IsAnswered, step_at, box, Run, machine_at, jobs_of, effects_of, IsRun, AsAlone, is_effect_at, IsEffectOf, TakesEffect, Acts, IsDelivery, IsOwnEffect, trace_of, filter_map, option_or}
 use Rattle.md_core.specs.Tasks.Task as task
-use Rattle.md_core.specs.Mailbox.{Mailbox, mailbox_of}
-use Rattle.md_core.specs.Alone.{alone}
-use Rattle.md_core.specs.Machine.{Machine, Standing, answered, job_at}
-use Rattle.md_core.specs.Trace.{Step, call_at, Trace, IsStepOf, IsAnswered, step_at, box}
-use Rattle.md_core.specs.Runs.{Run, machine_at, jobs_of, effects_of}
-use Rattle.md_core.specs.Stepping.{IsRun, AsAlone}
 use Rattle.md_core.proofs.Theorem.RunLaw.{RunLaw, Happened, JobLaw}
-use Rattle.md_core.specs.Interleaving.{is_effect_at, IsEffectOf, TakesEffect, Acts, IsDelivery, IsOwnEffect}
-use Rattle.md_core.specs.Tracing.{trace_of}
 use Rattle.md_core.proofs.Machines.EachTurn.{each-turn}
 use Rattle.md_core.proofs.Theorem.LawHolds.{run-law}
 use Rattle.md_core.proofs.Induction.Good.{TaskFits, Settles, own_effect}

@@ -1,12 +1,7 @@
 -- Earlier moments stay as they were, whatever steps and calls come.
 use Rattle.std.proofs.Common.{◌≤◌, List, sym, ap, ◌∙◌, length, take, arith}
 use Rattle.std.proofs.lemmas.List.{take-append-le}
-use Rattle.md_jobs.specs.declared.call.Call.{Call}
-use Rattle.md_core.specs.Machine.{Machine, Occurrence}
-use Rattle.md_core.specs.Trace.{state_after}
-use Rattle.md_core.specs.Runs.{Run, beginning, run_from, and_events, and_call}
-use Rattle.md_core.specs.Stepping.{IsRun}
-use Rattle.md_core.specs.Tracing.{deeds_from, trace_of, KeepsStates}
+use Rattle.md_core.proofs.Values.{Call, Machine, Occurrence, state_after, Run, beginning, run_from, and_events, and_call, IsRun, deeds_from, trace_of, KeepsStates}
 use Rattle.md_core.proofs.Runs.ByEvent.{moment-and_call}
 use Rattle.md_core.proofs.Traces.Same.{deeds-append, many-steps, state-same}
 

@@ -1,35 +1,24 @@
 -- What a clean still has to take away it saw to be old; and what a step does to a path of tmp.
-use Rattle.md_jobs.specs.Machines.Errand.{errand_turn}
 use Rattle.md_core.proofs.Machines.Errand.Asks.{errand-of-mail, no-unlink}
 use Rattle.std.proofs.Common.{ℕ, zero, suc, ◌≡◌, ◌<◌, ◌≤◌, ◌+◌, ◌-◌, ◌⊎◌, inl, inr, List, [], ◌∷◌, Some, None, true, refl, sym, ap, subst, ◌∙◌, length, slice_get, arith}
 use Rattle.std.proofs.lemmas.Bool.Decides.{nat_tests}
-use Rattle.md_core.proofs.Values.{State, Path, Place, Tmp, Call, DirReply, Task, Deliver, Errand, Clean}
-use Rattle.md_dirs.specs.Rows.{rows_of}
+use Rattle.md_core.proofs.Values.{State, Path, Place, Tmp, Call, DirReply, Task, Deliver, Errand, Clean, rows_of, is_tmp, Turn, rows_for, Asked, create, append, unlink, list, ask_of, state_by, Step, call_at, Trace, IsStepOf, step_at, state, file_in, working, new_job, job_at, Run, machine_at, IsRun, IsTmpOf, HasSeenOld, MayChange, KeepsTmp, trace_of, errand_turn}
 use Rattle.md_dirs.specs.declared.paths.Place.TheVariants as place
 use Rattle.md_dirs.proofs.Sound.{by_path}
 use Rattle.md_jobs.specs.declared.call.Call.TheVariants as call
 use Rattle.md_jobs.specs.Tasks.Cleaning.{Cleaning, Stage, Look, Remove}
 use Rattle.md_jobs.specs.declared.step.DirReply.TheVariants as reply
-use Rattle.md_core.specs.Mailbox.{is_tmp}
-use Rattle.md_jobs.specs.Turn.{Turn, rows_for}
-use Rattle.md_jobs.specs.Asked.{Asked, create, append, unlink, list, ask_of, state_by}
-use Rattle.md_core.specs.Trace.{Step, call_at, Trace, IsStepOf, step_at, state, file_in}
-use Rattle.md_core.specs.Machine.{working, new_job, job_at}
 use Rattle.md_jobs.specs.Machines.Clean.{old_names, after_next, at_stage, tmp, stage_turn}
-use Rattle.md_core.specs.Runs.{Run, machine_at}
-use Rattle.md_core.specs.Stepping.{IsRun}
-use Rattle.md_core.specs.Interleaving.{IsTmpOf, HasSeenOld, MayChange, KeepsTmp}
-use Rattle.md_core.specs.Tracing.{trace_of}
 use Rattle.md_core.proofs.Induction.Good.{TaskFits}
 use Rattle.lists.proofs.Members.{Has}
 use Rattle.md_core.proofs.Answers.LastStep.{IsTurn, left_by, reply_in, done_in, done-in, is_within, holds}
 use Rattle.md_core.proofs.Answers.Moments.{its-call, its-fits, at, asked_by, after_task}
-use Rattle.md_core.proofs.Answers.Files.Asking.{asks-fair, creates}
+use Rattle.md_core.proofs.Answers.Files.Asking.{asks-fair, creates, delivery-unlinks}
 use Rattle.md_core.proofs.Answers.Files.Listed.{has-old}
 use Rattle.md_core.proofs.Answers.Files.Tmp.{Touches, LeavesTmp, touches}
 use Rattle.md_core.proofs.Traces.Same.{state-same, done-step}
 use Rattle.md_core.proofs.Traces.Stands.{turn-of}
-use Rattle.md_core.proofs.Traces.Files.{Away, file-kept, tmp-of, delivery-unlinks, next-state, sound-at, writes}
+use Rattle.md_core.proofs.Traces.Files.{Away, file-kept, tmp-of, next-state, sound-at, writes}
 use Rattle.md_core.proofs.Machines.Errand.Table.Calls.{new-looks}
 
 -- an element of a list has a place there
@@ -192,7 +181,7 @@ module _ (r : Run) (run : IsRun r) where
       where
         by : (task : Task) → TaskFits (machine_at r k).dirs its.0 task → AtTask k x.job task → asked_by r k x.job u task ≡ unlink p → MayHere its.0
         by (Deliver d) f now is = may-own its.0 (tmp-of (machine_at r k).dirs its.0 d p f
-            (delivery-unlinks (machine_at r k).dirs u.event.event.job d (at r k x.job u) p d.stage is))
+            (delivery-unlinks u.event.event.job d (at r k x.job u) p d.stage is))
         by (Errand e) f now is =
             absurd (no-unlink (errand_turn u.event.event.job e).asked p in_tmp (errand-of-mail u.event.event.job e f.stage) is)
         by (Clean c) f now is =

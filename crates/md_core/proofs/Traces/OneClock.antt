@@ -1,9 +1,6 @@
 -- With one clock the moments of jobs are those of the store.
 use Rattle.std.proofs.Common.{ℕ, ◌≡◌, Option, ap, ◌∙◌, unwrap_or, arith}
-use Rattle.md_core.specs.Runs.{Run}
-use Rattle.md_core.specs.Stepping.{IsRun}
-use Rattle.md_core.specs.Sparing.{AreApart}
-use Rattle.md_core.specs.Tracing.{trace_of, HasOneClock}
+use Rattle.md_core.proofs.Values.{Run, IsRun, trace_of, HasOneClock, AreApart}
 use Rattle.md_core.proofs.Traces.Clock.{event-of}
 
 pub one-clock : (r : Run) → IsRun r → HasOneClock r → AreApart (trace_of r) 0

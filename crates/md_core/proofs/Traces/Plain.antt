@@ -1,36 +1,20 @@
 -- The clauses on histories, on safety and on bounds, and that the trace of a run is a trace.
 use Rattle.std.proofs.Common.{ℕ, ◌≡◌, ◌≤◌, ◌+◌, ◌==◌, ◌⊎◌, inl, inr, List, Some, Bool, true, false, refl, sym, ap, subst, ◌∙◌, length, arith}
 use Rattle.std.specs.Prelude.{count_by}
-use Rattle.std.specs.List.{position_or_len}
 use Rattle.std.specs.FinMap as finmap
-use Rattle.md_core.proofs.Values.{State, IsSound, Call}
-use Rattle.md_jobs.specs.declared.answer.Answer.{Answer}
+use Rattle.md_core.proofs.Values.{State, IsSound, Call, Answer, Entry, Mailbox, mailbox_of, HasOnePath, names_of, names_after, IsLegal, ask_of, reply_by, reply_of, Machine, Occurrence, Step, call_at, Trace, IsAnswered, IsTrace, step_at, state, box, effects, steps_of, Run, machine_at, first_step, IsRun, NoneOverwritten, IsWhole, IsCopied, trace_of, most_over, most_steps}
 use Rattle.md_jobs.specs.declared.step.DirReply.TheVariants.{Fault}
-use Rattle.md_core.specs.Mailbox.{Entry, Mailbox, mailbox_of, HasOnePath}
-use Rattle.md_core.specs.History.{names_of, names_after, IsLegal}
-use Rattle.md_jobs.specs.Asked.{ask_of, reply_by}
-use Rattle.md_jobs.specs.Turn.{reply_of}
-use Rattle.md_core.specs.Machine.{Machine, Occurrence}
-use Rattle.md_core.specs.Trace.{Step, call_at, Trace, IsAnswered, IsTrace, step_at, state, box, effects, steps_of}
-use Rattle.md_core.specs.Runs.{Run, machine_at, first_step}
 use Rattle.md_core.specs.Runs as runs
-use Rattle.md_core.specs.Stepping.{IsRun}
-use Rattle.md_core.specs.Interleaving.{NoneOverwritten, IsWhole, IsCopied}
 use Rattle.md_core.proofs.Theorem.RunLaw as of_runs
-use Rattle.md_core.specs.Bounds.{most_over, most_steps}
-use Rattle.md_core.specs.Tracing.{trace_of}
 use Rattle.md_core.proofs.Runs.ByEvent.{moment-end}
 use Rattle.md_core.proofs.Worlds.Loading.Loaded.{loaded-one_path}
 use Rattle.md_core.proofs.Traces.Same.{many-steps, same-jobs, state-same, effects-same, done-step}
 use Rattle.md_core.proofs.Traces.Stands.{answered-of, ended, turn-of}
-use Rattle.md_core.proofs.Traces.Few.{count-map, place-map}
+use Rattle.md_core.proofs.Traces.Few.{count-map}
+use Rattle.md_core.proofs.Traces.Begun.{begins-same}
 use Rattle.md_core.proofs.Traces.Clock.{forward}
 use Rattle.md_core.proofs.Traces.Headline.{theorem, box-same, law-of}
 use Rattle.md_core.proofs.Induction.GoodRuns.{accepted-at}
-
--- the moment of a job's first step, or the last moment where it has taken none
-abbrev pub begins_at : Trace → ℕ → ℕ
-begins_at t job = position_or_len (λ (x : Step). x.job == job) t.steps
 
 module _ (r : Run) (run : IsRun r) where
   abbrev t : Trace
@@ -88,13 +72,8 @@ module _ (r : Run) (run : IsRun r) where
       count-map (λ (x : Step). x.job) job t.steps ∙ ap (count_by (λ m. m == job)) (same-jobs r run)
       ∙ sym (count-map (λ (e : Occurrence). e.event.job) job r.events)
 
-  pub begins-same : (job : ℕ) → begins_at t job ≡ first_step r job
-  begins-same job =
-      place-map (λ (x : Step). x.job) job t.steps ∙ ap (position_or_len (λ m. m == job)) (same-jobs r run)
-      ∙ sym (place-map (λ (e : Occurrence). e.event.job) job r.events)
-
   most-is : (job : ℕ) (c : Call) → most_steps t job c ≡ of_runs.most_steps r job c
-  most-is job c = ap (λ (s : State). most_over s c) (ap (state t) (begins-same job) ∙ state-same r run (first_step r job))
+  most-is job c = ap (λ (s : State). most_over s c) (ap (state t) (begins-same r run job) ∙ state-same r run (first_step r job))
 
   pub bounded : (job : ℕ) (c : Call) → call_at t.calls job ≡ Some c → steps_of t job ≤ most_steps t job c
   bounded job c of =

@@ -1,14 +1,7 @@
 -- What the clauses refuse: of a trace of which the theorem holds none of these can be so.
 use Rattle.std.proofs.Common.{ℕ, ◌≡◌, ◌≢◌, ◌<◌, ◌+◌, ◌-◌, inl, inr, List, Some, None, true, false, sym, ap, subst, ◌∙◌, is_some, slice_get, arith}
-use Rattle.md_dirs.specs.Rows.{rows_of}
-use Rattle.md_core.proofs.Values.{Path, Row, Call, Answer}
-use Rattle.md_dirs.specs.declared.paths.Place.TheVariants.{Tmp}
+use Rattle.md_core.proofs.Values.{Path, Row, Call, Answer, rows_of, Tmp, is_tmp, is_message, list, call_at, Trace, Step, IsStepOf, IsAnswered, step_at, state, box, file_in, steps_of, is_success, Interleaves, MayChange, most_steps}
 use Rattle.md_jobs.specs.declared.call.Call.TheVariants.{Clean, Expunge}
-use Rattle.md_core.specs.Mailbox.{is_tmp, is_message}
-use Rattle.md_jobs.specs.Asked.{list}
-use Rattle.md_core.specs.Trace.{call_at, Trace, Step, IsStepOf, IsAnswered, step_at, state, box, file_in, steps_of}
-use Rattle.md_core.specs.Interleaving.{is_success, Interleaves, MayChange}
-use Rattle.md_core.specs.Bounds.{most_steps}
 
 module _ (t : Trace) (atomic : Interleaves t) where
   -- a job that takes effect twice

@@ -1,17 +1,11 @@
 -- A trace shows the run: its steps are what the events did, and its directories and effects those of the machine at each moment.
 use Rattle.std.proofs.Common.{ℕ, zero, suc, ◌≡◌, ◌<◌, ◌≤◌, ◌+◌, ◌++◌, List, [], ◌∷◌, Option, Some, None, refl, sym, ap, subst, ◌∙◌, map, length, take, slice_get, arith}
-use Rattle.std.specs.List.{filter_map}
-use Rattle.std.specs.Option.{option_to_list, option_map, option_and_then}
 use Rattle.std.proofs.lemmas.List.{append-nil, append_assoc, map-append, take_all, take_at}
 use Rattle.std.proofs.lemmas.Option.{slice_get_within, slice_get_past}
-use Rattle.md_core.proofs.Values.{State, Task}
-use Rattle.md_jobs.specs.declared.effect.Effect.{Effect}
-use Rattle.md_jobs.specs.Asked.{ask_of, state_by}
-use Rattle.md_core.specs.Machine.{Machine, working, Occurrence, job_at, after_event, step_of, step_by}
+use Rattle.md_core.proofs.Values.{State, Task, Effect, ask_of, state_by, Machine, working, Occurrence, job_at, after_event, step_of, step_by, IsRun, filter_map, option_to_list, option_and_then}
 use Rattle.md_core.specs.Trace.{Step, Trace, step_at, state_after, state, effects}
 use Rattle.md_core.specs.Runs.{Run, beginning, run_from, machine_at, done_at}
 use Rattle.md_core.specs.Tracing.{deeds_from, trace_of}
-use Rattle.md_core.specs.Stepping.{IsRun}
 use Rattle.md_core.proofs.Lists.Places.{at_place, get-take, get-pushed, take-one_more}
 use Rattle.md_core.proofs.Runs.Events.{goes_on-exact, happens-turned, done-turned}
 use Rattle.md_core.proofs.Runs.ByEvent.{at_moment, moment-start, run_from-more_event}
@@ -35,7 +29,7 @@ deeds-append m (x ∷ es) fs =
     ap (λ ds. option_to_list (step_of m x) ++ ds) (deeds-append (after_event m x) es fs)
     ∙ sym (append_assoc (option_to_list (step_of m x)) (deeds_from (after_event m x) es) (deeds_from (run_from (after_event m x) es) fs))
 
-deeds-none : (m : Machine) → deeds_from m [] ≡ []
+pub deeds-none : (m : Machine) → deeds_from m [] ≡ []
 unfolding deeds_from
 deeds-none m = refl
 
@@ -63,11 +57,6 @@ effects-more (y ∷ xs) x = by (effects-more xs x) y.effect
         ≡ filter_map (λ (z : Step). z.effect) (record y { effect = o } ∷ xs) ++ option_to_list x.effect
     by rest None = rest
     by rest (Some e) = ap (λ es. e ∷ es) rest
-
-get-map : {X Y : Type 0} (f : X → Y) (xs : List X) (k : ℕ) → slice_get (map f xs) k ≡ option_map f (slice_get xs k)
-get-map f [] k = refl
-get-map f (x ∷ xs) zero = refl
-get-map f (x ∷ xs) (suc k) = get-map f xs k
 
 module _ (r : Run) (run : IsRun r) where
   -- the steps of some events, and the machine behind them

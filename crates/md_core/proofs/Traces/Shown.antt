@@ -1,11 +1,6 @@
 -- What a world shows is what the trace of its run says.
 use Rattle.std.proofs.Common.{ℕ, ◌≡◌, Option, Some, None, refl, sym, ap, ◌∙◌, length}
-use Rattle.md_jobs.specs.declared.answer.Answer.{Answer}
-use Rattle.md_core.specs.Machine.{Machine, Standing, working, answered, job_at}
-use Rattle.md_core.specs.Runs.{Run, dirs_of, jobs_of, effects_of, answer_of}
-use Rattle.md_core.specs.Stepping.{IsRun}
-use Rattle.md_core.specs.Trace.{IsAnswered, state, effects}
-use Rattle.md_core.specs.Tracing.{trace_of, IsShown}
+use Rattle.md_core.proofs.Values.{Answer, Machine, Standing, working, answered, job_at, Run, dirs_of, jobs_of, effects_of, answer_of, IsRun, IsAnswered, state, effects, trace_of, IsShown}
 use Rattle.md_core.proofs.Runs.ByEvent.{moment-end}
 use Rattle.md_core.proofs.Traces.Same.{many-steps, state-same, effects-same}
 use Rattle.md_core.proofs.Traces.Clock.{logged}

@@ -1,26 +1,16 @@
 -- Steps and answers of a trace are those of its run.
 use Rattle.std.proofs.Common.{ℕ, zero, suc, ◌≡◌, ◌<◌, ◌+◌, ◌-◌, Option, Some, sym, ap, subst, ◌∙◌, length, arith}
 use Rattle.std.proofs.lemmas.Option.{slice_get_within}
-use Rattle.md_core.proofs.Values.{Call, Answer}
-use Rattle.md_core.specs.Machine.{Machine, Standing, working, answered, job_at, standing_of}
-use Rattle.md_core.specs.Trace.{Step, call_at, Trace, IsStepOf, IsAnswered}
-use Rattle.md_core.specs.Runs.{Run, machine_at, jobs_of}
-use Rattle.md_core.proofs.Answers.OfRun.{IsStep}
-use Rattle.md_core.specs.Stepping.{IsRun}
-use Rattle.md_core.specs.Tracing.{trace_of}
+use Rattle.md_core.proofs.Values.{Call, Answer, Machine, Standing, working, answered, job_at, standing_of, Step, call_at, Trace, IsStepOf, IsAnswered, Run, machine_at, jobs_of, IsRun, trace_of}
 use Rattle.md_core.proofs.Lists.Places.{at_place}
 use Rattle.md_core.proofs.Runs.ByEvent.{moment-end, length-jobs_of}
-use Rattle.md_core.proofs.Answers.LastStep.{IsTurn, last-step, by_event, left_by, is_within, done_in, done-in, stands-after}
+use Rattle.md_core.proofs.Answers.LastStep.{IsTurn, is-step, last-step, by_event, left_by, is_within, done_in, stands-after}
 use Rattle.md_core.proofs.Answers.Moments.{turn-done}
-use Rattle.md_core.proofs.Traces.Same.{step-done, done-step}
+use Rattle.md_core.proofs.Traces.Same.{step-done}
 
 module _ (r : Run) (run : IsRun r) where
   abbrev t : Trace
   t = trace_of r
-
-  -- steps of a job
-  abbrev pub to-step : (job k : ℕ) → IsStep r job k → IsStepOf t job k
-  to-step job k x = record { step = x.what; at = done-step r run k x.what x.at; own = x.own }
 
   -- a step is a turn of its job
   pub turn-of : (job k : ℕ) (x : IsStepOf t job k) → (u : IsTurn r k job) × (x.step ≡ done_in r k job u)
@@ -32,15 +22,7 @@ module _ (r : Run) (run : IsRun r) where
   pub answered-of : (job : ℕ) (a : Answer) → job_at (jobs_of r) job ≡ Some (answered a) → IsAnswered t job a
   answered-of job a is =
       let last = last-step r run job a is in
-      record {
-        k = last.k;
-        last = record {
-          step = done_in r last.k job last.turn;
-          at = done-step r run last.k (done_in r last.k job last.turn) (done-in r last.k job last.turn);
-          own = last.turn.own;
-        };
-        answer = last.answer;
-      }
+      record { k = last.k; last = is-step r run last.k job last.turn; answer = last.answer }
 
   -- an answer stays
   stays : (k d job : ℕ) (a : Answer) → job_at (machine_at r k).jobs job ≡ Some (answered a) → job_at (machine_at r (k + d)).jobs job ≡ Some (answered a)

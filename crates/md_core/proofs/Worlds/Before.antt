@@ -1,16 +1,7 @@
 -- The names that are used up before a call, whether a world keeps them or not.
 use Rattle.std.proofs.Common.{ℕ, ◌≡◌, ◌∙◌, ◌||◌, List, Bool, sym, ap, subst}
-use Rattle.md_core.proofs.Values.{Effect, Event}
-use Rattle.md_dirs.specs.Calls.{Device}
-use Rattle.md_core.specs.Gathering.{holds, is_used_before}
-use Rattle.md_core.specs.Machine.{Machine}
-use Rattle.md_core.specs.Standing.{JobView}
-use Rattle.md_core.specs.Runs.{Run}
-use Rattle.md_core.specs.Submitting.{is_used}
-use Rattle.md_core.specs.Used.{is_among}
-use Rattle.md_core.specs.declared.used.Used.{Used}
+use Rattle.md_core.proofs.Values.{Effect, Event, Machine, Run, is_among, Device, holds, is_used_before, JobView, is_used, Used, IsWorld, AreUsed, run_of, machine_by}
 use Rattle.md_core.specs.declared.used.Used.TheVariants.{Leaving, All}
-use Rattle.md_core.specs.Worlds.{IsWorld, AreUsed, run_of, machine_by}
 use Rattle.md_core.proofs.Induction.Good.{IsGood}
 use Rattle.md_core.proofs.Induction.GoodRuns.{good-machine}
 use Rattle.md_core.proofs.Machines.EachTurn.{each-turn}

@@ -1,13 +1,6 @@
 -- What a world's fields say of the checks of its run.
 use Rattle.std.proofs.Common.{ℕ, ◌≡◌, ◌∙◌, List, Bool, ap}
-use Rattle.md_jobs.specs.declared.effect.Effect.{Effect}
-use Rattle.md_jobs.specs.declared.step.Event.{Event}
-use Rattle.md_dirs.specs.Calls.{Device}
-use Rattle.md_core.specs.Machine.{Machine}
-use Rattle.md_core.specs.Standing.{JobView}
-use Rattle.md_core.specs.Runs.{Run}
-use Rattle.md_core.specs.declared.used.Used.{Used}
-use Rattle.md_core.specs.Worlds.{IsWorld, run_of, machine_by}
+use Rattle.md_core.proofs.Values.{Effect, Event, Machine, Run, Device, JobView, Used, IsWorld, run_of, machine_by}
 use Rattle.md_core.proofs.Machines.EachTurn.{each-turn}
 use Rattle.md_core.proofs.Theorem.LawHolds.{folders-stay}
 

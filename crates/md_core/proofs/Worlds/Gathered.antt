@@ -1,14 +1,7 @@
 -- The names that entries use up, one after another.
 use Rattle.std.proofs.Common.{ℕ, ◌≡◌, ◌+◌, ◌∙◌, List, [], Some, Bool, true, false, ◌||◌, take, slice_get, refl, sym, ap}
-use Rattle.std.specs.List.{list_any}
-use Rattle.std.specs.Str.{bytes_eq}
 use Rattle.std.proofs.lemmas.List.Sorted.{list_any-IsPermutation}
-use Rattle.md_dirs.specs.Path.{path_of}
-use Rattle.md_core.proofs.Values.{State, Place, Row}
-use Rattle.md_core.specs.Gathering.{AreOf}
-use Rattle.md_core.specs.Looking.{entries_before}
-use Rattle.md_core.specs.Submitting.{uses}
-use Rattle.md_core.specs.Used.{is_among}
+use Rattle.md_core.proofs.Values.{State, Place, Row, path_of, is_among, list_any, bytes_eq, AreOf, entries_before, uses}
 use Rattle.md_core.proofs.Lists.Places.{take-one_more}
 use Rattle.md_core.proofs.Worlds.Loading.Lying.{Follows, IsUnordered}
 use Rattle.md_core.proofs.Worlds.Loading.Order.{before-none}

@@ -1,20 +1,9 @@
 -- Which names directories use up, by what look-ups of them tell.
 use Rattle.std.proofs.Common.{ℕ, ◌≡◌, ◌<◌, ◌+◌, ◌∙◌, inl, inr, List, [], ◌∷◌, Option, Some, None, Bool, true, false, is_some, ◌||◌, refl, sym, ap, subst, arith}
-use Rattle.std.specs.List.{list_any}
-use Rattle.std.specs.Option.{option_map, option_and_then}
-use Rattle.std.specs.Str.{bytes_eq}
-use Rattle.std.specs.FinMap.{get, entries}
 use Rattle.std.proofs.lemmas.Bool.{cases_lt, and_parts, and_from}
 use Rattle.std.proofs.lemmas.Slice.Eq.{bytes_eq-Decides}
-use Rattle.md_dirs.specs.Path.{path_of}
-use Rattle.md_dirs.specs.State.{bytes_at_path}
-use Rattle.md_dirs.specs.declared.paths.File.{File}
-use Rattle.md_dirs.specs.declared.paths.Path.{Path}
 use Rattle.md_dirs.proofs.PathOrder.{path_total, path_exact}
-use Rattle.md_core.proofs.Values.{State, IsSound, Place, Tmp, New, Cur, file_at, file_by}
-use Rattle.md_name.specs.Names.{unique_of}
-use Rattle.md_core.specs.Looking.{is_message_of, is_tmp_of}
-use Rattle.md_core.specs.Mailbox.{Entry, mailbox_of, entry_of, is_tmp, is_message, HasOnePath}
+use Rattle.md_core.proofs.Values.{State, IsSound, Place, Tmp, New, Cur, file_at, file_by, path_of, bytes_at_path, Path, unique_of, Entry, mailbox_of, entry_of, is_tmp, is_message, HasOnePath, list_any, option_map, option_and_then, bytes_eq, get, entries, File, is_message_of, is_tmp_of}
 use Rattle.lists.proofs.Members.{Has, get-has, has-get}
 use Rattle.md_core.proofs.Mailbox.Shown.{mailbox-shows, shows-mailbox}
 

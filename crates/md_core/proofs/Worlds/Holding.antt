@@ -1,45 +1,28 @@
 -- Which names directories use up, before a turn of a job and after it.
 use Rattle.std.proofs.Common.{ℕ, ◌≡◌, ◌≢◌, ◌<◌, ◌&&◌, ◌||◌, inl, inr, List, [], ◌∷◌, Option, Some, None, Bool, true, false, cond, not}
 use Rattle.std.proofs.Common.{is_some, map, filter, refl, sym, ap, ◌∙◌}
-use Rattle.std.specs.FinMap.{entries}
-use Rattle.std.specs.Str.{bytes_eq}
 use Rattle.std.proofs.lemmas.Bool.{and_parts, and_from}
 use Rattle.std.proofs.lemmas.Slice.Eq.{bytes_eq-Decides}
-use Rattle.std.specs.List.{list_any}
 use Rattle.std.specs.List.Sorted.{IsPermutation}
 use Rattle.std.proofs.lemmas.List.Sorted.{list_any-IsPermutation}
-use Rattle.md_dirs.specs.Calls.{after_rename, after_unlink}
-use Rattle.md_dirs.specs.Rows.{is_in, row_of, rows_of}
 use Rattle.md_dirs.proofs.PathOrder.{path_total, path_exact}
 use Rattle.lists.proofs.Members.{get-has, has-get}
-use Rattle.md_name.specs.Names.{unique_of, flagged, is_message_name}
 use Rattle.md_name.proofs.Flagged.{unique_of-flagged}
-use Rattle.md_jobs.specs.Asked.{Asked, unlink, ask_of, state_by}
 use Rattle.md_jobs.specs.Machines.Errand.{asked_of, stage_turn}
-use Rattle.md_jobs.specs.Machines.Purposes.{deed_by, info_in, shown, wanted}
 use Rattle.md_jobs.specs.Machines.Clean as cleaned_by
-use Rattle.md_jobs.specs.Tasks.Cleaning.{Cleaning}
 use Rattle.md_jobs.specs.Tasks.Cleaning as cleaning
 use Rattle.md_jobs.specs.Tasks.Deed as deed
 use Rattle.md_jobs.specs.Tasks.Errand.{Errand as ErrandOf, Stage, Look, Act}
 use Rattle.md_jobs.specs.declared.call.Call.TheVariants as call
-use Rattle.md_jobs.specs.Tasks.Purpose.{Purpose, Seen, Flag, Move, Copy, Expunge}
-use Rattle.md_jobs.specs.Turn.{reply_of}
+use Rattle.md_jobs.specs.declared.purpose.Purpose.TheVariants.{Seen, Flag, Move, Copy, Expunge}
 use Rattle.md_jobs.specs.declared.step.DirReply.TheVariants as reply
-use Rattle.md_core.proofs.Values.{State, IsSound, file_at, file_by, Path, path_of, Place, Tmp, Cur, Row, Call, DirReply, Moment}
-use Rattle.md_core.specs.Tasks.Task.{Task, Deliver, Errand, Clean}
-use Rattle.md_core.specs.Accepting.{name_used, MakesMessage}
-use Rattle.md_core.specs.Gathering.{holds, keeps_few, may_take}
-use Rattle.md_core.specs.Machine.{turn_of}
-use Rattle.md_core.specs.Mailbox.{is_tmp, is_message, HasOnePath}
-use Rattle.md_core.specs.Submitting.{uses}
-use Rattle.md_core.specs.Used.{is_among}
+use Rattle.md_core.proofs.Values.{State, IsSound, file_at, file_by, Path, path_of, Place, Tmp, Cur, Row, Call, DirReply, Moment, is_in, row_of, rows_of, unique_of, flagged, is_message_name, Asked, unlink, ask_of, state_by, reply_of, Task, Deliver, Errand, Clean, name_used, MakesMessage, turn_of, is_tmp, is_message, HasOnePath, is_among, entries, bytes_eq, list_any, after_rename, after_unlink, deed_by, info_in, shown, wanted, Cleaning, Purpose, holds, keeps_few, may_take, uses}
 use Rattle.md_core.proofs.Answers.Files.Asking.{asks-fair, creates}
 use Rattle.md_core.proofs.Answers.Files.Tmp.{touches}
 use Rattle.md_core.proofs.Directories.Calls.Unlink.{unlink-frame}
 use Rattle.md_core.proofs.Directories.Frames.{Frame}
 use Rattle.md_core.proofs.Induction.Good.{ErrandFits, TaskFits}
-use Rattle.md_core.proofs.Looking.LookUps.{unique-part, message-name, in-path}
+use Rattle.md_core.proofs.Looking.LookUps.{unique-part, message-name, in-path, name-row, path-in}
 use Rattle.md_core.proofs.Machines.Errand.Moves.{Moves, moves}
 use Rattle.md_core.proofs.Machines.Errand.Table.Calls.{on}
 use Rattle.md_core.proofs.Machines.Errand.Table.Deeds.{deed-fits}
@@ -48,7 +31,6 @@ use Rattle.md_core.proofs.Machines.Errand.Turns.{deed-there}
 use Rattle.md_core.proofs.Mailbox.Changes.{by_name}
 use Rattle.md_core.proofs.Worlds.Held.{has-any, any-none, never}
 use Rattle.md_core.proofs.Worlds.Loading.Loaded.{none-has}
-use Rattle.md_core.proofs.Worlds.Loading.Rows.{row_name, in-is}
 
 same-none : (a b : Bool) → (a ≡ false → b ≡ false) → (b ≡ false → a ≡ false) → a ≡ b
 same-none true true h k = refl
@@ -255,7 +237,7 @@ module _ (s : State) (folder : ℕ) (u : List ℕ) where
       by : (b : Bool) → list_any is_named (map (row_of s.files) (filter (λ x. is_in folder Tmp x.0) es)) ≡ list_any is_there es →
           list_any is_named (map (row_of s.files) (cond b (e ∷ filter (λ x. is_in folder Tmp x.0) es) (filter (λ x. is_in folder Tmp x.0) es)))
           ≡ ((b && bytes_eq e.0.name u) || list_any is_there es)
-      by true rest = (λ i. bytes_eq (row_name e.0.name (file_by s.files e.1) i) u || rest i)
+      by true rest = (λ i. bytes_eq (name-row e.0.name (file_by s.files e.1) i) u || rest i)
       by false rest = rest
 
   named-there : list_any is_there (entries s.names) ≡ is_some (file_at s (path_of folder Tmp u))
@@ -270,7 +252,7 @@ module _ (s : State) (folder : ℕ) (u : List ℕ) where
           never (is_there x) (λ is.
           let parts = and_parts (is_in folder Tmp x.0) (bytes_eq x.0.name u) is in
           let same = (bytes_eq-Decides x.0.name u).0 parts.1 in
-          let here : x.0 ≡ path_of folder Tmp u = in-is folder Tmp x.0 parts.0 ∙ ap (path_of folder Tmp) same in
+          let here : x.0 ≡ path_of folder Tmp u = path-in folder Tmp x.0 parts.0 ∙ ap (path_of folder Tmp) same in
           let some : file_at s (path_of folder Tmp u) ≡ Some x.1 =
           ap (file_at s) (sym here) ∙ has-get path_total path_exact s.names x has in
           cc))

@@ -1,24 +1,13 @@
 -- What a quick look finds of names, and what that says of all directories.
 use Rattle.std.proofs.Common.{ℕ, ◌≡◌, ◌≢◌, ◌+◌, ◌∙◌, inl, inr, List, [], ◌∷◌, ◌++◌, Option, Some, None, Bool, true, false, cond, not, is_some, ◌&&◌, ◌||◌, ◌==◌, IsSome, nat_lt, max, length, filter, refl, sym, ap, subst, arith}
-use Rattle.std.specs.List.{list_any}
-use Rattle.std.specs.FinMap.{entries}
 use Rattle.std.proofs.lemmas.Bool.{cases_lt, or_parts, and_parts, not-true, eq-eqb, eqb-true}
 use Rattle.std.proofs.lemmas.Bool.Decides.{nat_tests}
 use Rattle.std.proofs.lemmas.List.Sorted.{list_any-IsPermutation}
 use Rattle.std.proofs.lemmas.List.Sums.{fold-append}
 use Rattle.md_dirs.specs.Once.{HoldsEachOnce}
-use Rattle.md_dirs.specs.Path.{path_of}
-use Rattle.md_dirs.specs.Rows.{is_in, rows_of, row_named}
-use Rattle.md_dirs.specs.declared.paths.Path.{Path}
 use Rattle.md_dirs.proofs.PathOrder.{path_total, path_exact}
-use Rattle.md_core.proofs.Values.{State, IsSound, Place, Tmp, New, Cur, Row, file_at, file_by}
-use Rattle.md_name.specs.Names.{unique_of, is_message_name}
-use Rattle.md_core.specs.Loading.{is_bad_name, is_long_unique, load_refusal}
-use Rattle.md_core.specs.Mailbox.{is_tmp, is_message, HasOnePath}
-use Rattle.md_core.specs.Quick.{IsQuickLook, AreBare, AreFree, AreSingle, has_fault}
-use Rattle.md_core.specs.Runs.{stamp_of, first_clock}
+use Rattle.md_core.proofs.Values.{State, IsSound, Place, Tmp, New, Cur, Row, file_at, file_by, path_of, is_in, rows_of, row_named, Path, unique_of, is_message_name, is_tmp, is_message, HasOnePath, stamp_of, first_clock, list_any, entries, is_bad_name, is_long_unique, load_refusal, IsQuickLook, AreBare, AreFree, AreSingle, has_fault, entries_before}
 use Rattle.lists.proofs.Members.{Has, get-has}
-use Rattle.md_core.specs.Looking.{entries_before}
 use Rattle.md_core.proofs.Lists.Permuted.{greatest-moved}
 use Rattle.md_core.proofs.Looking.LookUps.{in-path, no-row}
 use Rattle.md_core.proofs.Settling.Loadable.{IsGoodPath, IsLoadable, loadable-loads}

@@ -1,22 +1,10 @@
 -- A world after one turn of a job keeps what a world keeps, of the run with one more event.
 use Rattle.std.proofs.Common.{ℕ, zero, suc, ◌≡◌, ◌<◌, ◌+◌, ◌-◌, ◌++◌, ◌||◌, ◌∙◌, List, [], ◌∷◌, Option, Some, None, Bool, true, false, cond, is_some, refl, sym, ap, subst, length, slice_get, slice_set, arith, map, length-append}
 use Rattle.std.specs.Prelude.{count_by}
-use Rattle.std.specs.Option.{option_to_list, option_map}
 use Rattle.std.proofs.lemmas.List.Sums.{sum_by_push}
 use Rattle.md_jobs.specs.declared.error.CoreError.TheVariants.{Answered}
-use Rattle.md_core.proofs.Values.{State, Answer, DirReply, Event, Moment, StepOut, Task}
-use Rattle.md_jobs.specs.declared.effect.Effect.{Effect}
-use Rattle.md_dirs.specs.Calls.{Device}
-use Rattle.md_jobs.specs.Turn.{Turn, After, rows_for}
-use Rattle.md_jobs.specs.Asked.{is_fault}
-use Rattle.md_core.specs.Machine.{Machine, Standing, working, answered, is_working, Occurrence, moment_of, standing_of, after_event, after_turn, turn_of, job_at, step_of, step_out}
-use Rattle.md_core.specs.Standing.{JobView, TakesTurn, standings}
-use Rattle.md_core.specs.Runs.{Run, machine_of, jobs_of, failures_of, and_event, step_refusal, answer_of}
-use Rattle.md_core.specs.Gathering.{holds, may_take}
-use Rattle.md_core.specs.Used.{is_among}
-use Rattle.md_core.specs.declared.used.Used.{Used}
+use Rattle.md_core.proofs.Values.{State, Answer, DirReply, Event, Moment, StepOut, Task, Effect, Turn, After, rows_for, is_fault, Machine, Standing, working, answered, is_working, Occurrence, moment_of, standing_of, after_event, after_turn, turn_of, job_at, step_of, step_out, Run, machine_of, jobs_of, failures_of, and_event, step_refusal, answer_of, is_among, option_to_list, option_map, Device, JobView, TakesTurn, standings, holds, may_take, Used, IsWorld, AreLeaving, AreUsed, run_of, machine_by, occurrences}
 use Rattle.md_core.specs.declared.used.Used.TheVariants.{Leaving, All}
-use Rattle.md_core.specs.Worlds.{IsWorld, AreLeaving, AreUsed, run_of, machine_by, occurrences}
 use Rattle.md_core.proofs.Induction.Good.{IsGood, TaskFits}
 use Rattle.md_core.proofs.Runs.Events.{goes_on-exact, happens-turned, done-turned, job_at-place}
 use Rattle.md_core.proofs.Runs.ByEvent.{machine-and_event}
@@ -70,26 +58,36 @@ pub moment-is : (clock : ℕ) (e : Event) (at : Moment) → at.clock ≡ (moment
     moment_of clock e ≡ at
 moment-is clock e at c o = λ i. record { clock = sym c i; own = sym o i }
 
-module _ (first : Device) (began : ℕ) (jobs : List JobView) (events : List Event) (marks : List Bool) (held : Device) (clock : ℕ) (effects : List Effect)
-    (used : Used)
-    (event : Event) (place : ℕ) (is : place + 1 ≡ event.job) (job : JobView) (there : slice_get jobs place ≡ Some job)
-    (out : StepOut) (effect : Option Effect) (job' : JobView) (held' : Device) where
-  abbrev pub run : Run
+module _ (first : Device) (began : ℕ) (jobs : List JobView) (events : List Event) (marks : List Bool) (clock : ℕ) (effects : List Effect)
+    (used : Used) (event : Event) (place : ℕ) (out : StepOut) (effect : Option Effect) (job' : JobView) (held' : Device) where
+  abbrev run : Run
   run = run_of first began jobs events marks
 
-  abbrev pub kept : Machine
-  kept = machine_by held clock jobs effects
-
-  abbrev pub marked_event : Occurrence
+  abbrev marked_event : Occurrence
   marked_event = record { event = event; faulted = is_fault out.reply }
 
   abbrev at : Moment
   at = moment_of clock event
 
-  abbrev pub kept' : Machine
+  abbrev run' : Run
+  run' = run_of first began (slice_set jobs place job') (events ++ event ∷ []) (marks ++ is_fault out.reply ∷ [])
+
+  abbrev kept' : Machine
   kept' = machine_by held' at.clock (slice_set jobs place job') (effects ++ option_to_list effect)
 
-  module _ (world : IsWorld run kept held used events marks) (turned : TakesTurn event.job at job held out effect job' held') where
+  -- the world after the turn: its run is the run with one more event, which the job was free to take, and this is shown of it
+  pub record Stepped : Type 0 where
+    pub run_is : run' ≡ and_event run marked_event
+    pub world : IsWorld run' kept' held' used (events ++ event ∷ []) (marks ++ is_fault out.reply ∷ [])
+    pub goes : step_refusal (job_at (jobs_of run) event.job) ≡ None
+    pub shown : option_map step_out (step_of (machine_of run) marked_event) ≡ Some out
+
+  module _ (held : Device) (is : place + 1 ≡ event.job) (job : JobView) (there : slice_get jobs place ≡ Some job)
+      (world : IsWorld run (machine_by held clock jobs effects) held used events marks)
+      (turned : TakesTurn event.job at job held out effect job' held') where
+    abbrev kept : Machine
+    kept = machine_by held clock jobs effects
+
     abbrev turn : Turn Task
     turn = turn_of event.job turned.task at
 
@@ -99,8 +97,7 @@ module _ (first : Device) (began : ℕ) (jobs : List JobView) (events : List Eve
     at_number : job_at kept.jobs event.job ≡ Some (working turned.task)
     at_number = let e : suc place ≡ event.job = omega arith in ap (job_at kept.jobs) (sym e) ∙ standing-at jobs place job there ∙ ap Some turned.was
 
-    -- the run of the world's fields after the turn is the run with one more event
-    pub run-after : run_of first began (slice_set jobs place job') (events ++ event ∷ []) (marks ++ is_fault out.reply ∷ []) ≡ and_event run marked_event
+    run-after : run' ≡ and_event run marked_event
     run-after = λ i. record {
       image = first.state;
       clock = began;
@@ -113,9 +110,9 @@ module _ (first : Device) (began : ℕ) (jobs : List JobView) (events : List Eve
     goes-on : after_event kept marked_event ≡ kept'
     goes-on =
         happens-turned kept marked_event turned.task at_number
-        ∙ ap (after_turn kept event.job at turn) (sym turned.takes.replied)
+        ∙ ap (after_turn kept event.job at turn) (sym turned.takes.made.replied)
         ∙ (λ i. record {
-          dirs = sym turned.takes.state i;
+          dirs = sym turned.takes.made.state i;
           clock = at.clock;
           jobs = slice_set kept.jobs (place_is i) (standing_of (turned.takes.after i).task (turned.takes.after i).answer);
           effects = effects ++ option_to_list (turned.takes.after i).effect;
@@ -131,7 +128,7 @@ module _ (first : Device) (began : ℕ) (jobs : List JobView) (events : List Eve
         place_is : event.job - 1 ≡ place
         place_is = omega arith
 
-    pub refusal : step_refusal (job_at (jobs_of run) event.job) ≡ None
+    refusal : step_refusal (job_at (jobs_of run) event.job) ≡ None
     refusal = ap (λ (m : Machine). step_refusal (job_at m.jobs event.job)) (sym world.now) ∙
         (goes_on-exact (job_at kept.jobs event.job)).1 (turned.task, at_number)
 
@@ -150,13 +147,13 @@ module _ (first : Device) (began : ℕ) (jobs : List JobView) (events : List Eve
       taken = λ i call here u is. h.taken i call here u (
           sym (ap (λ (m : Machine). may_take m.dirs call u) world.now)
           ∙ may-still held.state job.call (h.calls place job.call called) good.sound event.job turned.task at fits out.reply call u (
-          sym (ap (λ (s : State). may_take s call u) turned.takes.state)
+          sym (ap (λ (s : State). may_take s call u) turned.takes.made.state)
           ∙ ap (λ (m : Machine). may_take m.dirs call u) moved ∙ is));
       used = λ u. ap (λ (m : Machine). is_among u names || holds m.dirs u) (sym moved)
-          ∙ ap (λ (s : State). is_among u names || holds s u) turned.takes.state
+          ∙ ap (λ (s : State). is_among u names || holds s u) turned.takes.made.state
           ∙ turn-holds held.state job.call (h.calls place job.call called) good.sound good.one_path at.clock (is_fault out.reply) names
           (λ v may. h.taken place job.call called v (sym (ap (λ (m : Machine). may_take m.dirs job.call v) world.now) ∙ may))
-          event.job turned.task at fits out.reply turned.takes.replied u
+          event.job turned.task at fits out.reply turned.takes.made.replied u
           ∙ ap (λ (m : Machine). is_among u names || holds m.dirs u) world.now ∙ h.used u;
     }
       where
@@ -177,18 +174,14 @@ module _ (first : Device) (began : ℕ) (jobs : List JobView) (events : List Eve
     stepped = record {
       run = is_run-and_event run marked_event world.run refusal;
       now = moved;
-      failed = failed (is_fault out.reply) turned.takes.failed world.failed ∙ ap (λ n. first.failures + n) (sym (count-push run.events marked_event));
-      called = simp length-append (let one = turned.takes.called in let all = world.called in omega arith);
+      failed = failed (is_fault out.reply) turned.takes.made.failed world.failed ∙ ap (λ n. first.failures + n) (sym (count-push run.events marked_event));
+      called = simp length-append (let one = turned.takes.made.called in let all = world.called in omega arith);
       names = still-used used world.names;
       as_many = simp length-append (let same = world.as_many in omega arith);
     }
 
-    pub step-world : IsWorld (run_of first began (slice_set jobs place job') (events ++ event ∷ []) (marks ++ is_fault out.reply ∷ [])) kept' held' used
-        (events ++ event ∷ []) (marks ++ is_fault out.reply ∷ [])
-    step-world = subst (λ (r : Run). IsWorld r kept' held' used (events ++ event ∷ []) (marks ++ is_fault out.reply ∷ [])) (sym run-after) stepped
-
     -- what is shown of the step
-    pub step-shown : option_map step_out (step_of (machine_of run) marked_event) ≡ Some out
+    step-shown : option_map step_out (step_of (machine_of run) marked_event) ≡ Some out
     step-shown =
         ap (λ (m : Machine). option_map step_out (step_of m marked_event)) (sym world.now)
         ∙ ap (option_map step_out) (done-turned kept marked_event turned.task at_number)
@@ -199,11 +192,19 @@ module _ (first : Device) (began : ℕ) (jobs : List JobView) (events : List Eve
           at = at;
           answer = (after r).answer;
           effect = (after r).effect;
-        }))) (sym turned.takes.replied)
+        }))) (sym turned.takes.made.replied)
         ∙ (λ i. Some (record { call = sym turned.takes.call i; reply = out.reply; answer = (turned.takes.after i).answer; effect = effect_is i }))
       where
         effect_is : is_some (after out.reply).effect ≡ out.effect
         effect_is = ap (λ (a : After Task). is_some a.effect) turned.takes.after ∙ sym turned.takes.is_effect
+
+    pub steps : Stepped
+    steps = record {
+      run_is = run-after;
+      world = subst (λ (r : Run). IsWorld r kept' held' used (events ++ event ∷ []) (marks ++ is_fault out.reply ∷ [])) (sym run-after) stepped;
+      goes = refusal;
+      shown = step-shown;
+    }
 
 -- how the job of a number stands, by the job at its place
 pub standing-number : (jobs : List JobView) (number : ℕ) (job : JobView) → 0 < number → slice_get jobs (number - 1) ≡ Some job →

@@ -1,12 +1,6 @@
 -- One step of a world: what it shows, and that a successful answer has its effect.
 use Rattle.std.proofs.Common.{◌≡◌, ◌∙◌, Option, Some, None, refl, sym, ap, subst}
-use Rattle.std.specs.Option.{option_map}
-use Rattle.md_core.proofs.Values.{Answer, Task}
-use Rattle.md_jobs.specs.declared.step.StepOut.{StepOut}
-use Rattle.md_core.specs.Machine.{Machine, working, answered, Occurrence, job_at, standing_of, step_of, step_by, step_out}
-use Rattle.md_core.specs.Trace.{Step, call_at}
-use Rattle.md_core.specs.Runs.{Run, machine_of, jobs_of, and_event, step_refusal}
-use Rattle.md_core.specs.Stepping.{IsRun, ShowsStep, Succeeds}
+use Rattle.md_core.proofs.Values.{Answer, Task, StepOut, Machine, working, answered, Occurrence, job_at, standing_of, step_of, step_by, step_out, Step, call_at, Run, machine_of, jobs_of, and_event, step_refusal, IsRun, ShowsStep, Succeeds, option_map}
 use Rattle.md_core.proofs.Theorem.RunLaw.{RunLaw}
 use Rattle.md_core.proofs.Induction.Good.{EachTurn}
 use Rattle.md_core.proofs.Runs.Events.{goes_on-exact, done-turned}

@@ -1,21 +1,9 @@
 -- A world with one more job keeps what a world keeps, of the run with one more call. And a world at its beginning.
 use Rattle.std.proofs.Common.{ℕ, ◌≡◌, ◌≤◌, ◌++◌, ◌∙◌, List, [], ◌∷◌, None, Bool, true, false, ◌||◌, refl, sym, ap, subst, arith}
-use Rattle.std.specs.List.{list_any}
 use Rattle.std.proofs.lemmas.List.{map-append}
-use Rattle.md_core.proofs.Values.{IsSound, Effect, Event}
-use Rattle.md_jobs.specs.declared.call.Call.{Call}
+use Rattle.md_core.proofs.Values.{IsSound, Effect, Event, Call, Machine, new_job, Run, beginning, machine_of, and_call, first_clock, effects_of, is_among, list_any, Device, JobView, job_of, load_refusal, submit_refusal, makes, is_used, Used, IsWorld, AreLeaving, AreUsed, run_of, machine_by, holds, keeps_few, may_take, KeepsLeaving, KeepsMade}
 use Rattle.md_jobs.specs.declared.call.Call.TheVariants.{Deliver, Copy}
-use Rattle.md_dirs.specs.Calls.{Device}
-use Rattle.md_core.specs.Machine.{Machine, new_job}
-use Rattle.md_core.specs.Standing.{JobView, job_of}
-use Rattle.md_core.specs.Runs.{Run, beginning, machine_of, and_call, first_clock, effects_of}
-use Rattle.md_core.specs.Loading.{load_refusal}
-use Rattle.md_core.specs.Submitting.{submit_refusal, makes, is_used}
-use Rattle.md_core.specs.Used.{is_among}
-use Rattle.md_core.specs.declared.used.Used.{Used}
 use Rattle.md_core.specs.declared.used.Used.TheVariants.{Leaving, All}
-use Rattle.md_core.specs.Worlds.{IsWorld, AreLeaving, AreUsed, run_of, machine_by}
-use Rattle.md_core.specs.Gathering.{holds, keeps_few, may_take, KeepsLeaving, KeepsMade}
 use Rattle.md_core.proofs.Lists.Places.{at_end}
 use Rattle.md_core.proofs.Worlds.Before.{used-before}
 use Rattle.md_core.proofs.Worlds.Holding.{may-holds}

@@ -1,9 +1,6 @@
 -- Many steps, one after another.
 use Rattle.std.proofs.Common.{ℕ, ◌≡◌, ◌+◌, ◌++◌, ◌∙◌, List, [], ◌∷◌, Some, Bool, sym, ap, take, slice_get, arith, append_assoc, length-append}
-use Rattle.md_jobs.specs.declared.step.Event.{Event}
-use Rattle.md_core.specs.Machine.{occurrence}
-use Rattle.md_core.specs.Runs.{Run, and_event}
-use Rattle.md_core.specs.Worlds.{TakesAll, occurrences}
+use Rattle.md_core.proofs.Values.{Event, occurrence, Run, and_event, TakesAll, occurrences}
 use Rattle.md_core.proofs.Lists.Places.{take-one_more}
 use Rattle.md_core.proofs.Worlds.Stepping.{marked-push}
 

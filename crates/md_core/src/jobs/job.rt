@@ -1,14 +1,13 @@
 //! Jobs: the call of each, for contracts alone, and how far it is.
-ghost use Rattle.std.specs.Prelude.{◌≡◌, ◌++◌, true, Some, IfOk, IfErr, OnErr};
-ghost use Rattle.std.specs.Option.{option_to_list};
-ghost use Rattle.md_jobs.specs.Turn.{IsUntouched};
+ghost use Rattle.std.specs.Prelude.{◌≡◌, true, Some};
+ghost use Rattle.md_jobs.specs.Turn.{TurnOf};
 ghost use Rattle.md_core.specs.Machine.{is_working, with_answer};
 ghost use Rattle.md_core.specs.Standing.{TakesTurn, job_of};
 ghost use Rattle.md_core.specs.Runs.{answer_of};
 
 use crate::jobs::task::Task;
 use md_dirs::Dirs;
-use md_jobs::{Answer, Call, CoreError, Effect, Image, JobId, Moment, Turned};
+use md_jobs::{Answer, Call, CoreError, Effect, JobId, Moment, Snapshot, Turned};
 use std::alloc::Global;
 use std::marker::Model;
 
@@ -22,7 +21,7 @@ pub(crate) enum Progress {
 /// A job. Its call is there for contracts alone, and takes no bytes.
 #[derive(Drop)]
 pub(crate) struct Job {
-    call: Image<Call>,
+    call: Snapshot<Call>,
     progress: Progress,
 }
 
@@ -44,7 +43,7 @@ impl Job {
         ensures { result ≡ job_of call }
     {
         Job {
-            call: Image::of(&call),
+            call: Snapshot::of(&call),
             progress: Progress::Working(Task::new(alloc, call)),
         }
     }
@@ -76,15 +75,8 @@ impl Job {
         effects: &mut Vec<Effect>,
     ) -> Result<Turned, CoreError>
         requires { is_working self.old.standing ≡ true }
-        ensures ok { IfOk result (λ t.
-            TakesTurn job at self.old (D.device dirs.old) t.out t.effect.value
-            self.new (D.device dirs.new)) }
-        ensures pushed { IfOk result (λ t. effects.new.items ≡ effects.old.items ++ option_to_list t.effect.value) }
-        ensures memory { IfErr result (λ e. e ≡ CoreError.NoMemory) }
-        ensures kept { OnErr result (effects.new.items ≡ effects.old.items) }
-        ensures job { OnErr result (self.new ≡ self.old) }
-        ensures dirs { OnErr result (IsUntouched (D.device dirs.old)
-            (D.device dirs.new)) }
+        ensures { TurnOf (λ t. TakesTurn job at self.old (D.device dirs.old) t.out t.effect.value self.new (D.device dirs.new))
+            self.old self.new effects.old.items effects.new.items (D.device dirs.old) (D.device dirs.new) result }
     {
         let Progress::Working(task) = &mut self.progress else {
             unreachable!()

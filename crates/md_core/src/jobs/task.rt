@@ -1,7 +1,6 @@
 //! Tasks: what a job that has no answer does, one kind for each call.
-ghost use Rattle.std.specs.Prelude.{◌≡◌, ◌++◌, IfOk, IfErr, OnErr};
-ghost use Rattle.std.specs.Option.{option_to_list};
-ghost use Rattle.md_jobs.specs.Turn.{TakesOrEnds, IsUntouched};
+ghost use Rattle.std.specs.Prelude.{◌≡◌};
+ghost use Rattle.md_jobs.specs.Turn.{TakesOrEnds, TurnOf};
 ghost use Rattle.md_core.specs.Tasks.Views.Tasks.{task_view};
 ghost use Rattle.md_core.specs.Machine.{turn_of, new_job, working};
 
@@ -89,15 +88,10 @@ impl Task {
         at: Moment,
         effects: &mut Vec<Effect>,
     ) -> Result<Turned, CoreError>
-        ensures ok { IfOk result (λ t.
+        ensures { TurnOf (λ t.
             TakesOrEnds (turn_of job (task_view self.old) at) at (D.device dirs.old) t.out t.effect.value
-            (task_view self.new) (D.device dirs.new)) }
-        ensures pushed { IfOk result (λ t. effects.new.items ≡ effects.old.items ++ option_to_list t.effect.value) }
-        ensures memory { IfErr result (λ e. e ≡ CoreError.NoMemory) }
-        ensures kept { OnErr result (effects.new.items ≡ effects.old.items) }
-        ensures task { OnErr result (self.new ≡ self.old) }
-        ensures dirs { OnErr result (IsUntouched (D.device dirs.old)
-            (D.device dirs.new)) }
+            (task_view self.new) (D.device dirs.new))
+            self.old self.new effects.old.items effects.new.items (D.device dirs.old) (D.device dirs.new) result }
     {
         match self {
             Task::Deliver(delivery) => delivery.turn(alloc, dirs, job, at, effects),

@@ -1,4 +1,4 @@
-// Whether directories hold a name that a new message may not have.
+//! Whether directories hold a name that a new message may not have.
 ghost use Rattle.std.specs.Prelude.{◌≡◌};
 ghost use Rattle.std.specs.List.{list_any};
 ghost use Rattle.std.specs.FinMap as finmap;

@@ -11,7 +11,7 @@ use crate::world::log::Log;
 use crate::world::looking::look;
 use crate::world::looking::quick::quick_look;
 use md_dirs::Dirs;
-use md_jobs::{CoreError, Image};
+use md_jobs::{CoreError, Snapshot};
 use std::alloc::Global;
 
 /// Directories that were not loaded, and why.
@@ -38,7 +38,7 @@ impl<D: Dirs> World<D> {
         if let Some(clock) = quick_look(alloc, &dirs) {
             return Ok(World {
                 alloc,
-                image: Image::of(&dirs),
+                image: Snapshot::of(&dirs),
                 dirs,
                 began: clock,
                 clock,
@@ -50,7 +50,7 @@ impl<D: Dirs> World<D> {
         match look(alloc, &dirs) {
             Ok(looked) => Ok(World {
                 alloc,
-                image: Image::of(&dirs),
+                image: Snapshot::of(&dirs),
                 dirs,
                 began: looked.clock,
                 clock: looked.clock,

@@ -1,4 +1,4 @@
-// The log of steps: events, which of them faulted, and effects.
+//! The log of steps: events, which of them faulted, and effects.
 ghost use Rattle.std.specs.Prelude.{◌≡◌, ◌<◌, ◌++◌, ◌∷◌, [], OnOk, vec_len, vec_capacity};
 ghost use Rattle.md_core.specs.Worlds.{HasRoom};
 

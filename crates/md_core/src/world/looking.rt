@@ -1,4 +1,4 @@
-// A look at all names of directories, before a world begins with them.
+//! A look at all names of directories, before a world begins with them.
 mod unordered;
 
 ghost use Rattle.std.specs.Prelude.{◌≡◌, [], ◌||◌, ◌+◌, max, true, Some, None, IfOk, IfErr, OnOk, MatchResult};

@@ -1,4 +1,4 @@
-// The bytes of one message, found by its unique name.
+//! The bytes of one message, found by its unique name.
 ghost use Rattle.std.specs.Prelude.{◌≡◌, true, false};
 ghost use Rattle.std.specs.Option.{option_map};
 ghost use Rattle.std.specs.FinMap as finmap;

@@ -1,4 +1,4 @@
-// Room for what a world keeps of each job and each step.
+//! Room for what a world keeps of each job and each step.
 ghost use Rattle.std.specs.Prelude.{◌≡◌, ◌<◌, OnOk, vec_len, vec_capacity};
 
 use std::alloc::AllocError;

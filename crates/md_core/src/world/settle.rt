@@ -10,7 +10,7 @@ use crate::used::Used;
 use crate::world::World;
 use crate::world::log::Log;
 use md_dirs::Dirs;
-use md_jobs::{Image, JobId};
+use md_jobs::{JobId, Snapshot};
 use thiserror::Error;
 
 /// Why a world does not settle.
@@ -67,7 +67,7 @@ impl<D: Dirs> World<D> {
         } = self;
         Ok(World {
             alloc,
-            image: Image::of(&dirs),
+            image: Snapshot::of(&dirs),
             dirs,
             began: clock,
             clock,

@@ -11,7 +11,7 @@ use Rattle.md_jobs.specs.Turn.{Turn, After, goes_on, ends}
 use Rattle.md_jobs.specs.Asked.{list, unlink}
 use Rattle.md_jobs.specs.declared.answer.Answer.TheVariants as answer
 use Rattle.md_jobs.specs.Machines.Refusals.{refuses}
-use Rattle.md_jobs.specs.Tasks.Refusal.{Fault}
+use Rattle.md_jobs.specs.declared.refusal.Refusal.TheVariants.{Fault}
 use Rattle.md_jobs.specs.Tasks.Cleaning.{Cleaning, Stage, Look, Remove}
 use Rattle.md_jobs.specs.declared.step.DirReply.{DirReply}
 use Rattle.md_jobs.specs.declared.step.DirReply.TheVariants as reply

@@ -15,7 +15,7 @@ use Rattle.md_jobs.specs.declared.step.Moment.{Moment}
 use Rattle.md_jobs.specs.declared.step.DirReply.{DirReply}
 use Rattle.md_jobs.specs.declared.step.DirReply.TheVariants as reply
 use Rattle.md_jobs.specs.Machines.Refusals.{refused_by, refuses}
-use Rattle.md_jobs.specs.Tasks.Refusal.{NameTaken, TimedOut, TmpGone, Fault}
+use Rattle.md_jobs.specs.declared.refusal.Refusal.TheVariants.{NameTaken, TimedOut, TmpGone, Fault}
 use Rattle.md_jobs.specs.Tasks.Delivery.{Delivery, Stage, Start, Writing, Linked, Undo}
 
 -- a delivery of a body under a unique name, not begun

@@ -14,12 +14,13 @@ use Rattle.md_jobs.specs.declared.effect.Change.{Change}
 use Rattle.md_jobs.specs.declared.effect.Change.TheVariants.{Add, Rename, Remove, Same}
 use Rattle.md_jobs.specs.declared.effect.Effect.{Effect}
 use Rattle.md_jobs.specs.Tasks.Errand.{Errand, Stage, Look, Act}
-use Rattle.md_jobs.specs.Tasks.Decision.{Decision}
-use Rattle.md_jobs.specs.Tasks.Decision as decision
+use Rattle.md_jobs.specs.declared.purpose.Decision.{Decision}
+use Rattle.md_jobs.specs.declared.purpose.Decision.TheVariants as decision
 use Rattle.md_jobs.specs.Tasks.Deed.{Deed}
 use Rattle.md_jobs.specs.Tasks.Deed as deed
-use Rattle.md_jobs.specs.Tasks.Purpose.{Purpose}
-use Rattle.md_jobs.specs.Tasks.Refusal.{Refusal, NotThere, NameTaken, Lost, Fault}
+use Rattle.md_jobs.specs.declared.purpose.Purpose.{Purpose}
+use Rattle.md_jobs.specs.declared.refusal.Refusal.{Refusal}
+use Rattle.md_jobs.specs.declared.refusal.Refusal.TheVariants.{NotThere, NameTaken, Lost, Fault}
 use Rattle.md_jobs.specs.declared.step.DirReply.{DirReply}
 use Rattle.md_jobs.specs.declared.step.DirReply.TheVariants as reply
 

@@ -12,11 +12,14 @@ use Rattle.md_name.specs.declared.info.Info.TheVariants.{Bare, Two, Opaque}
 use Rattle.md_jobs.specs.Sets.{is_same_set}
 use Rattle.md_jobs.specs.declared.answer.Answer.{Answer}
 use Rattle.md_jobs.specs.declared.answer.Answer.TheVariants as answer
-use Rattle.md_jobs.specs.Tasks.Decision.{Decision, Refuse, Keep, Act}
+use Rattle.md_jobs.specs.declared.purpose.Decision.{Decision}
+use Rattle.md_jobs.specs.declared.purpose.Decision.TheVariants.{Refuse, Keep, Act}
 use Rattle.md_jobs.specs.Tasks.Deed.{Deed}
 use Rattle.md_jobs.specs.Tasks.Deed as deed
-use Rattle.md_jobs.specs.Tasks.Purpose.{Purpose, Seen, Flag, Move, Copy, Expunge}
-use Rattle.md_jobs.specs.Tasks.Refusal.{Refusal, NotTrashed, OtherInfo}
+use Rattle.md_jobs.specs.declared.purpose.Purpose.{Purpose}
+use Rattle.md_jobs.specs.declared.purpose.Purpose.TheVariants.{Seen, Flag, Move, Copy, Expunge}
+use Rattle.md_jobs.specs.declared.refusal.Refusal.{Refusal}
+use Rattle.md_jobs.specs.declared.refusal.Refusal.TheVariants.{NotTrashed, OtherInfo}
 
 -- ---- the places
 

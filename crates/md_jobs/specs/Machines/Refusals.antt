@@ -2,7 +2,8 @@
 use Rattle.md_jobs.specs.Turn.{After, ends}
 use Rattle.md_jobs.specs.declared.answer.Answer.{Answer}
 use Rattle.md_jobs.specs.declared.answer.Answer.TheVariants as answer
-use Rattle.md_jobs.specs.Tasks.Refusal.{Refusal, NotThere, NotTrashed, OtherInfo, NameTaken, Lost, TimedOut, TmpGone, Fault}
+use Rattle.md_jobs.specs.declared.refusal.Refusal.{Refusal}
+use Rattle.md_jobs.specs.declared.refusal.Refusal.TheVariants.{NotThere, NotTrashed, OtherInfo, NameTaken, Lost, TimedOut, TmpGone, Fault}
 
 -- each refusal is the answer of its name
 abbrev pub refused_by : Refusal → Answer

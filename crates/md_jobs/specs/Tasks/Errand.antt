@@ -2,7 +2,7 @@
 use Rattle.std.specs.Prelude.{ℕ, List}
 use Rattle.md_dirs.specs.declared.paths.Place.{Place}
 use Rattle.md_dirs.specs.declared.rows.Row.{Row}
-use Rattle.md_jobs.specs.Tasks.Purpose.{Purpose}
+use Rattle.md_jobs.specs.declared.purpose.Purpose.{Purpose}
 
 -- How far it has come: the message is looked for in a place, or its row was found in a place and is acted on. So many tries are left, with
 -- this one.

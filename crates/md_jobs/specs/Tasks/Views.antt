@@ -1,4 +1,3 @@
-pub mod Purposes
 pub mod Stages
 pub mod Errands
 pub mod Bodies

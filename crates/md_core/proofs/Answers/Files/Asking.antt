@@ -1,52 +1,33 @@
 -- Which tasks ask what of a path in tmp: only a delivery of its name makes it, and only that or a clean takes it away.
-use Rattle.md_jobs.specs.Machines.Errand.{errand_turn}
 use Rattle.md_core.proofs.Machines.Errand.Asks.{errand-of-mail, no-create, no-unlink}
-use Rattle.std.proofs.Common.{ℕ, ◌≡◌, ◌⊎◌, inl, inr, Bool, true, false, cond, nat_lt, length, refl, subst}
-use Rattle.md_core.proofs.Values.{State, Tmp, Call, Moment, Task, Deliver, Errand, Clean}
-use Rattle.md_dirs.specs.declared.paths.Path.{Path}
-use Rattle.md_jobs.specs.declared.answer.Answer.TheVariants as answer
+use Rattle.std.proofs.Common.{ℕ, ◌≡◌, ◌⊎◌, inl, inr, refl, subst}
+use Rattle.md_core.proofs.Values.{State, Tmp, Call, Moment, Task, Deliver, Errand, Clean, Path, Delivery, Stage, Start, turn_of, Asked, create, append, link, rename, unlink, MakesMessage, errand_turn, Cleaning}
 use Rattle.md_jobs.specs.declared.call.Call.TheVariants as call
-use Rattle.md_jobs.specs.Tasks.Cleaning.{Cleaning}
 use Rattle.md_jobs.specs.Tasks.Cleaning as cleaning
-use Rattle.md_jobs.specs.Tasks.Delivery.{Delivery, Stage, Start, Writing}
-use Rattle.md_core.specs.Machine.{turn_of}
 use Rattle.md_jobs.specs.Machines.Deliver as delivered_by
-use Rattle.md_jobs.specs.Machines.Deliver.{append_turn, link_turn, unlink_turn, is_in_time}
 use Rattle.md_jobs.specs.Machines.Clean as cleaned_by
-use Rattle.md_jobs.specs.Asked.{Asked, create, append, link, rename, unlink}
-use Rattle.md_core.specs.Accepting.{MakesMessage}
 use Rattle.md_core.proofs.Induction.Good.{TaskFits, DeliveryFits}
 use Rattle.md_core.proofs.Directories.Frames.{makes-delivery}
 use Rattle.md_core.proofs.Answers.Files.Tmp.{LeavesTmp}
 use Rattle.md_core.proofs.Machines.Errand.Table.Deeds.{IsOfMail}
+use Rattle.md_jobs.proofs.Cases.{by-delivery}
 
 -- what a delivery asks, by its stage: a path of tmp is made at its start alone, and taken away later
 module _ (number : ℕ) (d : Delivery) (at : Moment) where
   abbrev pub asked_at : Stage → Asked
   asked_at stage = (delivered_by.stage_turn number d at stage).asked
 
-  pub writing-by : (P : Asked → Type 0) (start k : ℕ) → P (append_turn d start k).asked → P (link_turn number d).asked →
-      P (unlink_turn d answer.TimedOut).asked → P (asked_at (Writing start k))
-  writing-by P start k appends links unlinks = by (is_in_time start at.own) (nat_lt k (length d.body))
-    where
-      by : (b more : Bool) → P (cond b (cond more (append_turn d start k) (link_turn number d)) (unlink_turn d answer.TimedOut)).asked
-      by true true = appends
-      by true false = links
-      by false more = unlinks
-
   delivery-leaves : (stage : Stage) → LeavesTmp (asked_at stage)
-  delivery-leaves (Writing start k) = writing-by LeavesTmp start k tt refl tt
-  delivery-leaves other = tt
+  delivery-leaves = by-delivery number d at (λ stage turn. LeavesTmp turn.asked)
+      tt (λ start k more. tt) (λ start k all. refl) (λ start k. tt) tt (λ x. tt)
 
   delivery-creates : (p : Path) (stage : Stage) → asked_at stage ≡ create p → (stage ≡ Start) × (d.tmp ≡ p)
-  delivery-creates p Start is = (refl, cc)
-  delivery-creates p (Writing start k) is =
-      writing-by (λ asked. asked ≡ create p → (Writing start k ≡ Start) × (d.tmp ≡ p)) start k (λ h. cc) (λ h. cc) (λ h. cc) is
-  delivery-creates p other is = cc
+  delivery-creates p = by-delivery number d at (λ stage turn. turn.asked ≡ create p → (stage ≡ Start) × (d.tmp ≡ p))
+      (λ is. (refl, cc)) (λ start k more is. cc) (λ start k all is. cc) (λ start k is. cc) (λ is. cc) (λ x is. cc)
 
-  delivery-unlinks : (p : Path) (stage : Stage) → asked_at stage ≡ unlink p → d.tmp ≡ p
-  delivery-unlinks p (Writing start k) is = writing-by (λ asked. asked ≡ unlink p → d.tmp ≡ p) start k (λ h. cc) (λ h. cc) (λ h. cc) is
-  delivery-unlinks p other is = cc
+  pub delivery-unlinks : (p : Path) (stage : Stage) → asked_at stage ≡ unlink p → d.tmp ≡ p
+  delivery-unlinks p = by-delivery number d at (λ stage turn. turn.asked ≡ unlink p → d.tmp ≡ p)
+      (λ is. cc) (λ start k more is. cc) (λ start k all is. cc) (λ start k is. cc) (λ is. cc) (λ x is. cc)
 
 -- what other tasks ask leaves tmp alone, but for the unlinks of a clean
 mail-leaves : (asked : Asked) → IsOfMail asked → LeavesTmp asked

@@ -2,29 +2,17 @@
 use Rattle.std.proofs.Common.{ℕ, zero, suc, ◌≡◌, ◌≢◌, ◌≤◌, ◌⊎◌, ◌+◌, ◌-◌, ◌++◌, ◌==◌, inl, inr, List, [], ◌∷◌, Option, Some, Bool, true, false, cond, map, filter, take, length, refl, sym, ap, subst, ◌∙◌, arith}
 use Rattle.std.specs.List.{All}
 use Rattle.std.specs.Prelude.{count_by}
-use Rattle.std.specs.Option.{option_to_list, option_and_then}
 use Rattle.std.proofs.lemmas.Bool.Decides.{nat_tests}
 use Rattle.std.proofs.lemmas.List.{append-nil, append_assoc, map-append, take_all}
 use Rattle.std.proofs.lemmas.List.Elements.{filter-append, All-nil, All-cons, All-append}
 use Rattle.std.proofs.lemmas.List.Sums.{sum_by-append}
-use Rattle.md_core.proofs.Values.{State, Tmp, Row, DirReply, Task, Deliver, Errand, Clean}
-use Rattle.md_dirs.specs.Path.{path_of as path}
-use Rattle.md_dirs.specs.Rows.{rows_of}
+use Rattle.md_core.proofs.Values.{State, Tmp, Row, DirReply, Task, Deliver, Errand, Clean, path_of as path, rows_of, Machine, Standing, working, answered, Occurrence, step_of, job_at, new_job, standing_of, Step, call_at, state, IsStepOf, Turn, rows_for, Asked, list, unlink, Run, beginning, machine_at, jobs_of, first_step, dirs_at_first, IsRun, deeds_from, trace_of, is_ok, is_unused, HasCleaned, option_to_list, option_and_then}
 use Rattle.md_dirs.proofs.Sound.{by_number}
 use Rattle.md_jobs.specs.declared.answer.Answer.TheVariants as answer
 use Rattle.md_jobs.specs.declared.call.Call.TheVariants as call
 use Rattle.md_jobs.specs.Tasks.Cleaning.{Cleaning, Stage, Look, Remove}
 use Rattle.md_jobs.specs.declared.step.DirReply.TheVariants as reply
-use Rattle.md_core.specs.Machine.{Machine, Standing, working, answered, Occurrence, after_event, step_of, job_at, new_job, standing_of}
-use Rattle.md_core.specs.Trace.{Step, call_at}
 use Rattle.md_jobs.specs.Machines.Clean.{old_rows, old_names, after_next, at_stage, tmp, stage_turn}
-use Rattle.md_jobs.specs.Turn.{Turn, rows_for}
-use Rattle.md_jobs.specs.Asked.{Asked, list, unlink}
-use Rattle.md_core.specs.Runs.{Run, beginning, run_from, machine_at, jobs_of, first_step, dirs_at_first}
-use Rattle.md_core.specs.Stepping.{IsRun}
-use Rattle.md_core.specs.Tracing.{deeds_from}
-use Rattle.md_core.specs.Answering.{is_ok}
-use Rattle.md_core.proofs.Answers.OfRun.{HasCleaned}
 use Rattle.md_core.proofs.Induction.Good.{CleaningFits, TaskFits}
 use Rattle.md_core.proofs.Induction.GoodRuns.{new_at}
 use Rattle.md_core.proofs.Lists.Places.{take-one_more}
@@ -32,24 +20,9 @@ use Rattle.md_core.proofs.Runs.ByEvent.{moment-start, moment-end}
 use Rattle.md_core.proofs.Answers.LastStep.{IsTurn, left_by, reply_in, done_in, done-in, stands-after, stands-other}
 use Rattle.md_core.proofs.Answers.Files.Late.{cleans}
 use Rattle.md_core.proofs.Answers.Moments.{its-fits, at, asked_by, after_task, each-moment, not-yet, is-first}
-
--- what events did, with one more
-deeds-more : (m : Machine) (es : List Occurrence) (e : Occurrence) →
-    deeds_from m (es ++ e ∷ []) ≡ deeds_from m es ++ option_to_list (step_of (run_from m es) e)
-unfolding deeds_from run_from
-deeds-more m [] e = append-nil (option_to_list (step_of m e))
-deeds-more m (x ∷ es) e =
-    ap (λ ds. option_to_list (step_of m x) ++ ds) (deeds-more (after_event m x) es e)
-    ∙ sym (append_assoc (option_to_list (step_of m x)) (deeds_from (after_event m x) es) (option_to_list (step_of (run_from (after_event m x) es) e)))
-
-deeds-none : (m : Machine) → deeds_from m [] ≡ []
-unfolding deeds_from
-deeds-none m = refl
-
--- lists
-map-twice : {X Y Z : Type 0} (f : X → Y) (g : Y → Z) (xs : List X) → map g (map f xs) ≡ map (λ x. g (f x)) xs
-map-twice f g [] = refl
-map-twice f g (x ∷ xs) = ap (λ ys. g (f x) ∷ ys) (map-twice f g xs)
+use Rattle.md_core.proofs.Traces.Same.{deeds-more, deeds-none, state-same}
+use Rattle.md_core.proofs.Traces.Begun.{begins-same, begins-some}
+use Rattle.md_core.proofs.Traces.Few.{map-made}
 
 module _ (r : Run) (job : ℕ) where
   abbrev is_own : Step → Bool
@@ -138,7 +111,7 @@ module _ (r : Run) (job : ℕ) where
             deeds_are = deeds-own k job t refl ∙ ap (λ (ds : List Step). ds ++ this ∷ []) none;
             listed = asked ∙ ap (λ f. list f Tmp) in_folder;
             ok = replied;
-            names = map-twice (λ (row : Row). row.name) takes (old_rows (at r k job t).own (rows_of s c.folder Tmp))
+            names = map-made (λ (row : Row). row.name) takes (old_rows (at r k job t).own (rows_of s c.folder Tmp))
                 ∙ (λ i. map (λ (row : Row). takes row.name)
                 (old_rows (at r k job t).own (rows_of (machine_at r (sym same i)).dirs (in_folder i) Tmp)));
             replies = All-nil IsFoundOrNot;
@@ -273,21 +246,25 @@ module _ (r : Run) (run : IsRun r) (job folder : ℕ) (of : call_at r.calls job 
       subst (Stands r job folder (k + 1)) now (own-stands r job folder k own of run (before (working own.task) own.there)))
       (λ differ. other-stands r job folder k n t differ st (before st (sym (stands-other r k n t job differ) ∙ is)))
 
-  pub has-cleaned : (n : ℕ) → job_at (jobs_of r) job ≡ Some (answered (answer.Cleaned n)) → HasCleaned r job folder n
-  has-cleaned n is =
+  pub has-cleaned : (k : ℕ) → IsStepOf (trace_of r) job k → (n : ℕ) → job_at (jobs_of r) job ≡ Some (answered (answer.Cleaned n)) →
+      HasCleaned (trace_of r) job folder n
+  has-cleaned k step n is =
       let end = length r.events in
       let h : HasTaken r job folder end [] n =
       each-moment r run StandsAt stands-start stands-turn end (omega arith) (answered (answer.Cleaned n))
       (ap (λ (m : Machine). job_at m.jobs job) (moment-end r) ∙ is) in
       let counted = h.count in
       record {
+        first = begins-some r run job k step;
         look = h.look;
         unlinks = h.unlinks;
-        deeds = ap (λ (es : List Occurrence). filter (is_own r job) (deeds_from (beginning r.image r.clock r.calls) es))
+        steps = ap (λ (es : List Occurrence). filter (is_own r job) (deeds_from (beginning r.image r.clock r.calls) es))
             (sym (take_all end r.events (omega arith))) ∙ h.deeds_are;
         listed = h.listed;
         ok = h.ok;
-        names = sym (append-nil (map (λ (d : Step). d.asked) h.unlinks)) ∙ h.names;
+        names = sym (append-nil (map (λ (d : Step). d.asked) h.unlinks)) ∙ h.names
+            ∙ ap (λ (s : State). map (λ row. unlink (path folder Tmp row.name)) (filter (is_unused h.look.at.own) (rows_of s folder Tmp)))
+            (sym (ap (state (trace_of r)) (begins-same r run job) ∙ state-same r run (first_step r job)));
         replies = h.replies;
         count = omega (arith, counted);
       }

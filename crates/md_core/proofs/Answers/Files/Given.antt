@@ -1,24 +1,12 @@
 -- The answers of a time, of a lost file in tmp and of a clean: which tasks give them, and what a delivery then knows.
 use Rattle.std.proofs.Common.{ℕ, ◌≡◌, ◌≤◌, ◌⊎◌, inl, inr, List, [], ◌∷◌, Option, Some, None, Bool, true, false, cond, nat_lt, length, is_some, refl, sym, subst, arith}
 use Rattle.std.proofs.lemmas.Bool.Decides.{nat_tests}
-use Rattle.md_dirs.specs.State.{State, file_at, has_folder}
-use Rattle.md_dirs.specs.declared.calls.DirError.{DirError}
-use Rattle.md_dirs.specs.declared.calls.DirError.TheVariants.{Exists, NotFound}
-use Rattle.md_core.proofs.Values.{Path, Call, Answer, DirReply, Task, Deliver, Errand, Clean}
-use Rattle.md_dirs.specs.declared.rows.Row.{Row}
+use Rattle.md_core.proofs.Values.{Path, Call, Answer, DirReply, Task, Deliver, Errand, Clean, State, file_at, has_folder, Row, Delivery, Stage, Start, Writing, Linked, Undo, working, Turn, reply_of, rows_for, ask_of, reply_by, Run, machine_at, IsRun, DirError, Exists, NotFound, Cleaning, refused_by}
 use Rattle.md_jobs.specs.declared.answer.Answer.TheVariants as answer
-use Rattle.md_jobs.specs.Tasks.Cleaning.{Cleaning}
 use Rattle.md_jobs.specs.Tasks.Cleaning as cleaning
-use Rattle.md_jobs.specs.Machines.Refusals.{refused_by}
-use Rattle.md_jobs.specs.Tasks.Delivery.{Delivery, Stage, Start, Writing, Linked, Undo}
 use Rattle.md_jobs.specs.declared.step.DirReply.TheVariants as reply
-use Rattle.md_core.specs.Machine.{working}
 use Rattle.md_jobs.specs.Machines.Clean as cleaned_by
 use Rattle.md_jobs.specs.Machines.Deliver.{at_stage, target, create_turn, append_turn, link_turn, unlink_turn, stage_turn, is_in_time}
-use Rattle.md_jobs.specs.Turn.{Turn, reply_of, rows_for}
-use Rattle.md_jobs.specs.Asked.{ask_of, reply_by}
-use Rattle.md_core.specs.Runs.{Run, machine_at}
-use Rattle.md_core.specs.Stepping.{IsRun}
 use Rattle.md_core.proofs.Induction.Good.{DeliveryFits, TaskFits}
 use Rattle.md_core.proofs.Answers.LastStep.{IsTurn, is_within, LastStep, reply_in}
 use Rattle.md_core.proofs.Answers.Moments.{its-call, its-fits, at, asked_by, after_task}

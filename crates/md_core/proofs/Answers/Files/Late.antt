@@ -2,21 +2,11 @@
 use Rattle.md_core.proofs.Machines.Errand.Table.Rows.{no-clean}
 use Rattle.std.proofs.Common.{ℕ, ◌≡◌, ◌≤◌, ◌+◌, ◌-◌, inl, inr, List, [], ◌∷◌, Some, None, length, refl, sym, ap, subst, ◌∙◌, arith}
 use Rattle.std.proofs.lemmas.Bool.Decides.{nat_tests}
-use Rattle.md_core.proofs.Values.{State, file_at, Path, Tmp, Call, DirReply, Task, Deliver, Errand, Clean}
-use Rattle.md_dirs.specs.Path.{path_of as path}
-use Rattle.md_dirs.specs.Rows.{rows_of}
+use Rattle.md_core.proofs.Values.{State, file_at, Path, Tmp, Call, DirReply, Task, Deliver, Errand, Clean, path_of as path, rows_of, Step, call_at, IsStepOf, working, job_at, new_job, Turn, rows_for, unlink, Run, machine_at, first_step, IsRun, IsCleanedAway, trace_of, AreApart}
 use Rattle.md_jobs.specs.declared.call.Call.TheVariants as call
 use Rattle.md_jobs.specs.Tasks.Cleaning.{Cleaning, Stage, Look, Remove}
 use Rattle.md_jobs.specs.declared.step.DirReply.TheVariants as reply
-use Rattle.md_core.specs.Trace.{Step, call_at}
-use Rattle.md_core.specs.Machine.{working, job_at, new_job}
 use Rattle.md_jobs.specs.Machines.Clean.{least_seconds, old_names, after_next, at_stage, tmp, stage_turn}
-use Rattle.md_jobs.specs.Turn.{Turn, rows_for}
-use Rattle.md_jobs.specs.Asked.{unlink}
-use Rattle.md_core.specs.Runs.{Run, machine_at, first_step}
-use Rattle.md_core.specs.Stepping.{IsRun}
-use Rattle.md_core.proofs.Answers.OfRun.{IsStep, IsCleanedAway}
-use Rattle.md_core.proofs.Answers.RunSparing.{AreApart}
 use Rattle.md_core.proofs.Induction.Good.{TaskFits}
 use Rattle.lists.proofs.Members.{Has}
 use Rattle.md_core.proofs.Answers.LastStep.{IsTurn, is_within, left_by, turn-at, holds, reply_in, done_in, done-in}
@@ -24,11 +14,12 @@ use Rattle.md_core.proofs.Answers.Moments.{its-fits, at, asked_by, after_task, n
 use Rattle.md_core.proofs.Answers.Files.Stamps.{stamped-at}
 use Rattle.md_core.proofs.Answers.Files.Listed.{has-old, listed-file}
 use Rattle.md_core.proofs.Machines.Errand.Table.Calls.{new-looks}
+use Rattle.md_core.proofs.Traces.Same.{step-done, done-step}
 
 -- a job has begun, and its first step was 36 hours less these seconds before the clock of moment k
 pub record IsLate (r : Run) (seconds job k : ℕ) : Type 0 where
-  pub begun : IsStep r job (first_step r job)
-  pub late : begun.what.at.clock + least_seconds ≤ (machine_at r k).clock + seconds
+  pub begun : IsStepOf (trace_of r) job (first_step r job)
+  pub late : begun.step.at.clock + least_seconds ≤ (machine_at r k).clock + seconds
 
 -- a name is among those that a clean still has to take away
 abbrev pub IsLeft : List ℕ → Stage → Type 0
@@ -56,7 +47,7 @@ abbrev LateTask : Run → ℕ → ℕ → ℕ → List ℕ → ℕ → Task → 
 LateTask r seconds job folder u k (Clean c) = c.folder ≡ folder → IsLeft u c.stage → IsLate r seconds job k
 LateTask r seconds job folder u k other = Unit {0}
 
-module _ (r : Run) (run : IsRun r) (seconds : ℕ) (apart : AreApart r seconds) (job folder : ℕ) (u body : List ℕ) (chunk : ℕ)
+module _ (r : Run) (run : IsRun r) (seconds : ℕ) (apart : AreApart (trace_of r) seconds) (job folder : ℕ) (u body : List ℕ) (chunk : ℕ)
     (of : call_at r.calls job ≡ Some (call.Deliver folder u body chunk)) where
   abbrev AtTask : ℕ → ℕ → Task → Type 0
   AtTask k n task = LateTask r seconds job folder u k task
@@ -87,7 +78,7 @@ module _ (r : Run) (run : IsRun r) (seconds : ℕ) (apart : AreApart r seconds) 
         let stamped = h.stamped in
         let shown = file.2 in
         let long : least_seconds ≤ (at r k n t).own - row.stamp = (let is = old.2 in grind (arith, nat_tests)) in
-        let ahead = (apart k (done_in r k n t) (done-in r k n t)).0 in
+        let ahead = (apart k (done_in r k n t) (done-step r run k (done_in r k n t) (done-in r k n t))).0 in
         let now = next-clock r k n t in
         record { begun = h.begun; late = omega (arith, stamped, shown, long, ahead, now) }
 
@@ -144,10 +135,10 @@ module _ (r : Run) (run : IsRun r) (seconds : ℕ) (apart : AreApart r seconds) 
       (ap (λ (p : Path). p.folder) same, inl (ap (λ (p : Path). p.name) (sym same)))
 
   -- a clean that takes the file of the delivery away comes late
-  pub late-clean : (k : ℕ) (cleaned : IsCleanedAway r k (path folder Tmp u)) →
-      (begun : IsStep r job (first_step r job)) × (begun.what.at.clock + least_seconds ≤ cleaned.what.at.clock + seconds)
+  pub late-clean : (k : ℕ) (cleaned : IsCleanedAway (trace_of r) k (path folder Tmp u)) →
+      (begun : IsStepOf (trace_of r) job (first_step r job)) × (begun.step.at.clock + least_seconds ≤ cleaned.step.at.clock + seconds)
   late-clean k cleaned =
-      let done = turn-done r run k cleaned.what cleaned.at in
+      let done = turn-done r run k cleaned.step (step-done r run k cleaned.step cleaned.at) in
       let n = done.0 in
       let t = done.1 in
       let its : call_at r.calls n ≡ Some (call.Clean cleaned.folder) =
@@ -158,6 +149,6 @@ module _ (r : Run) (run : IsRun r) (seconds : ℕ) (apart : AreApart r seconds) 
       let within : k ≤ length r.events = (let less = is_within r k n t in omega (arith, less)) in
       let late = subst (λ (x : Task). AtTask k n x) clean.1 (late-task k n t.task within t.there) left.0 left.1 in
       let before = late.late in
-      let clock : cleaned.what.at.clock ≡ (at r k n t).clock = ap (λ (d : Step). d.at.clock) done.2 in
+      let clock : cleaned.step.at.clock ≡ (at r k n t).clock = ap (λ (d : Step). d.at.clock) done.2 in
       let grows = clock-grows r k n t in
       (late.begun, omega (arith, before, clock, grows))

@@ -1,15 +1,9 @@
 -- A row of a listing shows the file at the path of its name.
-use Rattle.std.proofs.Common.{ℕ, ◌≡◌, inl, inr, List, [], ◌∷◌, Option, Some, None, Bool, true, false, cond, map, filter, refl, sym, ap, ◌∙◌}
-use Rattle.std.specs.FinMap.{entries}
-use Rattle.md_core.proofs.Values.{State, file_at, file_by, Place, Row}
-use Rattle.md_dirs.specs.Path.{path_of}
-use Rattle.md_dirs.specs.Rows.{rows_of, row_of, row_by, is_in}
-use Rattle.md_dirs.specs.declared.paths.File.{File}
+use Rattle.std.proofs.Common.{ℕ, ◌≡◌, inl, inr, List, [], ◌∷◌, Some, Bool, true, false, cond, map, filter, refl, sym, ap, ◌∙◌}
+use Rattle.md_core.proofs.Values.{State, file_at, file_by, Place, Row, path_of, rows_of, row_of, is_in, entries, is_old, old_rows, old_names}
 use Rattle.md_dirs.proofs.PathOrder.{path_total, path_exact}
-use Rattle.md_jobs.specs.Machines.Clean.{is_old, old_rows, old_names}
-use Rattle.md_core.specs.Runs.{stamp_of}
 use Rattle.lists.proofs.Members.{Has, has-get}
-use Rattle.md_core.proofs.Looking.LookUps.{name-row, path-in}
+use Rattle.md_core.proofs.Looking.LookUps.{name-row, row-stamp, path-in}
 use Rattle.md_core.proofs.Answers.Files.Tmp.{stamp_at}
 
 has-filter : {X : Type 0} (p : X → Bool) (xs : List X) (x : X) → Has (filter p xs) x → Has xs x × (p x ≡ true)
@@ -32,10 +26,6 @@ has-old own rows name has =
     let named = has-map (λ (row : Row). row.name) (old_rows own rows) name has in
     let old = has-filter (is_old own) rows named.0 named.1 in
     (named.0, old.0, old.1, sym named.2)
-
-row-stamp : (name : List ℕ) (o : Option File) → (row_by name o).stamp ≡ stamp_of o
-row-stamp name None = refl
-row-stamp name (Some file) = refl
 
 -- the file of a row that is listed, and its stamp
 pub listed-file : (s : State) (folder : ℕ) (place : Place) (row : Row) → Has (rows_of s folder place) row →

@@ -1,14 +1,7 @@
 -- A file at the path in tmp of a delivery is its own: the delivery has begun, and the file's stamp is at least the clock of its first step.
 use Rattle.std.proofs.Common.{ℕ, zero, suc, ◌≡◌, ◌≤◌, ◌+◌, inl, inr, List, Some, None, refl, sym, ap, subst, ◌∙◌, length, arith}
-use Rattle.md_core.proofs.Values.{State, file_at, Path, Tmp, Task}
-use Rattle.md_dirs.specs.Path.{path_of as path}
+use Rattle.md_core.proofs.Values.{State, file_at, Path, Tmp, Task, path_of as path, Stage, Machine, Run, machine_at, first_step, call_at, IsStepOf, IsRun, trace_of}
 use Rattle.md_jobs.specs.declared.call.Call.TheVariants.{Deliver}
-use Rattle.md_jobs.specs.Tasks.Delivery.{Stage}
-use Rattle.md_core.specs.Machine.{Machine}
-use Rattle.md_core.specs.Runs.{Run, machine_at, first_step}
-use Rattle.md_core.specs.Trace.{call_at}
-use Rattle.md_core.specs.Stepping.{IsRun}
-use Rattle.md_core.proofs.Answers.OfRun.{IsStep}
 use Rattle.md_core.proofs.Induction.Good.{IsUnused}
 use Rattle.md_core.proofs.Runs.ByEvent.{moment-start}
 use Rattle.md_core.proofs.Answers.LastStep.{IsTurn, is_within}
@@ -20,9 +13,9 @@ use Rattle.md_core.proofs.Induction.GoodRuns.{accepted-at}
 
 -- a job has begun, and the clock and the stamp of a file are at least the clock of its first step
 pub record IsStamped (r : Run) (job k n : ℕ) : Type 0 where
-  pub begun : IsStep r job (first_step r job)
-  pub clocked : begun.what.at.clock ≤ (machine_at r k).clock
-  pub stamped : begun.what.at.clock ≤ stamp_at (machine_at r k).dirs n
+  pub begun : IsStepOf (trace_of r) job (first_step r job)
+  pub clocked : begun.step.at.clock ≤ (machine_at r k).clock
+  pub stamped : begun.step.at.clock ≤ stamp_at (machine_at r k).dirs n
 
 -- no path uses the name of a delivery at the beginning
 unused-at : (r : Run) → IsRun r → (job folder : ℕ) (u body : List ℕ) (chunk : ℕ) →
@@ -77,7 +70,7 @@ module _ (r : Run) (run : IsRun r) (job folder : ℕ) (u body : List ℕ) (chunk
         let now = next-clock r k n t in
         let stamp = m.makes.stamps file is in
         record {
-          begun = first-is r k n job t none' m.own;
+          begun = first-is r k n job t none' run m.own;
           clocked = omega (arith, now);
           stamped = omega (arith, stamp);
         }

@@ -2,16 +2,11 @@
 -- away.
 use Rattle.std.proofs.Common.{ℕ, ◌≡◌, ◌≢◌, ◌⊎◌, inl, inr, List, Option, Some, None, Bool, true, false, cond, refl, sym, ap, ◌∙◌, slice_set, length, IsSome}
 use Rattle.std.specs.FinMap as finmap
-use Rattle.md_core.proofs.Values.{State, IsSound, file_at, file_by, Path, Tmp, DirReply}
-use Rattle.md_dirs.specs.Calls.{after_create, empty_file, after_append, file_with_more, with_path, without_path, after_unlink, with_files_still_named, is_one_file}
-use Rattle.md_dirs.specs.declared.paths.File.{File}
+use Rattle.md_core.proofs.Values.{State, IsSound, file_at, file_by, Path, Tmp, DirReply, is_tmp, stamp_of, Asked, create, append, link, rename, unlink, list, ask_of, state_by, after_create, empty_file, after_append, file_with_more, with_path, without_path, after_unlink, with_files_still_named, is_one_file, File}
 use Rattle.md_dirs.proofs.PathOrder.{path_total, path_exact}
 use Rattle.lists.proofs.Maps as maps
 use Rattle.md_dirs.proofs.Sound.{by_path, by_number, file_by-push, file_by-last, file_by-set_same, file_by-set_other, number-within, swept-kept}
 use Rattle.md_jobs.specs.declared.step.DirReply.TheVariants as reply
-use Rattle.md_core.specs.Mailbox.{is_tmp}
-use Rattle.md_core.specs.Runs.{stamp_of}
-use Rattle.md_jobs.specs.Asked.{Asked, create, append, link, rename, unlink, list, ask_of, state_by}
 
 -- the stamp of the file of a number
 abbrev pub stamp_at : State → ℕ → ℕ

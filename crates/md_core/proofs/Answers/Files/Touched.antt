@@ -1,20 +1,13 @@
 -- What the turn at an event does to a path in tmp whose name the call of a job makes.
 use Rattle.std.proofs.Common.{ℕ, ◌≡◌, ◌⊎◌, ◌+◌, inl, inr, Some, None, sym, ap, subst, ◌∙◌}
-use Rattle.md_core.proofs.Values.{State, file_at, Tmp, Call, DirReply, Deliver}
-use Rattle.md_dirs.specs.declared.paths.Path.{Path}
-use Rattle.md_jobs.specs.Tasks.Delivery.{Delivery, Start}
-use Rattle.md_jobs.specs.Asked.{Asked}
-use Rattle.md_core.specs.Runs.{Run, machine_at}
-use Rattle.md_core.specs.Trace.{call_at}
-use Rattle.md_core.specs.Stepping.{IsRun}
-use Rattle.md_core.specs.Accepting.{MakesMessage}
-use Rattle.md_core.proofs.Answers.OfRun.{IsCleanedAway}
+use Rattle.md_core.proofs.Values.{State, file_at, Tmp, Call, DirReply, Deliver, Path, Delivery, Start, Asked, Run, machine_at, call_at, IsRun, MakesMessage, IsCleanedAway, trace_of}
 use Rattle.md_core.proofs.Induction.Good.{TaskFits}
 use Rattle.md_core.proofs.Induction.GoodRuns.{all-apart}
 use Rattle.md_core.proofs.Answers.LastStep.{IsTurn, turn_by, reply_in, done_in, done-in}
 use Rattle.md_core.proofs.Answers.Moments.{its-call, its-fits, sound-now, at, next-dirs, one-maker}
 use Rattle.md_core.proofs.Answers.Files.Tmp.{Touches, KeepsPath, MakesPath, touches}
 use Rattle.md_core.proofs.Answers.Files.Asking.{asks-fair, creates, unlinks}
+use Rattle.md_core.proofs.Traces.Same.{done-step}
 
 -- the job itself made the path, at its start
 pub record IsMade (r : Run) (k n job : ℕ) (t : IsTurn r k n) (p : Path) : Type 0 where
@@ -32,7 +25,7 @@ module _ (r : Run) (run : IsRun r) (k n : ℕ) (t : IsTurn r k n) (job : ℕ) (a
   abbrev Touched : Type 0
   Touched =
       KeepsPath (machine_at r k).dirs s' p (at r k n t).clock ⊎
-      (IsMade r k n job t p ⊎ ((file_at s' p ≡ None) × ((job ≡ n) ⊎ IsCleanedAway r k p)))
+      (IsMade r k n job t p ⊎ ((file_at s' p ≡ None) × ((job ≡ n) ⊎ IsCleanedAway (trace_of r) k p)))
 
   abbrev its : Call
   its = (its-call r run k n _ t.there).0
@@ -69,8 +62,8 @@ module _ (r : Run) (run : IsRun r) (k n : ℕ) (t : IsTurn r k n) (job : ℕ) (a
         elim (unlinks (machine_at r k).dirs its t.event.event.job (at r k n t) p in_tmp t.task fits takes.call) [
           | inl also ↦ inl (same-job also)
           | inr clean ↦ inr (record {
-            what = done_in r k n t;
-            at = done-in r k n t;
+            step = done_in r k n t;
+            at = done-step r run k (done_in r k n t) (done-in r k n t);
             asked = takes.call;
             ok = takes.ok;
             folder = clean.0;

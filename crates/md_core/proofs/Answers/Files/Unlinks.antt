@@ -2,20 +2,11 @@
 -- in tmp is gone.
 use Rattle.md_core.proofs.Machines.Errand.Table.Rows.{no-delivery}
 use Rattle.std.proofs.Common.{ℕ, ◌≡◌, ◌∙◌, ◌⊎◌, inl, inr, List, Some, Bool, true, false, cond, nat_lt, length, refl, ap, subst}
-use Rattle.md_core.proofs.Values.{State, Path, Tmp, Row, Call, Answer, DirReply, Moment, Task, Deliver, Errand, Clean}
-use Rattle.md_dirs.specs.Path.{path_of as path}
+use Rattle.md_core.proofs.Values.{State, Path, Tmp, Row, Call, Answer, DirReply, Moment, Task, Deliver, Errand, Clean, path_of as path, Delivery, Stage, Start, Writing, Machine, answered, job_at, turn_of, Turn, create, unlink, Run, machine_at, jobs_of, call_at, IsRun, IsFaulted, IsDelivered, IsUndone, trace_of}
 use Rattle.md_jobs.specs.declared.answer.Answer.TheVariants as answer
 use Rattle.md_jobs.specs.declared.call.Call.TheVariants as call
-use Rattle.md_jobs.specs.Tasks.Delivery.{Delivery, Stage, Start, Writing}
 use Rattle.md_jobs.specs.declared.step.DirReply.TheVariants as reply
-use Rattle.md_core.specs.Machine.{Machine, answered, job_at, turn_of}
 use Rattle.md_jobs.specs.Machines.Deliver.{append_turn, link_turn, unlink_turn, stage_turn, is_in_time}
-use Rattle.md_jobs.specs.Turn.{Turn}
-use Rattle.md_jobs.specs.Asked.{create, unlink}
-use Rattle.md_core.specs.Runs.{Run, machine_at, jobs_of}
-use Rattle.md_core.specs.Trace.{call_at}
-use Rattle.md_core.specs.Stepping.{IsRun}
-use Rattle.md_core.proofs.Answers.OfRun.{IsFaulted, IsDelivered, IsUndone}
 use Rattle.md_core.proofs.Induction.Good.{DeliveryFits, TaskFits}
 use Rattle.md_core.proofs.Answers.LastStep.{LastStep, last-step, is-step, turn_by, reply_in}
 use Rattle.md_core.proofs.Answers.Moments.{its-fits, at}
@@ -146,7 +137,7 @@ module _ (r : Run) (run : IsRun r) (job : ℕ) where
           let fits : TaskFits m.dirs delivery t.task = its-fits r run last.k job delivery t.task of t.there in
           task-unlinks folder u body chunk m.dirs t.event.event.job (at r last.k job t) (reply_in m t.event t.task) _ a its t.task fits last.answer
 
-    undone : (of : call_at r.calls job ≡ Some delivery) → LastStep r job answer.Fault → IsUndone r job delivery
+    undone : (of : call_at r.calls job ≡ Some delivery) → LastStep r job answer.Fault → IsUndone (trace_of r) job delivery
     undone of last =
         let k = last.k in
         let t = last.turn in
@@ -154,21 +145,21 @@ module _ (r : Run) (run : IsRun r) (job : ℕ) where
         let told = last-tells r run job delivery of answer.Fault last in
         let rep = reply_in (machine_at r k) t.event t.task in
         elim (task-undoes folder u body chunk (machine_at r k).dirs t.event.event.job (at r k job t) rep _ t.task fits last.answer told) [
-          | inl h ↦ inl (record { k = k; step = is-step r k job t; asked = h.0; faulted = h.1 })
-          | inr h ↦ inr (record { k = k; step = is-step r k job t; asked = h; answer = last.answer })
+          | inl h ↦ inl (record { k = k; at = is-step r run k job t; asked = h.0; faulted = h.1 })
+          | inr h ↦ inr (record { k = k; last = is-step r run k job t; asked = h; answer = last.answer })
         ]
 
   pub is-delivered : (c : Call) → call_at r.calls job ≡ Some c → job_at (jobs_of r) job ≡ Some (answered answer.Delivered) →
-      IsDelivered r job c
+      IsDelivered (trace_of r) job c
   is-delivered (call.Deliver folder u body chunk) of is =
       let last = last-step r run job answer.Delivered is in
       let asked = asks-unlink folder u body chunk answer.Delivered tt of last in
-      record { k = last.k; step = is-step r last.k job last.turn; asked = asked; answer = last.answer }
+      record { k = last.k; last = is-step r run last.k job last.turn; asked = asked; answer = last.answer }
   is-delivered c of is = tt
 
-  pub is-undone : (c : Call) → call_at r.calls job ≡ Some c → job_at (jobs_of r) job ≡ Some (answered answer.Fault) → IsUndone r job c
+  pub is-undone : (c : Call) → call_at r.calls job ≡ Some c → job_at (jobs_of r) job ≡ Some (answered answer.Fault) → IsUndone (trace_of r) job c
   is-undone (call.Deliver folder u body chunk) of is = undone folder u body chunk of (last-step r run job answer.Fault is)
   is-undone c of is = tt
 
-  pub is-faulted : (c : Call) → call_at r.calls job ≡ Some c → job_at (jobs_of r) job ≡ Some (answered answer.Fault) → IsFaulted r job
+  pub is-faulted : (c : Call) → call_at r.calls job ≡ Some c → job_at (jobs_of r) job ≡ Some (answered answer.Fault) → IsFaulted (trace_of r) job
   is-faulted c of is = says-fault r run job c of answer.Fault (last-step r run job answer.Fault is) refl

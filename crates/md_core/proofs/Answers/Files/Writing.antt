@@ -1,22 +1,12 @@
 -- A delivery that writes has begun, at the moment of its own clock that it keeps, and has its file in tmp, or a clean took that away since.
 use Rattle.std.proofs.Common.{ℕ, ◌≡◌, ◌≢◌, ◌<◌, ◌≤◌, ◌⊎◌, ◌+◌, inl, inr, List, Some, None, Bool, true, false, cond, length, nat_lt, slice_get, refl, sym, ap, subst, ◌∙◌, arith}
-use Rattle.md_core.proofs.Values.{State, file_at, Tmp, Row, Call, DirReply, Task, Deliver, Errand, Clean}
-use Rattle.md_dirs.specs.declared.paths.Path.{Path}
+use Rattle.md_core.proofs.Values.{State, file_at, Tmp, Row, Call, DirReply, Task, Deliver, Errand, Clean, Path, Delivery, Stage, Start, Writing, Linked, Undo, Occurrence, working, job_at, new_job, Turn, append, ask_of, state_by, Run, machine_at, first_step, call_at, IsStepOf, IsRun, IsCleanedAway, trace_of, refused_by}
 use Rattle.md_dirs.proofs.PathOrder.{path_total, path_exact}
 use Rattle.lists.proofs.Maps as maps
 use Rattle.md_jobs.specs.declared.answer.Answer.TheVariants as answer
 use Rattle.md_jobs.specs.declared.call.Call.TheVariants as call
-use Rattle.md_jobs.specs.Machines.Refusals.{refused_by}
-use Rattle.md_jobs.specs.Tasks.Delivery.{Delivery, Stage, Start, Writing, Linked, Undo}
 use Rattle.md_jobs.specs.declared.step.DirReply.TheVariants as reply
-use Rattle.md_core.specs.Machine.{Occurrence, working, job_at, new_job}
 use Rattle.md_jobs.specs.Machines.Deliver.{at_stage, piece, append_turn, link_turn, unlink_turn, stage_turn, is_in_time}
-use Rattle.md_jobs.specs.Turn.{Turn}
-use Rattle.md_jobs.specs.Asked.{append, ask_of, state_by}
-use Rattle.md_core.specs.Runs.{Run, machine_at, first_step}
-use Rattle.md_core.specs.Trace.{call_at}
-use Rattle.md_core.specs.Stepping.{IsRun}
-use Rattle.md_core.proofs.Answers.OfRun.{IsStep, IsCleanedAway}
 use Rattle.md_core.proofs.Induction.Good.{DeliveryFits, TaskFits}
 use Rattle.md_core.proofs.Directories.Frames.{makes-delivery}
 use Rattle.md_core.proofs.Answers.LastStep.{IsTurn, left_by, turn-at, holds, reply_in}
@@ -28,13 +18,13 @@ use Rattle.md_core.proofs.Machines.Errand.Table.Calls.{IfWorking, new-task}
 -- between the first step of a job and a moment, a clean took a path away
 pub record IsTaken (r : Run) (job k : ℕ) (p : Path) : Type 0 where
   pub event : ℕ
-  pub cleaned : IsCleanedAway r event p
+  pub cleaned : IsCleanedAway (trace_of r) event p
   pub after : first_step r job < event
   pub before : event < k
 
 pub record HasBegun (r : Run) (job k start : ℕ) (p : Path) : Type 0 where
-  pub begun : IsStep r job (first_step r job)
-  pub own : begun.what.at.own ≡ start
+  pub begun : IsStepOf (trace_of r) job (first_step r job)
+  pub own : begun.step.at.own ≡ start
   pub before : first_step r job < k
   pub there : ((n : ℕ) × (file_at (machine_at r k).dirs p ≡ Some n)) ⊎ IsTaken r job k p
 
@@ -63,7 +53,7 @@ module _ (r : Run) (job k start : ℕ) (p : Path) (h : HasBegun r job k start p)
     | inr taken ↦ inr (taken-more taken)
   ])
 
-  begun-taken : IsCleanedAway r k p → HasBegun r job (k + 1) start p
+  begun-taken : IsCleanedAway (trace_of r) k p → HasBegun r job (k + 1) start p
   begun-taken cleaned = begun-more (inr (record { event = k; cleaned = cleaned; after = h.before; before = omega arith }))
 
 -- the turn of a delivery
@@ -87,7 +77,7 @@ module _ (r : Run) (run : IsRun r) (k job : ℕ) (t : IsTurn r k job) (d : Deliv
   start-leads none reply.Ok dirs unanswered =
       let first = is-first r k job job t none refl in
       record {
-        begun = first-is r k job job t none refl;
+        begun = first-is r k job job t none run refl;
         own = refl;
         before = omega (arith, first);
         there = inl (

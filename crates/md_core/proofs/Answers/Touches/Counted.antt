@@ -1,28 +1,15 @@
 -- How often a unique name was touched by a moment, and that it stays as it is where it is not touched.
 use Rattle.std.proofs.Common.{ℕ, ◌≡◌, ◌≢◌, ◌≤◌, ◌+◌, ◌++◌, ◌⊎◌, inl, inr, List, [], ◌∷◌, Option, Some, None, Bool, true, false, cond, not, ◌&&◌, IfSome, refl, sym, ap, ◌∙◌, length, drop, slice_get, arith, ◌==◌}
 use Rattle.std.specs.Prelude.{count_by}
-use Rattle.std.specs.Option.{option_to_list}
-use Rattle.std.specs.FinMap.{get}
 use Rattle.std.proofs.Math.Seq.{drop-append_seam}
 use Rattle.std.proofs.lemmas.Bool.Decides.{nat_tests}
 use Rattle.std.proofs.lemmas.Cmp.{nat_list_cmp_total}
 use Rattle.std.proofs.lemmas.List.{append-nil}
 use Rattle.std.proofs.lemmas.List.Sums.{sum_by-append}
 use Rattle.std.proofs.lemmas.Map.Lookups.{exact_bytes}
-use Rattle.md_name.specs.Names.{unique_of}
-use Rattle.md_dirs.specs.Rows.{is_named}
 use Rattle.lists.proofs.Maps.{beside_put, beside_drop}
-use Rattle.md_core.proofs.Values.{Change, Effect}
+use Rattle.md_core.proofs.Values.{Change, Effect, unique_of, is_named, Mailbox, Names, names_of, names_after_change, Machine, Occurrence, Step, effects, Run, machine_at, box_in, IsRun, AsAlone, is_on, is_touch, MakesMessage, trace_of, option_to_list, get}
 use Rattle.md_jobs.specs.declared.effect.Change.TheVariants as change
-use Rattle.md_core.specs.Mailbox.{Mailbox}
-use Rattle.md_core.specs.History.{Names, names_of, names_after_change}
-use Rattle.md_core.specs.Machine.{Machine, Occurrence}
-use Rattle.md_core.specs.Trace.{Step}
-use Rattle.md_core.specs.Runs.{Run, machine_at, box_in}
-use Rattle.md_core.specs.Stepping.{IsRun, AsAlone}
-use Rattle.md_core.specs.Answering.{is_on, is_touch}
-use Rattle.md_core.specs.Accepting.{MakesMessage}
-use Rattle.md_core.proofs.Answers.OfRun.{effects_between}
 use Rattle.md_core.proofs.Induction.Good.{Affects}
 use Rattle.md_core.proofs.Machines.EachTurn.{each-turn}
 use Rattle.md_core.proofs.Induction.Going.{Goes}
@@ -32,6 +19,7 @@ use Rattle.md_core.proofs.Looking.LookUps.{unique-named}
 use Rattle.md_core.proofs.Lists.Places.{at_place}
 use Rattle.md_core.proofs.Runs.ByEvent.{moment-over}
 use Rattle.md_core.proofs.Mailbox.Allowed.{FitsNames, allowed-fits, renamed-beside}
+use Rattle.md_core.proofs.Traces.Same.{effects-same}
 
 -- ---- one effect
 
@@ -69,12 +57,16 @@ module _ (r : Run) (run : IsRun r) where
       (λ e at. (option_to_list (what-at r run each-turn k e at).effect, (going k e at).effects))
       (λ past. ([], ap (λ (m : Machine). m.effects) (moment-over r k past) ∙ sym (append-nil (machine_at r k).effects)))
 
+  -- the effects between two moments
+  abbrev effects_between : ℕ → ℕ → List Effect
+  effects_between i j = drop (length (effects (trace_of r) i)) (effects (trace_of r) j)
+
   pub touches-between : (job : ℕ) (u : List ℕ) (i j : ℕ) → i ≤ j →
-      touches r job u i + count_by (is_touch job u) (effects_between r i j) ≡ touches r job u j
+      touches r job u i + count_by (is_touch job u) (effects_between i j) ≡ touches r job u j
   touches-between job u i j within =
       let later = grows r grows-one i j within in
-      let rest : effects_between r i j ≡ later.0 =
-      ap (drop (length (machine_at r i).effects)) later.1 ∙ drop-append_seam (machine_at r i).effects later.0 in
+      let rest : effects_between i j ≡ later.0 =
+      (λ p. drop (length (effects-same r run i p)) (effects-same r run j p)) ∙ ap (drop (length (machine_at r i).effects)) later.1 ∙ drop-append_seam (machine_at r i).effects later.0 in
       ap (λ (es : List Effect). touches r job u i + count_by (is_touch job u) es) rest
       ∙ sym (count-append (is_touch job u) (machine_at r i).effects later.0) ∙ ap (count_by (is_touch job u)) (sym later.1)
 

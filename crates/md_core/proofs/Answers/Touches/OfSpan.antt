@@ -1,25 +1,12 @@
 -- What one look-up says is so at its moment; and what a search says that looked in new and then in cur is so at one of the two moments.
 use Rattle.md_jobs.specs.Tasks.Errand.{Stage, Look, Act}
-use Rattle.md_jobs.specs.Tasks.Purpose.{Purpose}
-use Rattle.md_jobs.specs.Machines.Purposes.{searches, place_after, first}
 use Rattle.md_jobs.specs.Machines.Errand.{at_stage}
 use Rattle.md_core.proofs.Machines.Errand.Table.Rows.{one-place, last-place}
 use Rattle.std.proofs.Common.{ℕ, ◌≡◌, ◌<◌, ◌≤◌, ◌+◌, ◌⊎◌, inl, inr, List, Option, Some, None, Bool, true, false, cond, not, refl, sym, ap, subst, ◌∙◌, length, arith, if◌then◌else◌}
 use Rattle.std.proofs.lemmas.Bool.{eq-eqb, and_from, and_parts, not-true}
-use Rattle.std.specs.FinMap.{get}
-use Rattle.md_dirs.specs.Path.{place_index}
-use Rattle.md_core.proofs.Values.{State, Tmp, New, Cur, Call, Answer, DirReply, Task, Deliver, Errand, Clean}
-use Rattle.md_dirs.specs.declared.paths.Place.{Place}
+use Rattle.md_core.proofs.Values.{State, Tmp, New, Cur, Call, Answer, DirReply, Task, Deliver, Errand, Clean, place_index, Place, Entry, mailbox_of, is_tmp, alone, entry_if, is_in_place, is_in_folder, working, job_at, new_job, Run, machine_at, box_in, call_at, IsStepOf, After, IsRun, IsOfSpan, trace_of, Purpose, searches, place_after, first, get}
 use Rattle.md_jobs.specs.declared.answer.Answer.TheVariants as answer
 use Rattle.md_jobs.specs.declared.call.Call.TheVariants as call
-use Rattle.md_core.specs.Mailbox.{Entry, is_tmp}
-use Rattle.md_core.specs.Alone.{entry_if, is_in_place, is_in_folder}
-use Rattle.md_core.specs.Machine.{working, job_at, new_job}
-use Rattle.md_core.specs.Runs.{Run, machine_at, box_in}
-use Rattle.md_core.specs.Trace.{call_at}
-use Rattle.md_jobs.specs.Turn.{After}
-use Rattle.md_core.specs.Stepping.{IsRun}
-use Rattle.md_core.proofs.Answers.OfRun.{IsStep, IsOfSpan}
 use Rattle.md_core.proofs.Induction.Good.{ErrandFits, TaskFits}
 use Rattle.md_core.proofs.Mailbox.Shown.{mailbox-shows}
 use Rattle.md_core.proofs.Answers.LastStep.{IsTurn, reply_in, left_by, is-step, is_within, holds}
@@ -29,13 +16,15 @@ use Rattle.md_core.proofs.Answers.Turns.Told.{at-none}
 use Rattle.md_core.proofs.Answers.Touches.StaysInCur.{stays-in_cur}
 use Rattle.md_core.proofs.Machines.Errand.Table.Calls.{IfWorking, new-task}
 use Rattle.md_core.proofs.Machines.Errand.Table.Says.{alone-none}
+use Rattle.md_core.proofs.Traces.Same.{state-same}
 
 -- what a call would be answered alone at a step of its job
-pub at-step : (r : Run) (job k : ℕ) (c : Call) (a : Answer) → IsStep r job k → IsAlone (machine_at r k).dirs c a → IsOfSpan r job c a
-at-step r job k c a step is = record {
+pub at-step : (r : Run) → IsRun r → (job k : ℕ) (c : Call) (a : Answer) → IsStepOf (trace_of r) job k → IsAlone (machine_at r k).dirs c a →
+    IsOfSpan (trace_of r) job c a
+at-step r run job k c a step is = record {
   k = k;
   in_span = record { from = k; to = k; begun = step; goes_on = step; after = omega arith; before = omega arith };
-  is = is;
+  is = ap (λ (s : State). (alone c (mailbox_of s)).answer) (state-same r run k) ∙ is;
 }
 
 -- ---- a search that is past new
@@ -43,7 +32,7 @@ at-step r job k c a step is = record {
 -- an earlier step of the job, at which the message was not in new
 record WasPastNew (r : Run) (job : ℕ) (folder : ℕ) (u : List ℕ) (k : ℕ) : Type 0 where
   from : ℕ
-  begun : IsStep r job from
+  begun : IsStepOf (trace_of r) job from
   before : from < k
   none : entry_if (is_in_place New folder) (get (box_in (machine_at r from)) u) ≡ None
 
@@ -65,7 +54,7 @@ new-searched r job c = λ both cur. cc
 
 module _ (r : Run) (k job : ℕ) where
   -- the step at which the job looked in new
-  just-searched : (step : IsStep r job k) (task : Task) → HasLooked (machine_at r k).dirs task → SearchedBy r (k + 1) job task
+  just-searched : (step : IsStepOf (trace_of r) job k) (task : Task) → HasLooked (machine_at r k).dirs task → SearchedBy r (k + 1) job task
   just-searched step (Deliver d) h = tt
   just-searched step (Errand e) h = by e.stage h
     where
@@ -83,7 +72,7 @@ module _ (r : Run) (k job : ℕ) where
   clean-searched (Clean c) h = tt
   clean-searched task h = absurd h
 
-  searched-on : (s' : State) (c : Call) (step : IsStep r job k) (task : Task) (given : DirReply) (after : After Task) →
+  searched-on : (s' : State) (c : Call) (step : IsStepOf (trace_of r) job k) (task : Task) (given : DirReply) (after : After Task) →
       TaskSays (machine_at r k).dirs s' c given task after →
       after.answer ≡ None → SearchedBy r (k + 1) job after.task
   searched-on s' c step (Deliver d) given after says none = undoing-searched given after.task (at-none after.answer _ _ none says)
@@ -106,7 +95,7 @@ module _ (r : Run) (run : IsRun r) where
   searched-at = holds r run (Searched r)
       (λ job c task of new c' of'. new-task (SearchedBy r 0 job) c task (new-searched r job c) new)
       (λ k job t none was c of.
-      searched-on r k job (machine_at r (k + 1)).dirs c (is-step r k job t) t.task (reply_in (machine_at r k) t.event t.task) (left_by r k job t)
+      searched-on r k job (machine_at r (k + 1)).dirs c (is-step r run k job t) t.task (reply_in (machine_at r k) t.event t.task) (left_by r k job t)
       (turn-says r run k job c of t) none)
       (λ k job task e at differ there was c of. still-searched r k job task (was c of))
 
@@ -165,22 +154,22 @@ module _ (r : Run) (run : IsRun r) where
             on false out = inl (outside (get (box_in (machine_at r i)) u) x is out)
 
   -- what an errand says that ended after its last place
-  module _ (k job : ℕ) (c : Call) (step : IsStep r job k) (folder : ℕ) (u : List ℕ) (place : Place) (tries : ℕ) where
+  module _ (k job : ℕ) (c : Call) (step : IsStepOf (trace_of r) job k) (folder : ℕ) (u : List ℕ) (place : Place) (tries : ℕ) where
     -- one look says it of its own moment, and a search of one of its two
     search-none : ((i : ℕ) → entry_if (is_in_folder folder) (get (box_in (machine_at r i)) u) ≡ None → IsAlone (machine_at r i).dirs c answer.NotThere) →
         place ≡ Cur → entry_if (is_in_place place folder) (get (box_in (machine_at r k)) u) ≡ None → WasPastNew r job folder u k →
-        IsOfSpan r job c answer.NotThere
+        IsOfSpan (trace_of r) job c answer.NotThere
     search-none alone-none cur none was =
         let b = was.before in
         let gone = subst (λ (q : Place). entry_if (is_in_place q folder) (get (box_in (machine_at r k)) u) ≡ None) cur none in
         elim (not-there was.from k (omega (arith, b)) folder u was.none gone) [
-          | inl first ↦ at-step r job was.from c answer.NotThere was.begun (alone-none was.from first)
-          | inr last ↦ at-step r job k c answer.NotThere step (alone-none k last)
+          | inl first ↦ at-step r run job was.from c answer.NotThere was.begun (alone-none was.from first)
+          | inr last ↦ at-step r run job k c answer.NotThere step (alone-none k last)
         ]
 
     errand-none : (p : Purpose) (fits : ErrandFits (machine_at r k).dirs c (record { folder = folder; unique = u; purpose = p; stage = Look place tries })) →
         IsPastLast (machine_at r k).dirs folder u (searches p) (Look place tries) → SearchedAt r k job folder u (searches p) (Look place tries) →
-        IsOfSpan r job c answer.NotThere
+        IsOfSpan (trace_of r) job c answer.NotThere
     errand-none p fits h was = by (searches p) refl
       where
         alone-then : (b : Bool) → searches p ≡ b → (i : ℕ) →
@@ -191,33 +180,33 @@ module _ (r : Run) (run : IsRun r) where
             (ap (λ (both : Bool). entry_if (if both then is_in_folder folder else is_in_place (first p) folder) (get (box_in (machine_at r i)) u)) is
             ∙ none))
 
-        by : (b : Bool) → searches p ≡ b → IsOfSpan r job c answer.NotThere
+        by : (b : Bool) → searches p ≡ b → IsOfSpan (trace_of r) job c answer.NotThere
         by true both =
             let cur = last-place p place both fits.stage (ap (λ (b : Bool). place_after b place) (sym both) ∙ h.1) in
             search-none (alone-then true both) cur h.0 (was both cur)
         by false one =
             let first-is = one-place p place one fits.stage in
-            at-step r job k c answer.NotThere step
+            at-step r run job k c answer.NotThere step
             (alone-then false one k (subst (λ (q : Place). entry_if (is_in_place q folder) (get (box_in (machine_at r k)) u) ≡ None) first-is h.0))
 
   -- nothing was found at the last turn of a job
   pub says-none : (k job : ℕ) (c : Call) → call_at r.calls job ≡ Some c → (t : IsTurn r k job) → FindsNone (machine_at r k).dirs c t.task →
-      IsOfSpan r job c answer.NotThere
+      IsOfSpan (trace_of r) job c answer.NotThere
   says-none k job c of t finds =
       by t.task finds (searched-at k job t.task (let within = is_within r k job t in omega (arith, within)) t.there c of)
       (fits-at r run k job c of t.task t.there)
     where
-      step : IsStep r job k
-      step = is-step r k job t
+      step : IsStepOf (trace_of r) job k
+      step = is-step r run k job t
 
       by : (task : Task) → FindsNone (machine_at r k).dirs c task → SearchedBy r k job task → TaskFits (machine_at r k).dirs c task →
-          IsOfSpan r job c answer.NotThere
+          IsOfSpan (trace_of r) job c answer.NotThere
       by (Deliver d) h was fits = absurd h
       by (Errand e) h was fits = at e.stage h was fits
         where
           at : (stage : Stage) → IsPastLast (machine_at r k).dirs e.folder e.unique (searches e.purpose) stage →
               SearchedAt r k job e.folder e.unique (searches e.purpose) stage → ErrandFits (machine_at r k).dirs c (at_stage e stage) →
-              IsOfSpan r job c answer.NotThere
+              IsOfSpan (trace_of r) job c answer.NotThere
           at (Look place tries) h was fits = errand-none k job c step e.folder e.unique place tries e.purpose fits h was
           at (Act place row tries) h was fits = absurd h
       by (Clean x) h was fits = absurd h

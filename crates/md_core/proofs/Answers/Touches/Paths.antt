@@ -1,10 +1,6 @@
 -- A path of a message that is there is one that is listed, and the other way round.
 use Rattle.std.proofs.Common.{ℕ, ◌≡◌, List, Some, refl, sym, ap, ◌∙◌}
-use Rattle.md_dirs.specs.State.{State, file_at}
-use Rattle.md_dirs.specs.declared.paths.Path.{Path}
-use Rattle.md_name.specs.Names.{unique_of}
-use Rattle.md_core.specs.Mailbox.{mailbox_of, entry_of, HasOnePath}
-use Rattle.md_core.specs.History.{names_of, IsThere}
+use Rattle.md_core.proofs.Values.{State, file_at, Path, unique_of, mailbox_of, entry_of, HasOnePath, names_of, IsThere}
 use Rattle.md_core.proofs.Mailbox.Renamed.{listed-there}
 use Rattle.md_core.proofs.Mailbox.Paths.{names-shown}
 use Rattle.md_core.proofs.Mailbox.Shown.{shows-mailbox}

@@ -1,23 +1,12 @@
 -- A message that is in cur at a moment of a run is in cur at each later one, or gone.
 use Rattle.std.proofs.Common.{ℕ, zero, suc, ◌≡◌, ◌≤◌, ◌+◌, ◌-◌, List, Option, Some, None, IfSome, refl, sym, ap, subst, ◌∙◌, length, arith}
-use Rattle.std.specs.FinMap.{get}
-use Rattle.std.specs.Option.{option_map}
-use Rattle.md_dirs.specs.declared.paths.Place.TheVariants.{Cur}
-use Rattle.md_jobs.specs.declared.effect.Effect.{Effect}
-use Rattle.md_core.specs.Mailbox.{Entry, Mailbox}
-use Rattle.md_core.specs.History.{Names, names_of, as_listed}
-use Rattle.md_core.specs.Machine.{Machine}
-use Rattle.md_core.specs.Trace.{Step}
-use Rattle.md_core.specs.Runs.{Run, machine_at, box_in}
-use Rattle.md_core.specs.Stepping.{IsRun, AsAlone}
+use Rattle.md_core.proofs.Values.{Cur, Effect, Entry, Mailbox, Names, names_of, as_listed, Machine, Step, Run, machine_at, box_in, IsRun, AsAlone, MakesMessage, get, option_map, IsInCur}
 use Rattle.md_core.proofs.Induction.Good.{Affects, Known, own_effect}
 use Rattle.md_core.proofs.Machines.EachTurn.{each-turn}
 use Rattle.md_core.proofs.Induction.Going.{Goes}
 use Rattle.md_core.proofs.Induction.GoodRuns.{going-at, what-at}
 use Rattle.md_core.proofs.Induction.Knowing.{known-there, known-more}
 use Rattle.md_core.proofs.Mailbox.Naming.{get-names}
-use Rattle.md_core.specs.Laws.{IsInCur}
-use Rattle.md_core.specs.Accepting.{MakesMessage}
 use Rattle.md_core.proofs.Theorem.Placed.{placed-kept}
 use Rattle.md_core.proofs.Lists.Places.{at_place}
 use Rattle.md_core.proofs.Runs.ByEvent.{moment-over}

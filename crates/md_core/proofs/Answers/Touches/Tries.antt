@@ -1,17 +1,7 @@
 -- A try is over only where another job touched the message since it began: so a call that is lost was touched once for each of its tries.
 use Rattle.std.proofs.Common.{ℕ, ◌≡◌, ◌≢◌, ◌≤◌, ◌+◌, ◌⊎◌, inl, inr, List, Some, None, refl, sym, ap, subst, ◌∙◌, length, slice_get, arith}
-use Rattle.std.specs.FinMap.{get}
-use Rattle.md_core.proofs.Values.{State, Call, DirReply, Task, Deliver, Errand, Clean}
-use Rattle.md_dirs.specs.declared.paths.Path.{Path}
-use Rattle.md_name.specs.Names.{unique_of}
+use Rattle.md_core.proofs.Values.{State, Call, DirReply, Task, Deliver, Errand, Clean, Path, unique_of, names_of, working, Occurrence, job_at, new_job, Run, machine_at, box_in, call_at, IsStepOf, After, IsRun, IsTouched, IsLost, trace_of, get}
 use Rattle.md_jobs.specs.declared.call.Call.TheVariants as call
-use Rattle.md_core.specs.History.{names_of}
-use Rattle.md_core.specs.Machine.{working, Occurrence, job_at, new_job}
-use Rattle.md_core.specs.Runs.{Run, machine_at, box_in}
-use Rattle.md_core.specs.Trace.{call_at}
-use Rattle.md_jobs.specs.Turn.{After}
-use Rattle.md_core.specs.Stepping.{IsRun}
-use Rattle.md_core.proofs.Answers.OfRun.{IsStep, IsTouched, IsLost}
 use Rattle.md_core.proofs.Induction.Good.{TaskFits}
 use Rattle.md_core.proofs.Answers.LastStep.{IsTurn, reply_in, left_by, is-step, is_within, holds}
 use Rattle.md_core.proofs.Answers.Turns.OneMessage.{Trying, idle, looking, acting, trying_of, TriesOn, IsOver}
@@ -25,7 +15,7 @@ use Rattle.md_core.proofs.Machines.Errand.Table.Rows.{no-delivery, no-clean}
 -- Since a step of the job the name was touched so often that with the tries that are left these are at least so many.
 record Since (r : Run) (job : ℕ) (u : List ℕ) (all left k : ℕ) : Type 0 where
   from : ℕ
-  begun : IsStep r job from
+  begun : IsStepOf (trace_of r) job from
   before : from ≤ k
   enough : touches r job u from + all ≤ touches r job u k + left
 
@@ -51,7 +41,7 @@ module _ (r : Run) (run : IsRun r) (job : ℕ) (u : List ℕ) (all : ℕ) where
   }
 
   -- a turn of the job
-  module _ (k : ℕ) (step : IsStep r job k) where
+  module _ (k : ℕ) (step : IsStepOf (trace_of r) job k) where
     -- the first step of a job, or a later one
     since-step : (tries : ℕ) → (tries ≡ all) ⊎ Since r job u all tries k → Since r job u all tries (k + 1)
     since-step tries (inl is) = record {
@@ -127,8 +117,8 @@ module _ (r : Run) (run : IsRun r) (job : ℕ) (u : List ℕ) (all : ℕ) where
     )
 
   -- a job whose last try is over
-  over-touched : (k : ℕ) → IsStep r job k → (now : Trying) → IsOver (machine_at r k).dirs now → IsTrying r job u all k now →
-      IsTouched r job u all
+  over-touched : (k : ℕ) → IsStepOf (trace_of r) job k → (now : Trying) → IsOver (machine_at r k).dirs now → IsTrying r job u all k now →
+      IsTouched (trace_of r) job u all
   over-touched k step idle over was = absurd over
   over-touched k step (looking tries) over was = absurd over
   over-touched k step (acting p tries) over was = elim was.1 [
@@ -166,7 +156,7 @@ module _ (r : Run) (run : IsRun r) where
   clean-tries job u all k (Clean c) h = tt
   clean-tries job u all k task h = absurd h
 
-  tries-on : (k job : ℕ) (c : Call) (step : IsStep r job k) (task : Task) (given : DirReply) (after : After Task) →
+  tries-on : (k job : ℕ) (c : Call) (step : IsStepOf (trace_of r) job k) (task : Task) (given : DirReply) (after : After Task) →
       TaskSays (machine_at r k).dirs (machine_at r (k + 1)).dirs c given task after →
       after.answer ≡ None → IsTrying r job (sought c) (tries_in c) k (trying_of task) →
       IsTrying r job (sought c) (tries_in c) (k + 1) (trying_of after.task)
@@ -185,17 +175,17 @@ module _ (r : Run) (run : IsRun r) where
       subst (λ (x : Call). IsTrying r job (sought x) (tries_in x) 0 (trying_of task)) same
       (new-task (λ task. IsTrying r job (sought c) (tries_in c) 0 (trying_of task)) c task (new-tries r job c) new))
       (λ k job t none was c of.
-      tries-on k job c (is-step r k job t) t.task (reply_in (machine_at r k) t.event t.task) (left_by r k job t)
+      tries-on k job c (is-step r run k job t) t.task (reply_in (machine_at r k) t.event t.task) (left_by r k job t)
       (turn-says r run k job c of t) none (was c of))
       (λ k job task e at differ there was c of. other-tries r run job (sought c) (tries_in c) k e at differ (trying_of task) (was c of))
 
   -- a touched call of a task that has tries is lost
   lost-call : (s : State) (job : ℕ) (c : Call) (task : Task) → TaskFits s c task → IsOver s (trying_of task) →
-      IsTouched r job (sought c) (tries_in c) → IsLost r job c
+      IsTouched (trace_of r) job (sought c) (tries_in c) → IsLost (trace_of r) job c
   lost-call s job c (Deliver d) fits over touched = absurd over
   lost-call s job c (Errand e) fits over touched = by c fits.of touched
     where
-      by : (x : Call) → x ≡ call_by e.folder e.unique e.purpose fits.tries → IsTouched r job (sought x) (tries_in x) → IsLost r job x
+      by : (x : Call) → x ≡ call_by e.folder e.unique e.purpose fits.tries → IsTouched (trace_of r) job (sought x) (tries_in x) → IsLost (trace_of r) job x
       by (call.Deliver folder u body chunk) is h = absurd (no-delivery e.purpose e.folder e.unique fits.tries folder u body chunk is)
       by (call.Clean folder) is h = absurd (no-clean e.purpose e.folder e.unique fits.tries folder is)
       by x is h = h
@@ -203,9 +193,9 @@ module _ (r : Run) (run : IsRun r) where
 
   -- a job that ends with its last try
   pub says-lost : (k job : ℕ) (c : Call) → call_at r.calls job ≡ Some c → (t : IsTurn r k job) →
-      IsOver (machine_at r k).dirs (trying_of t.task) → IsLost r job c
+      IsOver (machine_at r k).dirs (trying_of t.task) → IsLost (trace_of r) job c
   says-lost k job c of t over =
       let within = is_within r k job t in
       lost-call (machine_at r k).dirs job c t.task (fits-at r run k job c of t.task t.there) over
-      (over-touched r run job (sought c) (tries_in c) k (is-step r k job t) (trying_of t.task) over
+      (over-touched r run job (sought c) (tries_in c) k (is-step r run k job t) (trying_of t.task) over
       (tries-at k job t.task (omega (arith, within)) t.there c of))

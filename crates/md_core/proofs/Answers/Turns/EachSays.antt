@@ -1,14 +1,7 @@
 -- What each turn of a run says, whatever its task.
 use Rattle.std.proofs.Common.{ℕ, zero, suc, ◌≡◌, ◌<◌, ◌+◌, Some, refl, sym, ap, subst, ◌∙◌, MatchOption}
-use Rattle.md_core.proofs.Values.{State, DirReply, Moment, Task, Deliver, Errand, Clean}
-use Rattle.md_jobs.specs.declared.call.Call.{Call}
+use Rattle.md_core.proofs.Values.{State, DirReply, Moment, Task, Deliver, Errand, Clean, Call, Machine, working, job_at, moment_of, Run, machine_at, call_at, After, ask_of, state_by, IsRun}
 use Rattle.md_jobs.specs.declared.call.Call.TheVariants as call
-use Rattle.md_core.specs.Machine.{Machine, working, job_at, moment_of}
-use Rattle.md_core.specs.Runs.{Run, machine_at}
-use Rattle.md_core.specs.Trace.{call_at}
-use Rattle.md_jobs.specs.Turn.{After}
-use Rattle.md_jobs.specs.Asked.{ask_of, state_by}
-use Rattle.md_core.specs.Stepping.{IsRun}
 use Rattle.md_core.proofs.Induction.Good.{IsGood, TaskFits}
 use Rattle.md_core.proofs.Machines.EachTurn.{each-turn}
 use Rattle.md_core.proofs.Runs.Events.{happens-turned}

@@ -1,14 +1,10 @@
 -- What each turn of a clean says: it fails only where a call faults.
 use Rattle.std.proofs.Common.{ℕ, ◌≡◌, ◌<◌, ◌-◌, List, [], ◌∷◌, Bool, length, refl, MatchOption}
 use Rattle.md_dirs.specs.Calls as dirs
-use Rattle.md_dirs.specs.Rows.{rows_of}
-use Rattle.md_core.proofs.Values.{State, Answer, DirReply, Moment}
-use Rattle.md_dirs.specs.declared.paths.Place.TheVariants.{Tmp}
+use Rattle.md_core.proofs.Values.{State, Answer, DirReply, Moment, rows_of, Tmp, After, Turn, rows_for, reply_of, ask_of}
 use Rattle.md_jobs.specs.declared.answer.Answer.TheVariants as answer
 use Rattle.md_jobs.specs.Tasks.Cleaning.{Cleaning, Stage, Look, Remove}
 use Rattle.md_jobs.specs.declared.step.DirReply.TheVariants as reply
-use Rattle.md_jobs.specs.Turn.{After, Turn, rows_for, reply_of}
-use Rattle.md_jobs.specs.Asked.{ask_of}
 use Rattle.md_jobs.specs.Machines.Clean.{at_stage, tmp, old_names, after_next, look_turn, unlink_turn, stage_turn, cleaning_turn}
 use Rattle.md_core.proofs.Answers.Turns.Refusals.{list-exists, list-not_found, unlink-exists}
 

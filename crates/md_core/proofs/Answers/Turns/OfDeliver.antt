@@ -2,14 +2,9 @@
 -- or its file in tmp is gone, or its time is over.
 use Rattle.std.proofs.Common.{ℕ, ◌≡◌, [], None, Bool, true, false, cond, length, nat_lt, refl, MatchOption}
 use Rattle.md_dirs.specs.Calls as dirs
-use Rattle.md_core.proofs.Values.{State, file_at, Call, DirReply, Moment}
-use Rattle.md_jobs.specs.declared.answer.Answer.{Answer}
+use Rattle.md_core.proofs.Values.{State, file_at, Call, DirReply, Moment, Answer, Delivery, Stage, Start, Writing, Linked, Undo, After, Turn, rows_for, reply_of, ask_of, refused_by}
 use Rattle.md_jobs.specs.declared.answer.Answer.TheVariants as answer
-use Rattle.md_jobs.specs.Machines.Refusals.{refused_by}
-use Rattle.md_jobs.specs.Tasks.Delivery.{Delivery, Stage, Start, Writing, Linked, Undo}
 use Rattle.md_jobs.specs.declared.step.DirReply.TheVariants as reply
-use Rattle.md_jobs.specs.Turn.{After, Turn, rows_for, reply_of}
-use Rattle.md_jobs.specs.Asked.{ask_of}
 use Rattle.md_jobs.specs.Machines.Deliver.{at_stage, target, piece, create_turn, append_turn, link_turn, unlink_turn, stage_turn, delivery_turn, is_in_time}
 use Rattle.md_core.proofs.Induction.Good.{DeliveryFits}
 use Rattle.md_core.proofs.Directories.Frames.{tmp-key}

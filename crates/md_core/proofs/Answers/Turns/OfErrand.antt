@@ -1,26 +1,14 @@
 -- What each turn of an errand says, by its stage, the reply and what is decided.
 use Rattle.std.proofs.Common.{ℕ, ◌≡◌, ◌-◌, ◌<◌, List, Option, Some, None, Bool, true, false, cond, nat_le, refl, sym, ap, subst, ◌∙◌, arith}
 use Rattle.std.proofs.lemmas.Bool.Decides.{nat_tests}
-use Rattle.std.specs.FinMap.{get}
 use Rattle.md_dirs.specs.Calls as dirs
-use Rattle.md_dirs.specs.Rows.{rows_of, row_named}
-use Rattle.md_core.proofs.Values.{State, file_at, path_of, Path, New, Cur, Row, Call, DirReply, Moment, Errand}
-use Rattle.md_dirs.specs.declared.paths.Place.{Place}
+use Rattle.md_core.proofs.Values.{State, file_at, path_of, Path, New, Cur, Row, Call, DirReply, Moment, Errand, rows_of, row_named, Place, mailbox_of, HasOnePath, entry_if, is_in_place, Turn, After, goes_on, rows_for, reply_of, ask_of, state_by, as_task, get, Purpose, first, searches, place_after, info_in, decide, deed_by, refuses, Deed, Rename, Link, Unlink}
 use Rattle.md_jobs.specs.Tasks.Errand.{Errand as ErrandOf, Stage, Look, Act}
-use Rattle.md_jobs.specs.Tasks.Decision.{Decision}
-use Rattle.md_jobs.specs.Tasks.Decision as decision
-use Rattle.md_jobs.specs.Tasks.Purpose.{Purpose}
-use Rattle.md_jobs.specs.Tasks.Refusal as refusal
+use Rattle.md_jobs.specs.declared.purpose.Decision.{Decision}
+use Rattle.md_jobs.specs.declared.purpose.Decision.TheVariants as decision
+use Rattle.md_jobs.specs.declared.refusal.Refusal.TheVariants as refusal
 use Rattle.md_jobs.specs.declared.step.DirReply.TheVariants as reply
-use Rattle.md_core.specs.Mailbox.{mailbox_of, HasOnePath}
-use Rattle.md_core.specs.Alone.{entry_if, is_in_place}
-use Rattle.md_jobs.specs.Turn.{Turn, After, goes_on, rows_for, reply_of}
-use Rattle.md_jobs.specs.Asked.{ask_of, state_by}
-use Rattle.md_core.specs.Machine.{as_task}
-use Rattle.md_jobs.specs.Machines.Purposes.{first, searches, place_after, info_in, decide, deed_by}
 use Rattle.md_jobs.specs.Machines.Errand.{at_stage, asked_of, after_none, after_decision, after_row, look_turn, stage_turn, errand_turn}
-use Rattle.md_jobs.specs.Machines.Refusals.{refuses}
-use Rattle.md_jobs.specs.Tasks.Deed.{Deed, Rename, Link, Unlink}
 use Rattle.md_core.proofs.Induction.Good.{ErrandFits}
 use Rattle.md_core.proofs.Looking.LookUps.{IsRow, found-row, row-message, no-entry}
 use Rattle.md_core.proofs.Machines.Stays.{as_after}

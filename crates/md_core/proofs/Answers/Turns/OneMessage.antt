@@ -1,16 +1,9 @@
 -- What a turn of a job that acts on one message says: of the answer that it gives, or of how the job goes on.
 use Rattle.md_jobs.specs.Tasks.Errand.{Stage, Look, Act}
-use Rattle.md_jobs.specs.Machines.Purposes.{searches, place_after}
 use Rattle.std.proofs.Common.{ℕ, ◌≡◌, ◌+◌, ◌≤◌, List, Some, None, Bool, true, MatchOption}
-use Rattle.std.specs.FinMap.{get}
-use Rattle.md_core.proofs.Values.{State, file_at, Path, New, Cur, Call, Answer, DirReply, Task, Errand}
-use Rattle.md_dirs.specs.Path.{path_of}
-use Rattle.md_name.specs.Names.{unique_of}
+use Rattle.md_core.proofs.Values.{State, file_at, Path, New, Cur, Call, Answer, DirReply, Task, Errand, path_of, unique_of, mailbox_of, is_message, alone, entry_if, is_in_place, After, searches, place_after, get}
 use Rattle.md_jobs.specs.declared.answer.Answer.TheVariants as answer
 use Rattle.md_jobs.specs.declared.step.DirReply.TheVariants as reply
-use Rattle.md_core.specs.Mailbox.{mailbox_of, is_message}
-use Rattle.md_core.specs.Alone.{alone, entry_if, is_in_place}
-use Rattle.md_jobs.specs.Turn.{After}
 use Rattle.md_core.proofs.Machines.Errand.Table.Calls.{sought}
 
 -- How far a job is with its tries: it looks for its message, or it acts on a path of it. Deliveries and cleans have none.

@@ -2,13 +2,7 @@
 use Rattle.std.proofs.Common.{ℕ, ◌≡◌, ◌<◌, List, Option, Some, None, Bool, true, false, cond, is_some, nat_lt, refl, ap, arith}
 use Rattle.std.proofs.lemmas.Bool.Decides.{nat_tests}
 use Rattle.md_dirs.specs.Calls as dirs
-use Rattle.md_dirs.specs.State.{State, file_at, has_folder}
-use Rattle.md_dirs.specs.declared.calls.DirError.{DirError}
-use Rattle.md_dirs.specs.declared.calls.DirError.TheVariants.{Exists, NotFound, Fault, NoMemory}
-use Rattle.md_dirs.specs.declared.paths.Path.{Path}
-use Rattle.md_dirs.specs.declared.paths.Place.{Place}
-use Rattle.md_jobs.specs.Turn.{reply_of}
-use Rattle.md_jobs.specs.Asked.{reply_by}
+use Rattle.md_core.proofs.Values.{State, file_at, has_folder, Path, Place, reply_of, reply_by, DirError, Exists, NotFound, Fault, NoMemory}
 use Rattle.md_jobs.specs.declared.step.DirReply.TheVariants as reply
 
 -- a call that says that a name is there, or isn't, was refused for that

@@ -1,9 +1,7 @@
 -- What the answer of a turn tells, whatever its task.
 use Rattle.std.proofs.Common.{◌≡◌, Option, Some, None, subst, MatchOption}
-use Rattle.md_core.proofs.Values.{State, Call, DirReply, Task, Deliver, Errand, Clean}
-use Rattle.md_jobs.specs.declared.answer.Answer.{Answer}
+use Rattle.md_core.proofs.Values.{State, Call, DirReply, Task, Deliver, Errand, Clean, Answer, After}
 use Rattle.md_jobs.specs.declared.answer.Answer.TheVariants as answer
-use Rattle.md_jobs.specs.Turn.{After}
 use Rattle.md_core.proofs.Answers.Turns.OneMessage.{Tells}
 use Rattle.md_core.proofs.Answers.Turns.OfDeliver.{DeliveryTells}
 use Rattle.md_core.proofs.Answers.Turns.OfClean.{CleanTells}

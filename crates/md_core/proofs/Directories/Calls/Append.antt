@@ -1,10 +1,7 @@
 -- Bytes added to a file in tmp that has no other name.
 use Rattle.std.proofs.Common.{ℕ, ◌≡◌, ◌≢◌, ◌++◌, inl, inr, List, Option, Some, None, refl, ap, ◌∙◌, IsSome}
-use Rattle.md_core.proofs.Values.{State, file_at, IsSound, file_by, Path, Tmp}
-use Rattle.md_dirs.specs.Calls.{after_append, file_with_more}
-use Rattle.md_dirs.specs.declared.paths.File.{File}
+use Rattle.md_core.proofs.Values.{State, file_at, IsSound, file_by, Path, Tmp, bytes_of, after_append, file_with_more, File}
 use Rattle.md_dirs.proofs.Sound.{file_by-set_same, file_by-set_other, number-within, sound-appended}
-use Rattle.md_core.specs.Mailbox.{bytes_of}
 use Rattle.md_core.proofs.Induction.Good.{bytes_at, IsAlone}
 use Rattle.md_core.proofs.Mailbox.Changes.{Keeps}
 use Rattle.md_core.proofs.Directories.Frames.{Frame, tmp-key, not_tmp, other_key}

@@ -1,11 +1,9 @@
 -- A name made in tmp, one that no path uses.
 use Rattle.std.proofs.Common.{ℕ, ◌≡◌, ◌≢◌, ◌<◌, inl, inr, [], Some, None, refl, sym, ap, ◌∙◌, length}
-use Rattle.md_core.proofs.Values.{State, file_at, IsSound, Path, Tmp}
-use Rattle.md_dirs.specs.Calls.{after_create}
+use Rattle.md_core.proofs.Values.{State, file_at, IsSound, Path, Tmp, is_tmp, bytes_of, after_create}
 use Rattle.md_dirs.proofs.PathOrder.{path_total, path_exact}
 use Rattle.lists.proofs.Maps as maps
 use Rattle.md_dirs.proofs.Sound.{by_path, file_by-push, file_by-last, number-within, new_number, sound-created}
-use Rattle.md_core.specs.Mailbox.{is_tmp, bytes_of}
 use Rattle.md_core.proofs.Induction.Good.{bytes_at, IsUnused, HasNoMessage, IsAlone}
 use Rattle.md_core.proofs.Mailbox.Changes.{Keeps}
 use Rattle.md_core.proofs.Directories.Frames.{Frame, message-key, tmp-key, not_tmp, other_key}

@@ -1,13 +1,9 @@
 -- A file in tmp linked to a message of its name, or a message's to a message of another, where no message has the name.
 use Rattle.std.proofs.Common.{ℕ, ◌≡◌, ◌≢◌, ◌<◌, ◌⊎◌, inl, inr, List, Some, None, true, refl, sym, ap, ◌∙◌}
-use Rattle.md_core.proofs.Values.{State, file_at, IsSound, Path}
-use Rattle.md_dirs.specs.Calls.{with_path}
+use Rattle.md_core.proofs.Values.{State, file_at, IsSound, Path, unique_of, is_message, name_used, with_path}
 use Rattle.md_dirs.proofs.PathOrder.{path_total, path_exact}
 use Rattle.lists.proofs.Maps as maps
 use Rattle.md_dirs.proofs.Sound.{by_path, sound-named}
-use Rattle.md_name.specs.Names.{unique_of}
-use Rattle.md_core.specs.Mailbox.{is_message}
-use Rattle.md_core.specs.Accepting.{name_used}
 use Rattle.md_core.proofs.Induction.Good.{bytes_at, HasNoMessage}
 use Rattle.md_core.proofs.Mailbox.Changes.{Puts}
 use Rattle.md_core.proofs.Directories.Frames.{Frame, message-key, other_key}

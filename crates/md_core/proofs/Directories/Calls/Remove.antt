@@ -1,12 +1,9 @@
 -- A message taken away.
 use Rattle.std.proofs.Common.{ℕ, ◌≡◌, ◌≢◌, inl, inr, Option, Some, None, true, refl, sym, ap, ◌∙◌}
-use Rattle.md_core.proofs.Values.{State, file_at, IsSound, Path}
-use Rattle.md_dirs.specs.Calls.{without_path, after_unlink}
+use Rattle.md_core.proofs.Values.{State, file_at, IsSound, Path, unique_of, is_message, bytes_of, HasOnePath, without_path, after_unlink}
 use Rattle.md_dirs.proofs.PathOrder.{path_total, path_exact}
 use Rattle.lists.proofs.Maps as maps
 use Rattle.md_dirs.proofs.Sound.{by_path, swept-kept, sound-without}
-use Rattle.md_name.specs.Names.{unique_of}
-use Rattle.md_core.specs.Mailbox.{is_message, bytes_of, HasOnePath}
 use Rattle.md_core.proofs.Induction.Good.{bytes_at}
 use Rattle.md_core.proofs.Mailbox.Changes.{Drops}
 use Rattle.md_core.proofs.Directories.Frames.{Frame, message-key, other_key}

@@ -1,14 +1,10 @@
 -- A message moved to another path of its unique name, whatever call did it.
 use Rattle.std.proofs.Common.{ℕ, ◌≡◌, ◌≢◌, ◌<◌, inl, inr, List, Option, Some, None, true, false, cond, refl, sym, ap, subst, ◌∙◌}
 use Rattle.std.specs.FinMap as finmap
-use Rattle.md_core.proofs.Values.{State, file_at, IsSound, Path}
-use Rattle.md_dirs.specs.Calls.{after_rename, with_path, without_path, with_files_still_named, is_one_file}
+use Rattle.md_core.proofs.Values.{State, file_at, IsSound, Path, unique_of, is_message, HasOnePath, name_used, after_rename, with_path, without_path, with_files_still_named, is_one_file}
 use Rattle.md_dirs.proofs.PathOrder.{path_total, path_exact}
 use Rattle.lists.proofs.Maps as maps
 use Rattle.md_dirs.proofs.Sound.{by_path, sound-moved}
-use Rattle.md_name.specs.Names.{unique_of}
-use Rattle.md_core.specs.Mailbox.{is_message, HasOnePath}
-use Rattle.md_core.specs.Accepting.{name_used}
 use Rattle.md_core.proofs.Mailbox.Changes.{Puts}
 use Rattle.md_core.proofs.Directories.Frames.{Frame, message-key, other_key}
 use Rattle.md_core.proofs.Directories.Spares.{Spares, spares-by}

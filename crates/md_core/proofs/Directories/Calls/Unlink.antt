@@ -1,11 +1,9 @@
 -- A name in tmp taken away.
 use Rattle.std.proofs.Common.{ℕ, ◌≡◌, ◌≢◌, inl, inr, Some, None, refl, sym, ap, ◌∙◌}
-use Rattle.md_core.proofs.Values.{State, file_at, IsSound, Path, Tmp}
-use Rattle.md_dirs.specs.Calls.{without_path, after_unlink}
+use Rattle.md_core.proofs.Values.{State, file_at, IsSound, Path, Tmp, is_tmp, bytes_of, without_path, after_unlink}
 use Rattle.md_dirs.proofs.PathOrder.{path_total, path_exact}
 use Rattle.lists.proofs.Maps as maps
 use Rattle.md_dirs.proofs.Sound.{by_path, swept-kept, sound-without}
-use Rattle.md_core.specs.Mailbox.{is_tmp, bytes_of}
 use Rattle.md_core.proofs.Induction.Good.{bytes_at}
 use Rattle.md_core.proofs.Mailbox.Changes.{Keeps}
 use Rattle.md_core.proofs.Directories.Frames.{Frame, Shrinks, tmp-key, not_tmp, other_key}

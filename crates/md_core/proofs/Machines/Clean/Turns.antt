@@ -3,19 +3,11 @@ use Rattle.std.proofs.Common.{ℕ, ◌≡◌, ◌<◌, ◌-◌, List, [], ◌∷
 use Rattle.std.proofs.lemmas.List.{length-map}
 use Rattle.std.proofs.lemmas.List.Filters.{length-filter_both}
 use Rattle.md_dirs.specs.Calls as dirs
-use Rattle.md_dirs.specs.Calls.{after_unlink}
-use Rattle.md_dirs.specs.Rows.{rows_of}
-use Rattle.md_core.proofs.Values.{State, IsSound, Call, Answer, DirReply, Moment, Clean}
-use Rattle.md_dirs.specs.declared.paths.Place.TheVariants.{Tmp}
+use Rattle.md_core.proofs.Values.{State, IsSound, Call, Answer, DirReply, Moment, Clean, rows_of, Tmp, HasOnePath, is_effect_at, is_success, as_task, Asked, list, unlink, ask_of, state_by, Turn, After, ends, rows_for, reply_of, after_unlink}
 use Rattle.md_jobs.specs.declared.answer.Answer.TheVariants as answer
 use Rattle.md_jobs.specs.Tasks.Cleaning.{Cleaning, Stage, Look, Remove}
 use Rattle.md_jobs.specs.declared.step.DirReply.TheVariants as reply
-use Rattle.md_core.specs.Mailbox.{HasOnePath}
-use Rattle.md_core.specs.Interleaving.{is_effect_at, is_success}
-use Rattle.md_core.specs.Machine.{as_task}
 use Rattle.md_jobs.specs.Machines.Clean.{at_stage, tmp, is_old, old_rows, old_names, after_next, look_turn, unlink_turn, stage_turn, cleaning_turn, steps_left}
-use Rattle.md_jobs.specs.Asked.{Asked, list, unlink, ask_of, state_by}
-use Rattle.md_jobs.specs.Turn.{Turn, After, ends, rows_for, reply_of}
 use Rattle.md_core.proofs.Induction.Good.{CleaningFits, Does}
 use Rattle.md_core.proofs.Mailbox.Changes.{one-keeps, mailbox-keeps}
 use Rattle.md_core.proofs.Directories.Frames.{Shrinks, task-shrinks}

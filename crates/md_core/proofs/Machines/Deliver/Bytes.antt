@@ -1,8 +1,7 @@
 -- The bytes that are written so far, with the next piece.
 use Rattle.std.proofs.Common.{ℕ, zero, suc, ◌≡◌, ◌+◌, ◌-◌, ◌<◌, ◌≤◌, ◌++◌, List, [], ◌∷◌, length, take, drop, refl, sym, ap, subst, ◌∙◌, arith}
-use Rattle.md_jobs.specs.Machines.Deliver.{piece_len, piece}
+use Rattle.md_core.proofs.Values.{piece_len, piece, Delivery}
 use Rattle.md_jobs.specs.Pieces.{pieces_of}
-use Rattle.md_jobs.specs.Tasks.Delivery.{Delivery}
 use Rattle.md_jobs.proofs.Pieces.{pieces-less}
 
 take-none : (m : ℕ) → take {A = ℕ} m [] ≡ []

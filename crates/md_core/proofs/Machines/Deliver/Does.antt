@@ -1,19 +1,11 @@
 -- What a turn of a delivery does, by what its call does: it goes on, ends, or takes effect.
 use Rattle.std.proofs.Common.{ℕ, ◌≡◌, ◌<◌, List, Option, Some, None, true, false, cond, length, refl, sym, ap, subst, ◌∙◌, MatchOption}
 use Rattle.std.specs.FinMap as finmap
-use Rattle.md_core.proofs.Values.{State, Call, Answer, Effect, DirReply, Deliver}
-use Rattle.md_dirs.specs.declared.paths.Place.TheVariants.{New}
+use Rattle.md_core.proofs.Values.{State, Call, Answer, Effect, DirReply, Deliver, New, Delivery, Stage, Linked, Entry, mailbox_of, HasOnePath, alone, deliver_alone, names_of, names_after_change, Asked, AsAlone, is_effect_at, is_success}
 use Rattle.md_jobs.specs.declared.answer.Answer.TheVariants as answer
 use Rattle.md_jobs.specs.declared.call.Call.TheVariants as call
-use Rattle.md_jobs.specs.Tasks.Delivery.{Delivery, Stage, Linked}
-use Rattle.md_core.specs.Mailbox.{Entry, mailbox_of, HasOnePath}
-use Rattle.md_core.specs.Alone.{alone, deliver_alone}
-use Rattle.md_core.specs.History.{names_of, names_after_change}
-use Rattle.md_jobs.specs.Asked.{Asked}
 use Rattle.md_jobs.specs.Machines.Deliver.{at_stage, target, delivery_effect, steps_left}
-use Rattle.md_core.specs.Stepping.{AsAlone}
 use Rattle.md_core.proofs.Theorem.RunLaw.{is_linked}
-use Rattle.md_core.specs.Interleaving.{is_effect_at, is_success}
 use Rattle.md_core.proofs.Induction.Good.{bytes_at, HasNoMessage, StageFits, DeliveryFits, Settles, Does}
 use Rattle.md_core.proofs.Mailbox.Changes.{Puts, one-keeps, mailbox-keeps, one-puts, mailbox-puts}
 use Rattle.md_core.proofs.Mailbox.Naming.{names-insert}

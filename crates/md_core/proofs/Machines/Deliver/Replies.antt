@@ -1,8 +1,6 @@
 -- What a reply of the directories says of them.
 use Rattle.std.proofs.Common.{ℕ, ◌≡◌, Option, Some, None, Bool, true, false, cond, refl, is_some}
-use Rattle.md_dirs.specs.declared.calls.DirError.{DirError}
-use Rattle.md_dirs.specs.declared.calls.DirError.TheVariants.{Exists, NotFound, Fault, NoMemory}
-use Rattle.md_jobs.specs.Asked.{reply_by}
+use Rattle.md_core.proofs.Values.{DirError, Exists, NotFound, Fault, NoMemory, reply_by}
 use Rattle.md_jobs.specs.declared.step.DirReply.TheVariants as reply
 
 -- a call that is done was refused by nothing

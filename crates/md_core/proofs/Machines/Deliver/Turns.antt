@@ -3,19 +3,10 @@ use Rattle.std.proofs.Common.{ℕ, ◌≡◌, ◌<◌, ◌≤◌, ◌+◌, ◌-�
 use Rattle.std.proofs.lemmas.Bool.Decides.{nat_tests}
 use Rattle.std.proofs.lemmas.List.{take_all}
 use Rattle.md_dirs.specs.Calls as dirs
-use Rattle.md_core.proofs.Values.{State, IsSound, file_at, Call, Answer, DirReply, Moment, Task, Deliver}
-use Rattle.md_dirs.specs.declared.calls.DirError.TheVariants.{NotFound}
+use Rattle.md_core.proofs.Values.{State, IsSound, file_at, Call, Answer, DirReply, Moment, Task, Deliver, Delivery, Stage, Start, Writing, Linked, Undo, HasOnePath, Turn, After, rows_for, reply_of, ask_of, state_by, Asked, append, link, as_task, is_success, is_effect_at, NotFound, refused_by, Refusal}
 use Rattle.md_jobs.specs.declared.answer.Answer.TheVariants as answer
-use Rattle.md_jobs.specs.Machines.Refusals.{refused_by}
-use Rattle.md_jobs.specs.Tasks.Refusal.{Refusal}
-use Rattle.md_jobs.specs.Tasks.Refusal as refusal
-use Rattle.md_jobs.specs.Tasks.Delivery.{Delivery, Stage, Start, Writing, Linked, Undo}
+use Rattle.md_jobs.specs.declared.refusal.Refusal.TheVariants as refusal
 use Rattle.md_jobs.specs.declared.step.DirReply.TheVariants as reply
-use Rattle.md_core.specs.Mailbox.{HasOnePath}
-use Rattle.md_jobs.specs.Turn.{Turn, After, rows_for, reply_of}
-use Rattle.md_jobs.specs.Asked.{ask_of, state_by, Asked, append, link}
-use Rattle.md_core.specs.Machine.{as_task}
-use Rattle.md_core.specs.Interleaving.{is_success, is_effect_at}
 use Rattle.md_core.proofs.Theorem.RunLaw.{is_linked}
 use Rattle.md_jobs.specs.Pieces.{pieces_of}
 use Rattle.md_jobs.specs.Machines.Deliver.{at_stage, target, piece, piece_len, create_turn, append_turn, link_turn, unlink_turn, stage_turn, delivery_turn, delivery_effect, steps_left, is_in_time}

@@ -1,11 +1,7 @@
 -- The directory calls of an errand: it lists, and acts on paths in new and cur alone.
 use Rattle.std.proofs.Common.{ℕ, ◌≡◌, List, true, ap, ◌∙◌}
-use Rattle.md_dirs.specs.declared.paths.Path.{Path}
-use Rattle.md_dirs.specs.declared.paths.Place.TheVariants.{Tmp}
+use Rattle.md_core.proofs.Values.{Path, Tmp, Asked, create, append, unlink, is_tmp, info_in}
 use Rattle.md_jobs.specs.Tasks.Errand.{Errand, Stage, Look, Act}
-use Rattle.md_jobs.specs.Asked.{Asked, create, append, unlink}
-use Rattle.md_core.specs.Mailbox.{is_tmp}
-use Rattle.md_jobs.specs.Machines.Purposes.{info_in}
 use Rattle.md_jobs.specs.Machines.Errand.{errand_turn, stage_turn}
 use Rattle.md_core.proofs.Induction.Good.{IsAtStage}
 use Rattle.md_core.proofs.Machines.Errand.Table.Rows.{not-tmp}

@@ -2,24 +2,13 @@
 use Rattle.std.proofs.Common.{ℕ, ◌≡◌, ◌≢◌, inr, List, Option, Some, None, true, false, cond, is_some, refl, sym, ap, subst, ◌∙◌, not}
 use Rattle.std.proofs.lemmas.Bool.{and_from, eq-eqb}
 use Rattle.std.specs.FinMap as finmap
-use Rattle.std.specs.FinMap.{get}
-use Rattle.md_core.proofs.Values.{State, IsSound, file_at, path_of, Path, Place, Tmp, Row, Set, Call, Effect, Errand}
+use Rattle.md_core.proofs.Values.{State, IsSound, file_at, path_of, Path, Place, Tmp, Row, Set, Call, Effect, Errand, unique_of, flags_of, Entry, Mailbox, mailbox_of, entry_of, is_message, is_tmp, HasOnePath, alone, copy_alone, copy_by, entry_if, is_in_folder, info_copied, names_of, names_after_change, link, AsAlone, is_effect_at, MakesMessage, get, info_in, name_copied, done_by}
 use Rattle.md_dirs.specs.Calls as dirs
-use Rattle.md_name.specs.Names.{unique_of, flags_of}
 use Rattle.md_jobs.specs.declared.answer.Answer.TheVariants as answer
 use Rattle.md_jobs.specs.Tasks.Errand.{Errand as ErrandOf, Act}
 use Rattle.md_jobs.specs.Tasks.Deed as deed
-use Rattle.md_jobs.specs.Tasks.Purpose as purpose
+use Rattle.md_jobs.specs.declared.purpose.Purpose.TheVariants as purpose
 use Rattle.md_jobs.specs.declared.step.DirReply.TheVariants as reply
-use Rattle.md_core.specs.Mailbox.{Entry, Mailbox, mailbox_of, entry_of, is_message, is_tmp, HasOnePath}
-use Rattle.md_core.specs.Alone.{alone, copy_alone, copy_by, entry_if, is_in_folder, info_copied}
-use Rattle.md_core.specs.History.{names_of, names_after_change}
-use Rattle.md_jobs.specs.Asked.{link}
-use Rattle.md_jobs.specs.Machines.Purposes.{info_in, name_copied}
-use Rattle.md_jobs.specs.Machines.Errand.{done_by}
-use Rattle.md_core.specs.Stepping.{AsAlone}
-use Rattle.md_core.specs.Interleaving.{is_effect_at}
-use Rattle.md_core.specs.Accepting.{MakesMessage}
 use Rattle.md_core.proofs.Induction.Good.{bytes_at, HasSize, HasNoMessage, ErrandFits, Does}
 use Rattle.md_core.proofs.Mailbox.Changes.{one-puts, mailbox-puts}
 use Rattle.md_core.proofs.Mailbox.Naming.{names-insert}

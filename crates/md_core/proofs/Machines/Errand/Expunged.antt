@@ -2,25 +2,13 @@
 use Rattle.std.proofs.Common.{ℕ, ◌≡◌, List, Some, true, cond, refl, sym, ap, ◌∙◌, not, MatchBool, subst, None}
 use Rattle.std.proofs.lemmas.Bool.{and_from}
 use Rattle.std.specs.FinMap as finmap
-use Rattle.std.specs.FinMap.{get}
 use Rattle.std.specs.FinSet as set
-use Rattle.md_core.proofs.Values.{State, IsSound, file_at, path_of, Path, Place, Cur, Row, Set, Call, Answer, Effect, Errand}
-use Rattle.md_dirs.specs.Calls.{after_unlink}
-use Rattle.md_name.specs.Names.{unique_of}
+use Rattle.md_core.proofs.Values.{State, IsSound, file_at, path_of, Path, Place, Cur, Row, Set, Call, Answer, Effect, Errand, unique_of, mailbox_of, entry_of, is_message, HasOnePath, Mailbox, Entry, alone, expunge_alone, expunge_by, refuse, flags_in, names_of, IsAllowed, IsThere, unlink, is_effect_at, is_success, MakesMessage, get, after_unlink, searches, done_by, Purpose}
 use Rattle.md_jobs.specs.declared.answer.Answer.TheVariants as answer
 use Rattle.md_jobs.specs.declared.call.Call.TheVariants as call
 use Rattle.md_jobs.specs.Tasks.Errand.{Errand as ErrandOf, Act}
 use Rattle.md_jobs.specs.Tasks.Deed as deed
 use Rattle.md_jobs.specs.declared.step.DirReply.TheVariants as reply
-use Rattle.md_core.specs.Mailbox.{mailbox_of, entry_of, is_message, HasOnePath, Mailbox, Entry}
-use Rattle.md_core.specs.Alone.{alone, expunge_alone, expunge_by, refuse, flags_in}
-use Rattle.md_core.specs.History.{names_of, IsAllowed, IsThere}
-use Rattle.md_jobs.specs.Asked.{unlink}
-use Rattle.md_jobs.specs.Machines.Purposes.{searches}
-use Rattle.md_jobs.specs.Machines.Errand.{done_by}
-use Rattle.md_core.specs.Interleaving.{is_effect_at, is_success}
-use Rattle.md_jobs.specs.Tasks.Purpose.{Purpose}
-use Rattle.md_core.specs.Accepting.{MakesMessage}
 use Rattle.md_core.proofs.Induction.Good.{HasNoMessage, ErrandFits, Does}
 use Rattle.md_core.proofs.Mailbox.Changes.{one-drops, mailbox-drops}
 use Rattle.md_core.proofs.Mailbox.Naming.{names-remove}

@@ -1,26 +1,15 @@
 -- What a Seen and a Flag do that take effect: the message gets its flags by another name, or it had them.
 use Rattle.std.proofs.Common.{ℕ, ◌≡◌, List, Option, Some, None, true, false, cond, not, refl, sym, ap, subst, ◌∙◌, length}
-use Rattle.std.specs.Option.{option_map, option_map_or}
 use Rattle.std.specs.FinMap as finmap
 use Rattle.std.specs.FinSet as set
 use Rattle.std.proofs.lemmas.Bool.{and_from, eq-eqb}
-use Rattle.md_core.proofs.Values.{State, IsSound, file_at, Path, Place, New, Cur, Set, Call, Effect, Errand}
-use Rattle.md_dirs.specs.Calls.{after_rename}
-use Rattle.md_dirs.specs.Path.{place_index, path_of}
-use Rattle.md_name.specs.Names.{unique_of, info_text, info_of, flags_of, flagged, is_message_name}
+use Rattle.md_core.proofs.Values.{State, IsSound, file_at, Path, Place, New, Cur, Set, Call, Effect, Errand, place_index, path_of, unique_of, info_text, info_of, flags_of, flagged, is_message_name, Entry, Mailbox, mailbox_of, entry_of, is_message, is_tmp, HasOnePath, Outcome, alone, seen_alone, seen_by, flag_alone, flag_by, entry_if, is_in_place, flags_in, info_with, refuse, Listed, as_listed, names_of, name_of, names_after_change, size_in, IsThere, MayGetFlags, list, rename, is_effect_at, option_map, option_map_or, after_rename, is_same_set, kept, done_by}
 use Rattle.md_name.proofs.Flagged.{IsUniquePart, unique_of-flagged}
 use Rattle.md_jobs.specs.declared.answer.Answer.TheVariants as answer
 use Rattle.md_jobs.specs.declared.call.Call.TheVariants as call
 use Rattle.md_jobs.specs.Tasks.Errand.{Errand as ErrandOf}
 use Rattle.md_jobs.specs.Tasks.Deed as deed
 use Rattle.md_jobs.specs.declared.step.DirReply.TheVariants as reply
-use Rattle.md_core.specs.Mailbox.{Entry, Mailbox, mailbox_of, entry_of, is_message, is_tmp, HasOnePath}
-use Rattle.md_core.specs.Alone.{Outcome, alone, seen_alone, seen_by, flag_alone, flag_by, entry_if, is_in_place, flags_in, info_with, refuse}
-use Rattle.md_jobs.specs.Sets.{is_same_set}
-use Rattle.md_core.specs.History.{Listed, as_listed, names_of, name_of, names_after_change, size_in, IsThere, MayGetFlags}
-use Rattle.md_jobs.specs.Asked.{list, rename}
-use Rattle.md_jobs.specs.Machines.Errand.{kept, done_by}
-use Rattle.md_core.specs.Interleaving.{is_effect_at}
 use Rattle.md_core.proofs.Induction.Good.{bytes_at, HasNoMessage, ErrandFits, Does}
 use Rattle.md_core.proofs.Mailbox.Changes.{one-puts, mailbox-puts}
 use Rattle.md_core.proofs.Mailbox.Naming.{get-names, names-insert}

@@ -2,22 +2,13 @@
 use Rattle.std.proofs.Common.{ℕ, ◌≡◌, ◌≢◌, List, Some, None, true, cond, refl, sym, ap, subst, ◌∙◌, not}
 use Rattle.std.proofs.lemmas.Bool.{and_from, eq-eqb}
 use Rattle.std.specs.FinMap as finmap
-use Rattle.std.specs.FinMap.{get}
-use Rattle.md_core.proofs.Values.{State, IsSound, file_at, path_of, Path, Place, Row, Call, Effect, Errand}
+use Rattle.md_core.proofs.Values.{State, IsSound, file_at, path_of, Path, Place, Row, Call, Effect, Errand, unique_of, mailbox_of, entry_of, is_message, HasOnePath, alone, move_alone, entry_if, is_in_folder, names_of, names_after_change, as_listed, rename, AsAlone, is_effect_at, get, done_by}
 use Rattle.md_dirs.specs.Calls as dirs
-use Rattle.md_name.specs.Names.{unique_of}
 use Rattle.md_jobs.specs.declared.answer.Answer.TheVariants as answer
 use Rattle.md_jobs.specs.Tasks.Errand.{Errand as ErrandOf, Act}
 use Rattle.md_jobs.specs.Tasks.Deed as deed
-use Rattle.md_jobs.specs.Tasks.Purpose as purpose
+use Rattle.md_jobs.specs.declared.purpose.Purpose.TheVariants as purpose
 use Rattle.md_jobs.specs.declared.step.DirReply.TheVariants as reply
-use Rattle.md_core.specs.Mailbox.{mailbox_of, entry_of, is_message, HasOnePath}
-use Rattle.md_core.specs.Alone.{alone, move_alone, entry_if, is_in_folder}
-use Rattle.md_core.specs.History.{names_of, names_after_change, as_listed}
-use Rattle.md_jobs.specs.Asked.{rename}
-use Rattle.md_jobs.specs.Machines.Errand.{done_by}
-use Rattle.md_core.specs.Stepping.{AsAlone}
-use Rattle.md_core.specs.Interleaving.{is_effect_at}
 use Rattle.md_core.proofs.Induction.Good.{HasNoMessage, ErrandFits, Does}
 use Rattle.md_core.proofs.Mailbox.Changes.{Puts, one-puts, mailbox-puts}
 use Rattle.md_core.proofs.Mailbox.Naming.{names-insert}

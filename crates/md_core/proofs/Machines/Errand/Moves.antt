@@ -1,19 +1,15 @@
 -- A message that was renamed to its own unique name in cur, perhaps to the very name that it had.
 use Rattle.std.proofs.Common.{ℕ, ◌≡◌, ◌<◌, ◌++◌, ◌∷◌, ◌||◌, List, [], Some, None, true, false, cond, codes, refl, sym, ap, subst, ◌∙◌, append_assoc}
-use Rattle.std.specs.List.{list_any, after_first}
 use Rattle.std.specs.FinMap as finmap
 use Rattle.std.proofs.lemmas.Bool.{or_parts, eq-eqb}
 use Rattle.std.proofs.lemmas.List.Folds.{list_any-append}
 use Rattle.std.proofs.lemmas.Cmp.{nat_list_cmp_total}
 use Rattle.std.proofs.lemmas.Map.Lookups.{exact_bytes}
-use Rattle.md_core.proofs.Values.{State, IsSound, file_at, Path}
-use Rattle.md_dirs.specs.Calls.{after_rename, with_path, without_path, with_files_still_named, is_one_file}
+use Rattle.md_core.proofs.Values.{State, IsSound, file_at, Path, is_message, HasOnePath, Names, Listed, list_any, after_first, after_rename, with_path, without_path, with_files_still_named, is_one_file}
 use Rattle.lists.proofs.Maps as maps
 use Rattle.md_dirs.proofs.Sound.{by_path}
 use Rattle.md_name.specs.Letters.{Set, spelling}
 use Rattle.md_name.specs.Names.{is_colon, unique_of, info_text, flagged}
-use Rattle.md_core.specs.Mailbox.{is_message, HasOnePath}
-use Rattle.md_core.specs.History.{Names, Listed}
 use Rattle.md_core.proofs.Mailbox.Changes.{Puts}
 use Rattle.md_core.proofs.Directories.Frames.{Frame}
 use Rattle.md_core.proofs.Mailbox.Naming.{same_names}

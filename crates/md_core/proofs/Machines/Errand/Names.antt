@@ -1,14 +1,12 @@
 -- The name of a copy: it is a message's, of the fresh unique name, and shows the flags of the message.
 use Rattle.std.proofs.Common.{ℕ, ◌≡◌, List, Option, Some, None, Bool, true, false, cond, is_some, refl, sym, ap, ◌∙◌, ◌&&◌, codes, drop, nat_eq}
-use Rattle.std.specs.List.{list_all, starts_with}
+use Rattle.md_core.proofs.Values.{list_all, starts_with, info_with, info_copied, info_in, name_copied}
 use Rattle.std.specs.FinSet as set
 use Rattle.md_name.specs.Letters.{is_letter, Set, spelling}
 use Rattle.md_name.specs.Names.{unique_of, info_text, info_by, info_of, flags_of, is_message_name, is_unique_name, flagged}
 use Rattle.md_name.specs.declared.info.Info.{Info}
 use Rattle.md_name.specs.declared.info.Info.TheVariants.{Bare, Two, Opaque}
 use Rattle.md_name.proofs.Flagged.{IsUniquePart, list_all-spelling, unique_of-flagged}
-use Rattle.md_core.specs.Alone.{info_with, info_copied}
-use Rattle.md_jobs.specs.Machines.Purposes.{info_in, name_copied}
 use Rattle.md_core.proofs.Looking.LookUps.{unique-part, message-name, info-in}
 use Rattle.md_core.proofs.Machines.Errand.Moves.{info-flagged}
 use Rattle.md_core.proofs.Worlds.UniqueNames.{unique_name}

@@ -1,27 +1,14 @@
 -- What each turn of an errand does, by its stage, the reply and what is decided.
 use Rattle.std.proofs.Common.{ℕ, ◌≡◌, ◌<◌, ◌-◌, inl, inr, List, Option, Some, None, Bool, true, false, cond, length, nat_le, refl, sym, ap, ◌∙◌, arith}
 use Rattle.std.proofs.lemmas.Bool.Decides.{nat_tests}
-use Rattle.std.specs.FinMap.{get}
-use Rattle.md_dirs.specs.Rows.{rows_of, row_by, row_named}
-use Rattle.md_core.proofs.Values.{State, IsSound, file_by, file_at, path_of, Path, Place, Row, Info, Call, DirReply, Moment, Errand}
-use Rattle.md_dirs.specs.declared.calls.DirError.TheVariants.{NotFound}
-use Rattle.md_dirs.specs.declared.paths.File.{File}
+use Rattle.md_core.proofs.Values.{State, IsSound, file_by, file_at, path_of, Path, Place, Row, Info, Call, DirReply, Moment, Errand, rows_of, row_by, row_named, mailbox_of, entry_of, bytes_of, HasOnePath, is_effect_at, After, goes_on, reply_of, Asked, list, ask_of, get, NotFound, File, Purpose, Refusal, first, searches, place_after, info_in, decide, deed_by, refused_by, refuses, Deed, Rename, Link, Unlink}
 use Rattle.md_jobs.specs.Tasks.Errand.{Errand as ErrandOf, Stage, Look, Act}
-use Rattle.md_jobs.specs.Tasks.Decision.{Decision}
-use Rattle.md_jobs.specs.Tasks.Decision as decision
-use Rattle.md_jobs.specs.Tasks.Purpose.{Purpose}
-use Rattle.md_jobs.specs.Tasks.Refusal.{Refusal}
-use Rattle.md_jobs.specs.Tasks.Refusal as refusal
+use Rattle.md_jobs.specs.declared.purpose.Decision.{Decision}
+use Rattle.md_jobs.specs.declared.purpose.Decision.TheVariants as decision
+use Rattle.md_jobs.specs.declared.refusal.Refusal.TheVariants as refusal
 use Rattle.md_jobs.specs.declared.step.DirReply.TheVariants as reply
-use Rattle.md_core.specs.Mailbox.{mailbox_of, entry_of, bytes_of, HasOnePath}
-use Rattle.md_core.specs.Interleaving.{is_effect_at}
-use Rattle.md_jobs.specs.Turn.{After, goes_on, reply_of}
-use Rattle.md_jobs.specs.Asked.{Asked, list, ask_of}
-use Rattle.md_jobs.specs.Machines.Purposes.{first, searches, place_after, info_in, decide, deed_by}
 use Rattle.md_jobs.specs.Machines.Errand.{at_stage, asked_of, taken_by, after_none, after_decision, after_row, look_turn, stage_turn, errand_turn, steps_left}
-use Rattle.md_jobs.specs.Machines.Refusals.{refused_by, refuses}
 use Rattle.md_jobs.proofs.Replies.{next-left, act-left, again-left, errand-left}
-use Rattle.md_jobs.specs.Tasks.Deed.{Deed, Rename, Link, Unlink}
 use Rattle.md_core.proofs.Induction.Good.{bytes_at, FoundAt, HasSize, IsOfSize, IsAtStage, ErrandFits, Does}
 use Rattle.md_core.proofs.Looking.LookUps.{IsRow, found-row, row-entry}
 use Rattle.md_core.proofs.Machines.Stays.{as_after, stays-does}

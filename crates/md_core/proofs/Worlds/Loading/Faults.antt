@@ -1,20 +1,9 @@
 -- The first fault of entries in turn, and what was found of entries so far.
 use Rattle.std.proofs.Common.{ℕ, ◌≡◌, List, [], ◌∷◌, ◌++◌, Option, Some, None, Bool, true, false, cond, ◌&&◌, ◌||◌, max, refl, sym, ap, ◌∙◌}
-use Rattle.std.specs.Option.{option_or}
-use Rattle.std.specs.List.{list_any}
-use Rattle.std.specs.Str.{bytes_eq}
 use Rattle.std.proofs.lemmas.List.Folds.{list_any-append}
 use Rattle.std.proofs.lemmas.List.Sums.{fold-append}
-use Rattle.md_core.proofs.Values.{State, file_by, CoreError}
-use Rattle.md_dirs.specs.declared.paths.Path.{Path}
-use Rattle.md_name.specs.Names.{unique_of}
+use Rattle.md_core.proofs.Values.{State, file_by, CoreError, Path, unique_of, is_message, stamp_of, is_among, option_or, list_any, bytes_eq, Seen, is_same_message, is_bad_name, is_long_unique, fault_of, first_fault, IsLookOf, fault_after, is_message_of, is_tmp_of}
 use Rattle.md_jobs.specs.declared.error.CoreError.TheVariants as core
-use Rattle.md_core.specs.declared.world.looking.Seen.{Seen}
-use Rattle.md_core.specs.Mailbox.{is_message}
-use Rattle.md_core.specs.Loading.{is_same_message, is_bad_name, is_long_unique, fault_of, first_fault}
-use Rattle.md_core.specs.Looking.{IsLookOf, fault_after, is_message_of, is_tmp_of}
-use Rattle.md_core.specs.Runs.{stamp_of}
-use Rattle.md_core.specs.Used.{is_among}
 use Rattle.md_core.proofs.Worlds.UsedLemmas.{bytes_eq-sym}
 
 -- ---- faults in turn

@@ -1,21 +1,12 @@
 -- What holds of directories that a world may begin with.
 use Rattle.std.proofs.Common.{ℕ, suc, ◌≡◌, ◌≤◌, ◌+◌, inl, inr, List, [], ◌∷◌, Option, Some, None, Bool, true, false, cond, not, ◌&&◌, ◌||◌, nat_lt, max, fold, length, take, refl, sym, ap, ◌∙◌, arith}
-use Rattle.std.specs.Option.{option_or}
-use Rattle.std.specs.List.{list_any, position_or_len}
-use Rattle.std.specs.Str.{bytes_eq}
-use Rattle.std.specs.FinMap.{entries}
+use Rattle.std.proofs.lemmas.Bool.{and_parts}
 use Rattle.std.proofs.lemmas.Bool.Decides.{nat_tests}
 use Rattle.std.proofs.lemmas.Slice.Eq.{bytes_eq-Decides}
-use Rattle.md_core.proofs.Values.{State, file_at, file_by, CoreError}
-use Rattle.md_dirs.specs.declared.paths.Path.{Path}
+use Rattle.md_core.proofs.Values.{State, file_at, file_by, CoreError, Path, is_message, is_tmp, HasOnePath, stamp_of, first_clock, name_used, option_or, list_any, position_or_len, bytes_eq, entries, is_bad_name, is_long_unique, is_same_message, fault_of, first_fault, load_refusal, uses}
 use Rattle.md_dirs.proofs.PathOrder.{path_total, path_exact}
 use Rattle.md_name.specs.Names.{is_colon, begins_with_dot, unique_of, is_message_name, is_maildir_unique, is_unique_name}
 use Rattle.md_jobs.specs.declared.error.CoreError.TheVariants as core
-use Rattle.md_core.specs.Mailbox.{is_message, is_tmp, HasOnePath}
-use Rattle.md_core.specs.Loading.{is_bad_name, is_long_unique, is_same_message, fault_of, first_fault, load_refusal}
-use Rattle.md_core.specs.Runs.{stamp_of, first_clock}
-use Rattle.md_core.specs.Submitting.{uses}
-use Rattle.md_core.specs.Accepting.{name_used}
 use Rattle.md_core.proofs.Induction.Good.{IsUnused}
 use Rattle.lists.proofs.Members.{Has, get-has}
 use Rattle.md_core.proofs.Worlds.UsedLemmas.{bytes_eq-sym}
@@ -144,16 +135,12 @@ dot (c ∷ cs) some = by (is_colon c) refl some
         let e : 1 + k ≡ suc k = omega arith in
         ap (λ n. begins_with_dot (take n (c ∷ cs))) (sym e)
 
-both_true : (a b : Bool) → (a && b) ≡ true → (a ≡ true) × (b ≡ true)
-both_true true b h = (refl, h)
-both_true false b h = cc
-
 -- a name whose unique part may be delivered under is a message's
 unique-message : (name : List ℕ) → is_unique_name (unique_of name) ≡ true → is_message_name name ≡ true
 unfolding is_message_name is_unique_name is_maildir_unique
 unique-message name is =
-    let maildir = (both_true _ _ (both_true _ _ is).0).0 in
-    let some = (both_true _ _ (both_true _ _ (both_true _ _ maildir).0).0) in
+    let maildir = (and_parts _ _ (and_parts _ _ is).0).0 in
+    let some = (and_parts _ _ (and_parts _ _ (and_parts _ _ maildir).0).0) in
     (λ i. not (dot name some.0 i) && nat_lt 0 (length (unique_of name))) ∙ (λ i. some.1 i && some.0 i)
 
 pub none-has : (q : Path × ℕ → Bool) (es : List (Path × ℕ)) (x : Path × ℕ) → list_any q es ≡ false → Has es x → q x ≡ false

@@ -1,17 +1,12 @@
 -- What is found of the rows of a directory as they lie, one after another.
 use Rattle.std.proofs.Common.{ℕ, ◌≡◌, ◌+◌, ◌≤◌, List, [], ◌∷◌, ◌++◌, Some, true, map, take, length, slice_get, All, sym, ap, subst, ◌∙◌, arith}
-use Rattle.std.specs.FinMap.{entries}
 use Rattle.std.specs.List.Sorted.{IsPermutation}
 use Rattle.std.proofs.lemmas.List.{append_assoc, append-nil, length-map, take_all}
 use Rattle.std.proofs.lemmas.List.Sorted.{All-permutation, IsPermutation-append_right}
 use Rattle.std.proofs.lemmas.Option.{slice_get-get_or}
-use Rattle.md_dirs.specs.Path.{path_of, place_index}
-use Rattle.md_dirs.specs.Rows.{is_in, row_of, rows_of}
 use Rattle.md_dirs.proofs.NameRows.{get-within}
 use Rattle.md_dirs.proofs.Rowed.{get-map}
-use Rattle.md_core.proofs.Values.{State, Path, Place, Row, file_by}
-use Rattle.md_core.specs.Looking.{entries_before}
-use Rattle.md_core.specs.Runs.{stamp_of}
+use Rattle.md_core.proofs.Values.{State, Path, Place, Row, file_by, path_of, place_index, is_in, row_of, rows_of, stamp_of, entries, entries_before}
 use Rattle.md_core.proofs.Lists.Permuted.{mapped-moved}
 use Rattle.md_core.proofs.Lists.Places.{take-one_more}
 use Rattle.md_core.proofs.Worlds.Loading.Order.{entries_in, before-more}

@@ -3,14 +3,10 @@ use Rattle.std.proofs.Common.{ℕ, ◌≡◌, ◌<◌, ◌≤◌, ◌+◌, ◌�
 use Rattle.std.specs.declared.cmp.Ordering.{Ordering}
 use Rattle.std.specs.declared.cmp.Ordering.TheVariants.{Less, Equal, Greater}
 use Rattle.std.specs.Ordering.{nat_cmp, ordering_then, is_lt}
-use Rattle.std.specs.FinMap.{is_sorted, entries, entries_sorted}
 use Rattle.std.specs.FinMap.Entries.{below_all}
 use Rattle.std.proofs.lemmas.Bool.Decides.{nat_tests}
-use Rattle.md_dirs.specs.Path.{path_cmp, place_index}
-use Rattle.md_core.proofs.Values.{State, IsSound, Path, Place, Tmp}
-use Rattle.md_dirs.specs.Rows.{is_in}
+use Rattle.md_core.proofs.Values.{State, IsSound, Path, Place, Tmp, path_cmp, place_index, is_in, is_sorted, entries, entries_sorted, is_before, entries_before}
 use Rattle.md_dirs.proofs.PathOrder.{path_total, path_exact}
-use Rattle.md_core.specs.Looking.{is_before, entries_before}
 use Rattle.lists.proofs.Members.{Has, has-get}
 
 -- ---- lists cut by two tests

@@ -1,17 +1,12 @@
 -- What a look at entries finds doesn't hang on their order, where none has a fault.
 use Rattle.std.proofs.Common.{ℕ, ◌≡◌, List, [], ◌∷◌, Some, None, Bool, false, cond, ◌||◌, refl, sym, ◌∙◌}
-use Rattle.std.specs.Option.{option_or}
 use Rattle.std.specs.List.{list_any, AllByRecursion, IsDistinct}
 use Rattle.std.specs.List.Sorted.{IsPermutation}
 use Rattle.std.proofs.lemmas.List.Elements.{recursion_from_All, All-from_recursion}
 use Rattle.std.proofs.lemmas.List.Sorted.{All-permutation, IsPermutation-sym, list_any-IsPermutation}
 use Rattle.std.proofs.lemmas.Map.Keys.{IsDistinct-IsPermutation}
-use Rattle.md_core.proofs.Values.{State, Path, file_by}
+use Rattle.md_core.proofs.Values.{State, Path, file_by, stamp_of, option_or, Seen, is_same_message, fault_of, first_fault, IsLookOf, is_message_of, is_tmp_of}
 use Rattle.md_jobs.specs.declared.error.CoreError.TheVariants as core
-use Rattle.md_core.specs.declared.world.looking.Seen.{Seen}
-use Rattle.md_core.specs.Loading.{is_same_message, fault_of, first_fault}
-use Rattle.md_core.specs.Looking.{IsLookOf, is_message_of, is_tmp_of}
-use Rattle.md_core.specs.Runs.{stamp_of}
 use Rattle.md_core.proofs.Lists.Permuted.{greatest-moved}
 use Rattle.md_core.proofs.Worlds.Loading.Loaded.{IsFaultless, no-fault, both_none, first_none, later_none, same-turned}
 

@@ -1,33 +1,15 @@
 -- The rows of a directory, as entries in their order.
-use Rattle.std.proofs.Common.{ℕ, ◌≡◌, ◌+◌, List, [], ◌∷◌, ◌++◌, Option, Some, None, Bool, true, false, cond, not, ◌&&◌, ◌||◌, ◌==◌, zero, suc, arith, max, filter, take, drop, slice_get, refl, sym, ap, ◌∙◌, subst}
-use Rattle.std.specs.Option.{option_map}
-use Rattle.std.specs.FinMap.{entries}
+use Rattle.std.proofs.Common.{ℕ, ◌≡◌, ◌+◌, List, [], ◌∷◌, ◌++◌, Option, Some, None, Bool, true, false, cond, not, ◌||◌, zero, suc, max, filter, take, drop, slice_get, refl, sym, ap, ◌∙◌, subst}
 use Rattle.std.proofs.Common.{append_assoc}
 use Rattle.std.proofs.lemmas.List.{take-append-drop}
-use Rattle.md_dirs.specs.Path.{path_of, place_index}
-use Rattle.md_core.proofs.Values.{State, file_by, Path, Place, Tmp, New, Cur, Row, CoreError}
-use Rattle.md_dirs.specs.Rows.{is_in, row_by, row_of, rows_of}
-use Rattle.md_dirs.specs.declared.paths.File.{File}
+use Rattle.md_core.proofs.Values.{State, file_by, Path, Place, Row, CoreError, path_of, place_index, is_in, row_of, rows_of, stamp_of, is_among, option_map, entries, Seen, first_fault, load_refusal, IsLookOf, fault_after, is_message_of, is_tmp_of, is_before, entries_before}
 use Rattle.md_dirs.proofs.Rowed.{get-map}
-use Rattle.std.proofs.lemmas.Bool.Decides.{nat_tests}
-use Rattle.md_core.specs.declared.world.looking.Seen.{Seen}
-use Rattle.md_core.specs.Loading.{first_fault, load_refusal}
-use Rattle.md_core.specs.Looking.{IsLookOf, fault_after, is_message_of, is_tmp_of, is_before, entries_before}
-use Rattle.md_core.specs.Runs.{stamp_of}
-use Rattle.md_core.specs.Used.{is_among}
 use Rattle.md_core.proofs.Worlds.Loading.Order.{entries_in, before-more, before-first}
 use Rattle.md_core.proofs.Lists.Places.{take-one_more}
 use Rattle.md_core.proofs.Worlds.Loading.Faults.{look-more, first-fault}
+use Rattle.md_core.proofs.Looking.LookUps.{name-row, row-stamp, path-in}
 
 -- ---- the rows of a directory
-
-pub row_name : (name : List ℕ) (o : Option File) → (row_by name o).name ≡ name
-row_name name None = refl
-row_name name (Some file) = refl
-
-row_stamp : (name : List ℕ) (o : Option File) → (row_by name o).stamp ≡ stamp_of o
-row_stamp name None = refl
-row_stamp name (Some file) = refl
 
 -- the entry of a row that a directory shows at a position
 pub record IsRowAt (s : State) (f : ℕ) (p : Place) (at : ℕ) (r : Row) : Type 0 where
@@ -35,29 +17,6 @@ pub record IsRowAt (s : State) (f : ℕ) (p : Place) (at : ℕ) (r : Row) : Type
   pub there : slice_get (entries_in s f p) at ≡ Some entry
   pub path : entry.0 ≡ path_of f p r.name
   pub stamp : stamp_of (file_by s.files entry.1) ≡ r.stamp
-
-numbers : (a b : ℕ) → (a == b) ≡ true → a ≡ b
-numbers a b h = grind (arith, nat_tests)
-
-same_place : (a b : Place) → (place_index a == place_index b) ≡ true → a ≡ b
-same_place Tmp Tmp h = refl
-same_place Tmp Cur h = cc
-same_place New Tmp h = cc
-same_place New New h = refl
-same_place New Cur h = cc
-same_place Cur Tmp h = cc
-same_place Cur Cur h = refl
-same_place other New h = cc
-
-both_true : (a b : Bool) → (a && b) ≡ true → (a ≡ true) × (b ≡ true)
-both_true true b h = (refl, h)
-both_true false b h = cc
-
--- a path in a directory is that of its name there
-pub in-is : (f : ℕ) (p : Place) (q : Path) → is_in f p q ≡ true → q ≡ path_of f p q.name
-in-is f p q h =
-    let parts = both_true _ _ h in
-    λ i. record { folder = numbers q.folder f parts.0 i; place = same_place q.place p parts.1 i; name = q.name }
 
 pub passes : {X : Type 0} (q : X → Bool) (xs : List X) (at : ℕ) (x : X) → slice_get (filter q xs) at ≡ Some x → q x ≡ true
 passes q [] at x is = cc
@@ -77,10 +36,10 @@ module _ (s : State) (f : ℕ) (p : Place) where
   -- a row's entry has its path and its file's stamp
   pub shown-path : (e : Path × ℕ) (r : Row) → is_in f p e.0 ≡ true → row_of s.files e ≡ r → e.0 ≡ path_of f p r.name
   shown-path e r inside shows =
-      in-is f p e.0 inside ∙ ap (path_of f p) (sym (row_name e.0.name (file_by s.files e.1)) ∙ ap (λ (x : Row). x.name) shows)
+      path-in f p e.0 inside ∙ ap (path_of f p) (sym (name-row e.0.name (file_by s.files e.1)) ∙ ap (λ (x : Row). x.name) shows)
 
   pub shown-stamp : (e : Path × ℕ) (r : Row) → row_of s.files e ≡ r → stamp_of (file_by s.files e.1) ≡ r.stamp
-  shown-stamp e r shows = sym (row_stamp e.0.name (file_by s.files e.1)) ∙ ap (λ (x : Row). x.stamp) shows
+  shown-stamp e r shows = sym (row-stamp e.0.name (file_by s.files e.1)) ∙ ap (λ (x : Row). x.stamp) shows
 
   -- one more row, which has no fault
   pub look-row : (es : List (Path × ℕ)) (seen : Seen) → IsLookOf s es seen → (e : Path × ℕ) (r : Row) → e.0 ≡ path_of f p r.name →

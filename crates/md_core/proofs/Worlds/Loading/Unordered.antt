@@ -1,12 +1,7 @@
 -- A look at the rows of a directory as they lie.
 use Rattle.std.proofs.Common.{ℕ, ◌≡◌, ◌+◌, ◌≤◌, List, Some, None, ◌||◌, max, length, slice_get}
 use Rattle.std.specs.List.Sorted.{IsPermutation}
-use Rattle.md_dirs.specs.Path.{path_of, place_index}
-use Rattle.md_dirs.specs.Rows.{rows_of}
-use Rattle.md_core.proofs.Values.{State, Place, Row}
-use Rattle.md_core.specs.declared.world.looking.Seen.{Seen}
-use Rattle.md_core.specs.Looking.{IsLookOf, fault_after, is_message_of, is_tmp_of, entries_before}
-use Rattle.md_core.specs.Used.{is_among}
+use Rattle.md_core.proofs.Values.{State, Place, Row, path_of, place_index, rows_of, is_among, Seen, IsLookOf, fault_after, is_message_of, is_tmp_of, entries_before}
 use Rattle.md_core.proofs.Worlds.Loading.Lying.{IsThrough, Behind, behind-none, behind-row, behind-all}
 use Rattle.md_core.proofs.Worlds.Loading.Permuted.{look-moved}
 use Rattle.md_core.proofs.Worlds.Loading.Rows.{look-row}

@@ -1,17 +1,7 @@
 -- What was found of no entry, and of all.
 use Rattle.std.proofs.Common.{ℕ, ◌≡◌, List, [], ◌∷◌, ◌++◌, Bool, true, false, cond, not, ◌&&◌, ◌||◌, refl, sym, ap, ◌∙◌, subst}
-use Rattle.std.specs.List.{list_any}
-use Rattle.std.specs.Str.{bytes_eq}
 use Rattle.std.proofs.lemmas.List.Folds.{list_any-append}
-use Rattle.std.specs.FinMap.{entries}
-use Rattle.md_dirs.specs.State.{State, IsSound}
-use Rattle.md_dirs.specs.declared.paths.Path.{Path}
-use Rattle.md_name.specs.Names.{unique_of, is_message_name}
-use Rattle.md_core.specs.Mailbox.{is_tmp}
-use Rattle.md_core.specs.declared.world.looking.Seen.{Seen}
-use Rattle.md_core.specs.Looking.{IsLookOf, is_message_of, is_tmp_of, entries_before}
-use Rattle.md_core.specs.Submitting.{uses}
-use Rattle.md_core.specs.Used.{is_among}
+use Rattle.md_core.proofs.Values.{State, IsSound, Path, unique_of, is_message_name, is_tmp, is_among, list_any, bytes_eq, entries, Seen, IsLookOf, is_message_of, is_tmp_of, entries_before, uses}
 use Rattle.md_name.proofs.Either.{either_first}
 use Rattle.md_core.proofs.Worlds.Loading.Order.{before-none, before-all}
 use Rattle.md_core.proofs.Worlds.Loading.Faults.{or_none}

@@ -1,5 +1,4 @@
-use Rattle.md_core.specs.Machine.{job_at}
-use Rattle.md_core.specs.Runs.{dirs_of, jobs_of}
+use Rattle.md_core.proofs.Values.{job_at, dirs_of, jobs_of}
 use Rattle.md_core.proofs.Runs.Going.{there-now, there-after}
 use Rattle.md_core.proofs.Theorem.Bounds.{steps_left-exact}
 use Rattle.md_core.proofs.laws.a_step_leaves_its_job_there.Goals as goal

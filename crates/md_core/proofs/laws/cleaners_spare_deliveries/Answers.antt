@@ -1,4 +1,4 @@
-use Rattle.md_core.proofs.Traces.Cleaners.{cleaners}
+use Rattle.md_core.proofs.Answers.Files.Cleaner.{cleaners}
 use Rattle.md_core.proofs.laws.cleaners_spare_deliveries.Goals as goal
 
 pub returns : goal.returns

@@ -1,8 +1,5 @@
 use Rattle.std.proofs.Common.{◌++◌, Option, ap, ◌∙◌}
-use Rattle.std.specs.Option.{option_to_list}
-use Rattle.md_core.specs.Trace.{Step}
-use Rattle.md_core.specs.Runs.{beginning}
-use Rattle.md_core.specs.Tracing.{deeds_from}
+use Rattle.md_core.proofs.Values.{Step, beginning, deeds_from, option_to_list}
 use Rattle.md_core.proofs.Traces.Same.{deeds-more}
 use Rattle.md_core.proofs.laws.traces_grow_by_what_happens.Goals as goal
 

@@ -1,4 +1,4 @@
-// The names that directories use up, gathered without a look for faults.
+//! The names that directories use up, gathered without a look for faults.
 ghost use Rattle.std.specs.Prelude.{◌≡◌, ◌+◌, ◌||◌, ◌++◌, ◌∷◌, [], false, is_some, IfOk, OnOk, OnErr, MatchOption};
 ghost use Rattle.std.specs.FinMap as finmap;
 ghost use Rattle.std.specs.Str.{bytes_eq};

@@ -1,4 +1,4 @@
-// A quick look at all names of directories, which keeps none of them.
+//! A quick look at all names of directories, which keeps none of them.
 ghost use Rattle.std.specs.Prelude.{◌≡◌, ◌+◌, true, false, IfSome, IsTrue, None};
 ghost use Rattle.md_dirs.specs.Path.{place_index};
 ghost use Rattle.md_dirs.specs.Rows.{rows_of, row_named};

@@ -1,4 +1,4 @@
-// A look at all names of directories as they lie, which costs less than one in order.
+//! A look at all names of directories as they lie, which costs less than one in order.
 ghost use Rattle.std.specs.Prelude.{◌+◌, OnOk, IfOk};
 ghost use Rattle.std.specs.FinMap as finmap;
 ghost use Rattle.md_dirs.specs.Path.{place_index};

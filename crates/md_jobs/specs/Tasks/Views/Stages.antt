@@ -2,13 +2,9 @@
 use Rattle.std.specs.Prelude.{ℕ, List, [], ◌∷◌, drop}
 use Rattle.md_dirs.specs.declared.paths.Path.{Path}
 use Rattle.md_jobs.specs.Tasks.Errand as errand
-use Rattle.md_jobs.specs.Tasks.Delivery as delivery
 use Rattle.md_jobs.specs.Tasks.Cleaning as cleaning
-use Rattle.md_jobs.specs.Tasks.Views.Purposes.{refusal_view}
 use Rattle.md_jobs.specs.declared.errand.Stage.{Stage as ErrandStage}
 use Rattle.md_jobs.specs.declared.errand.Stage.TheVariants as errand_at
-use Rattle.md_jobs.specs.declared.deliver.Stage.{Stage as DeliveryStage}
-use Rattle.md_jobs.specs.declared.deliver.Stage.TheVariants as delivery_at
 use Rattle.md_jobs.specs.declared.cleaning.Stage.{Stage as CleaningStage}
 use Rattle.md_jobs.specs.declared.cleaning.Stage.TheVariants as cleaning_at
 
@@ -16,13 +12,6 @@ use Rattle.md_jobs.specs.declared.cleaning.Stage.TheVariants as cleaning_at
 abbrev pub errand_stage : Path → ErrandStage → errand.Stage
 errand_stage path (errand_at.Look tries) = errand.Look path.place tries
 errand_stage path (errand_at.Act stamp size tries) = errand.Act path.place (record { name = path.name; stamp = stamp; size = size }) tries
-
--- how far a delivery has come, as the definitions see it
-abbrev pub delivery_stage : DeliveryStage → delivery.Stage
-delivery_stage delivery_at.Start = delivery.Start
-delivery_stage (delivery_at.Writing start written) = delivery.Writing start written
-delivery_stage delivery_at.Linked = delivery.Linked
-delivery_stage (delivery_at.Undo refusal) = delivery.Undo (refusal_view refusal)
 
 -- the name that is next, and no byte where none is left
 abbrev pub next_of : List (List ℕ) → List ℕ

@@ -3,15 +3,9 @@
 use Rattle.std.proofs.Common.{ℕ, ◌≡◌, ◌⊎◌, inl, inr, List, Option, Some, None, Bool, true, false, cond, refl}
 use Rattle.std.specs.FinMap as finmap
 use Rattle.std.specs.FinSet as set
-use Rattle.md_core.proofs.Values.{New, Cur, Set, Call}
-use Rattle.md_jobs.specs.declared.answer.Answer.{Answer}
+use Rattle.md_core.proofs.Values.{New, Cur, Set, Call, Answer, Entry, Mailbox, Outcome, alone, entry_if, is_in_place, is_in_folder, info_with, flags_in, deliver_alone, seen_alone, seen_by, flag_alone, flag_by, move_alone, expunge_alone, expunge_by, copy_alone, copy_by, refuse, IsDeliveryOf, IsCopyTo, is_success, MakesMessage, is_same_set}
 use Rattle.md_jobs.specs.declared.answer.Answer.TheVariants as answer
 use Rattle.md_jobs.specs.declared.call.Call.TheVariants.{Deliver, Seen, Flag, Move, Expunge, Copy, Clean}
-use Rattle.md_core.specs.Mailbox.{Entry, Mailbox}
-use Rattle.md_core.specs.Alone.{Outcome, alone, entry_if, is_in_place, is_in_folder, info_with, flags_in, deliver_alone, seen_alone, seen_by, flag_alone, flag_by, move_alone, expunge_alone, expunge_by, copy_alone, copy_by, refuse}
-use Rattle.md_jobs.specs.Sets.{is_same_set}
-use Rattle.md_core.specs.Interleaving.{IsDeliveryOf, IsCopyTo, is_success}
-use Rattle.md_core.specs.Accepting.{MakesMessage}
 
 -- a message of the name had these bytes
 abbrev pub Had : Mailbox → List ℕ → List ℕ → Type 0

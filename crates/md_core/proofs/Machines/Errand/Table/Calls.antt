@@ -1,15 +1,10 @@
 -- The kinds of calls: a delivery, the call of an errand of some purpose, and a clean.
 use Rattle.std.proofs.Common.{ℕ, ◌≡◌, ◌≢◌, List, [], true, refl, sym, ap, subst}
-use Rattle.md_name.specs.Names.{is_unique_name}
-use Rattle.md_core.proofs.Values.{Call, Deliver, Errand, Clean, Task}
+use Rattle.md_core.proofs.Values.{Call, Deliver, Errand, Clean, Task, is_unique_name, Standing, working, answered, new_job, new_cleaning, new_delivery, new_errand, Purpose}
 use Rattle.md_jobs.specs.declared.call.Call.TheVariants as call
-use Rattle.md_core.specs.Machine.{Standing, working, answered, new_job}
-use Rattle.md_jobs.specs.Machines.Clean.{new_cleaning}
-use Rattle.md_jobs.specs.Machines.Deliver.{new_delivery}
-use Rattle.md_jobs.specs.Machines.Errand.{new_errand}
 use Rattle.md_jobs.specs.Tasks.Errand as errand
 use Rattle.md_jobs.specs.Tasks.Errand.{Stage}
-use Rattle.md_jobs.specs.Tasks.Purpose.{Purpose, Seen, Flag, Move, Copy, Expunge}
+use Rattle.md_jobs.specs.declared.purpose.Purpose.TheVariants.{Seen, Flag, Move, Copy, Expunge}
 use Rattle.md_jobs.specs.Tasks.Cleaning.{Cleaning, Look}
 
 -- the call of an errand

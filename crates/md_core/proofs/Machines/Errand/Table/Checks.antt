@@ -1,18 +1,12 @@
 -- What an accepted call is: each check, as a fact; and what an errand was accepted with.
 use Rattle.std.proofs.Common.{ℕ, zero, suc, ◌≡◌, ◌<◌, List, [], ◌∷◌, Some, None, Bool, true, false, cond, not, refl, ap, subst, ◌∙◌, slice_get, arith, nat_lt, ◌==◌}
-use Rattle.std.specs.List.{list_any}
 use Rattle.std.specs.FinMap as finmap
 use Rattle.std.proofs.lemmas.Bool.{or_parts, not-false}
 use Rattle.std.proofs.lemmas.Bool.Decides.{nat_tests}
 use Rattle.std.proofs.lemmas.Slice.Eq.{bytes_eq-Decides}
-use Rattle.md_core.proofs.Values.{State, CoreError, Call}
-use Rattle.md_name.specs.Names.{is_unique_name}
+use Rattle.md_core.proofs.Values.{State, CoreError, Call, is_unique_name, Run, MakesMessage, IsFresh, IsLookUp, IsAccepted, list_any, Purpose, most_tries, submit_refusal, checks, first_met, checks_of_look_up, no_folder, bad_tries, is_used, uses, makes}
 use Rattle.md_jobs.specs.declared.call.Call.TheVariants.{Deliver, Seen, Flag, Move, Expunge, Copy, Clean}
-use Rattle.md_core.specs.Runs.{Run}
-use Rattle.md_jobs.specs.Tasks.Purpose.{Purpose}
-use Rattle.md_jobs.specs.Tasks.Purpose as purpose
-use Rattle.md_core.specs.Submitting.{most_tries, submit_refusal, checks, first_met, checks_of_look_up, no_folder, bad_tries, is_used, uses, makes}
-use Rattle.md_core.specs.Accepting.{MakesMessage, IsFresh, IsLookUp, IsAccepted}
+use Rattle.md_jobs.specs.declared.purpose.Purpose.TheVariants as purpose
 use Rattle.md_core.proofs.Machines.Errand.Table.Calls.{call_by, folder_to, IsFor, tries_in}
 use Rattle.md_core.proofs.Worlds.Loading.Loaded.{unused-path}
 

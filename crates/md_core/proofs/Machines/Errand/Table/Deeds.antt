@@ -1,14 +1,7 @@
 -- What each row of the table acts on: paths in new and cur, in folders that are there; and what a link makes is not there.
 use Rattle.std.proofs.Common.{ℕ, ◌≡◌, List, false, refl, ◌<◌, None}
-use Rattle.md_core.proofs.Values.{State, file_at, Path, Place, Row, Info, Call}
-use Rattle.md_dirs.specs.Path.{path_of}
-use Rattle.md_jobs.specs.Tasks.Errand.{Act}
-use Rattle.md_jobs.specs.Tasks.Purpose.{Purpose, Move, Copy, Seen, Flag}
-use Rattle.md_jobs.specs.Asked.{Asked, link, rename, unlink, list}
-use Rattle.md_core.specs.Mailbox.{is_tmp}
-use Rattle.md_jobs.specs.Machines.Purposes.{deed_by, info_in}
-use Rattle.md_jobs.specs.Machines.Errand.{asked_of}
-use Rattle.md_jobs.specs.Tasks.Deed.{Deed}
+use Rattle.md_core.proofs.Values.{State, file_at, Path, Place, Row, Info, Call, path_of, Asked, link, rename, unlink, list, is_tmp, Act, Purpose, deed_by, info_in, asked_of, Deed}
+use Rattle.md_jobs.specs.declared.purpose.Purpose.TheVariants.{Move, Copy, Seen, Flag}
 use Rattle.md_jobs.specs.Tasks.Deed as deed
 use Rattle.md_core.proofs.Induction.Good.{ErrandFits}
 use Rattle.md_core.proofs.Machines.Errand.Copied.{unused}

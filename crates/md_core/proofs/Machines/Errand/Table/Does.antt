@@ -1,23 +1,12 @@
 -- What each row of the table does to the mailbox: a message is kept as it is, or its deed is done.
 use Rattle.std.proofs.Common.{ℕ, ◌≡◌, List, Some, not, refl, sym, ap, subst, ◌∙◌}
 use Rattle.std.proofs.lemmas.Bool.{and_from}
-use Rattle.std.specs.FinMap.{get}
-use Rattle.md_core.proofs.Values.{State, IsSound, file_at, path_of, Row, Set, Info, Call, DirReply, Errand}
-use Rattle.md_dirs.specs.declared.paths.Place.{Place}
-use Rattle.md_name.specs.Names.{info_of, flags_of}
+use Rattle.md_core.proofs.Values.{State, IsSound, file_at, path_of, Row, Set, Info, Call, DirReply, Errand, Place, info_of, flags_of, alone, MayGetFlags, Entry, mailbox_of, entry_of, HasOnePath, is_effect_at, Turn, ends_by, rows_for, list, ask_of, state_by, as_task, get, Purpose, info_in, wanted, decide, answer_by, deed_by, shown}
 use Rattle.md_jobs.specs.declared.answer.Answer.TheVariants as answer
 use Rattle.md_jobs.specs.Tasks.Errand.{Errand as ErrandOf, Look, Act}
-use Rattle.md_jobs.specs.Tasks.Decision as decision
-use Rattle.md_jobs.specs.Tasks.Purpose.{Purpose, Seen, Flag, Move, Copy, Expunge}
+use Rattle.md_jobs.specs.declared.purpose.Decision.TheVariants as decision
+use Rattle.md_jobs.specs.declared.purpose.Purpose.TheVariants.{Seen, Flag, Move, Copy, Expunge}
 use Rattle.md_jobs.specs.declared.step.DirReply.TheVariants as reply
-use Rattle.md_core.specs.Alone.{alone}
-use Rattle.md_core.specs.History.{MayGetFlags}
-use Rattle.md_core.specs.Mailbox.{Entry, mailbox_of, entry_of, HasOnePath}
-use Rattle.md_core.specs.Interleaving.{is_effect_at}
-use Rattle.md_jobs.specs.Turn.{Turn, ends_by, rows_for}
-use Rattle.md_jobs.specs.Asked.{list, ask_of, state_by}
-use Rattle.md_core.specs.Machine.{as_task}
-use Rattle.md_jobs.specs.Machines.Purposes.{info_in, wanted, decide, answer_by, deed_by, shown}
 use Rattle.md_jobs.specs.Machines.Errand.{asked_of, kept, stage_turn}
 use Rattle.md_core.proofs.Induction.Good.{HasSize, ErrandFits, Does}
 use Rattle.md_core.proofs.Looking.LookUps.{IsRow, row-entry, info-in}

@@ -1,14 +1,9 @@
 -- The paths that each row of the table makes load: a change of flags makes one of the message's name, a move keeps the name, and a copy makes
 -- one of a fresh name.
 use Rattle.std.proofs.Common.{ℕ, ◌≡◌, List, true, refl}
-use Rattle.md_dirs.specs.Path.{path_of as path}
-use Rattle.md_core.proofs.Values.{State, Info}
-use Rattle.md_dirs.specs.declared.paths.Place.{Place}
-use Rattle.md_name.specs.Names.{is_unique_name}
+use Rattle.md_core.proofs.Values.{State, Info, path_of as path, Place, is_unique_name, asked_of, deed_by, name_copied, Purpose}
 use Rattle.md_name.specs.declared.info.Info.TheVariants.{Two}
-use Rattle.md_jobs.specs.Machines.Errand.{asked_of}
-use Rattle.md_jobs.specs.Machines.Purposes.{deed_by, name_copied}
-use Rattle.md_jobs.specs.Tasks.Purpose.{Purpose, Move, Copy, Seen, Flag}
+use Rattle.md_jobs.specs.declared.purpose.Purpose.TheVariants.{Move, Copy, Seen, Flag}
 use Rattle.md_core.proofs.Settling.Loadable.{IsGoodPath, IsLoadable}
 use Rattle.md_core.proofs.Settling.Leaving.{MakesGood}
 use Rattle.md_core.proofs.Settling.Names.{unique-good, flagged-good}

@@ -1,23 +1,15 @@
 -- What the table of errands says, row by row: where they look, what they act on, and at which turns their calls take effect.
 use Rattle.std.proofs.Common.{ℕ, ◌≡◌, ◌<◌, inl, inr, List, Option, Some, None, Bool, true, false, is_some, unwrap_or, refl, sym, ap, ◌∙◌, arith}
 use Rattle.std.specs.FinSet as set
-use Rattle.md_core.proofs.Values.{State, Place, New, Cur, Info, Answer, DirReply}
+use Rattle.md_core.proofs.Values.{State, Place, New, Cur, Info, Answer, DirReply, list, is_effect_at, is_success, is_tmp, Purpose, Refusal, is_same_set, first, searches, place_after, has_trashed, wanted, act_if, decide_flag, deed_by, refused_by, most_over}
 use Rattle.md_name.specs.Letters.{Set}
 use Rattle.md_jobs.specs.declared.call.Call.TheVariants as call
-use Rattle.md_jobs.specs.Tasks.Errand.{Stage}
 use Rattle.md_jobs.specs.Tasks.Errand as stage
-use Rattle.md_jobs.specs.Tasks.Decision.{Keep, Act}
-use Rattle.md_jobs.specs.Tasks.Purpose.{Purpose, Seen, Flag, Move, Copy}
-use Rattle.md_jobs.specs.Tasks.Refusal.{Refusal, NotThere, NotTrashed, OtherInfo}
+use Rattle.md_jobs.specs.declared.purpose.Decision.TheVariants.{Keep, Act}
+use Rattle.md_jobs.specs.declared.purpose.Purpose.TheVariants.{Seen, Flag, Move, Copy}
+use Rattle.md_jobs.specs.declared.refusal.Refusal.TheVariants.{NotThere, NotTrashed, OtherInfo}
 use Rattle.md_jobs.specs.declared.step.DirReply.TheVariants as reply
-use Rattle.md_jobs.specs.Sets.{is_same_set}
-use Rattle.md_jobs.specs.Asked.{list}
-use Rattle.md_core.specs.Interleaving.{is_effect_at, is_success}
-use Rattle.md_core.specs.Mailbox.{is_tmp}
-use Rattle.md_jobs.specs.Machines.Purposes.{first, searches, place_after, has_trashed, wanted, act_if, decide_flag, deed_by}
 use Rattle.md_jobs.specs.Machines.Errand.{asked_of, steps_left}
-use Rattle.md_jobs.specs.Machines.Refusals.{refused_by}
-use Rattle.md_core.specs.Bounds.{most_over}
 use Rattle.md_core.proofs.Induction.Good.{IsPlaceOf}
 use Rattle.md_core.proofs.Machines.Errand.Table.Calls.{call_by}
 

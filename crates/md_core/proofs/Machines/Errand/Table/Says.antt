@@ -2,21 +2,13 @@
 use Rattle.std.proofs.Common.{ℕ, ◌≡◌, List, Option, Some, None, Bool, true, false, cond, is_some, refl, sym, ap, subst, ◌∙◌, if◌then◌else◌}
 use Rattle.std.proofs.lemmas.Bool.{eq-eqb}
 use Rattle.std.specs.FinMap as finmap
-use Rattle.std.specs.FinMap.{get}
-use Rattle.md_core.proofs.Values.{State, path_of, New, Cur, Row, Set, Info, Call, DirReply, Errand}
-use Rattle.md_dirs.specs.declared.paths.Place.{Place}
-use Rattle.md_name.specs.Names.{flags_of}
+use Rattle.md_core.proofs.Values.{State, path_of, New, Cur, Row, Set, Info, Call, DirReply, Errand, Place, flags_of, Entry, Mailbox, mailbox_of, entry_of, HasOnePath, Outcome, seen_alone, seen_by, flag_alone, flag_by, copy_alone, copy_by, expunge_alone, expunge_by, refuse, entry_if, is_in_place, is_in_folder, flags_in, move_alone, get, Purpose, Refusal, first, searches, info_in, has_trashed, act_if, decide_flag, decide, answer_by, refused_by}
 use Rattle.md_jobs.specs.declared.answer.Answer.TheVariants as answer
 use Rattle.md_jobs.specs.Tasks.Errand.{Errand as ErrandOf, Look}
-use Rattle.md_jobs.specs.Tasks.Decision as decision
-use Rattle.md_jobs.specs.Tasks.Purpose.{Purpose, Seen, Flag, Move, Copy, Expunge}
-use Rattle.md_jobs.specs.Tasks.Refusal.{Refusal}
-use Rattle.md_jobs.specs.Tasks.Refusal as refusal
+use Rattle.md_jobs.specs.declared.purpose.Decision.TheVariants as decision
+use Rattle.md_jobs.specs.declared.purpose.Purpose.TheVariants.{Seen, Flag, Move, Copy, Expunge}
+use Rattle.md_jobs.specs.declared.refusal.Refusal.TheVariants as refusal
 use Rattle.md_jobs.specs.declared.step.DirReply.TheVariants as reply
-use Rattle.md_core.specs.Mailbox.{Entry, Mailbox, mailbox_of, entry_of, HasOnePath}
-use Rattle.md_core.specs.Alone.{Outcome, seen_alone, seen_by, flag_alone, flag_by, copy_alone, copy_by, expunge_alone, expunge_by, refuse, entry_if, is_in_place, is_in_folder, flags_in, move_alone}
-use Rattle.md_jobs.specs.Machines.Purposes.{first, searches, info_in, has_trashed, act_if, decide_flag, decide, answer_by}
-use Rattle.md_jobs.specs.Machines.Refusals.{refused_by}
 use Rattle.md_core.proofs.Induction.Good.{ErrandFits}
 use Rattle.md_core.proofs.Looking.LookUps.{IsRow, row-entry, info-in}
 use Rattle.md_core.proofs.Machines.Errand.Table.Rows.{not-tmp, one-place}

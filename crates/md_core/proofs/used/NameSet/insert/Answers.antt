@@ -1,7 +1,6 @@
 use Rattle.std.proofs.Common.{◌∙◌, ◌||◌, not, ap}
-use Rattle.std.specs.Str.{bytes_eq}
+use Rattle.md_core.proofs.Values.{bytes_eq, is_among}
 use Rattle.md_core.proofs.Worlds.UsedLemmas.{among, among-put}
-use Rattle.md_core.specs.Used.{is_among}
 use Rattle.md_core.proofs.used.NameSet.insert.Goals as goal
 
 pub returns-clause-new : goal.returns-clause-new

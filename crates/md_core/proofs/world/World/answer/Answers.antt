@@ -1,7 +1,6 @@
 use Rattle.std.proofs.Common.{refl, ◌<◌, ◌-◌, ◌∙◌, ap, sym, length, arith}
 use Rattle.std.proofs.lemmas.Option.{slice_get_read}
-use Rattle.md_core.specs.Machine.{Machine, job_at}
-use Rattle.md_core.specs.Runs.{Run, answer_of, jobs_of}
+use Rattle.md_core.proofs.Values.{Machine, job_at, Run, answer_of, jobs_of}
 use Rattle.md_core.proofs.Worlds.Stepping.{standing-number}
 use Rattle.md_core.proofs.world.World.answer.Goals as goal
 

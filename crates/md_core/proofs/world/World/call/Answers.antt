@@ -1,9 +1,5 @@
 use Rattle.std.proofs.Common.{sym, ap, subst, ◌∙◌}
-use Rattle.md_core.specs.Laws.{HasJob}
-use Rattle.md_core.specs.Machine.{job_at}
-use Rattle.md_core.specs.Runs.{Run, jobs_of, and_call, answer_of}
-use Rattle.md_core.specs.Stepping.{IsRun}
-use Rattle.md_core.specs.Calling.{OthersStay}
+use Rattle.md_core.proofs.Values.{job_at, Run, jobs_of, and_call, answer_of, IsRun, HasJob, OthersStay}
 use Rattle.md_core.proofs.Calling.Begun.{others-since, there-submitted, unanswered}
 use Rattle.md_core.proofs.Calling.Going.{steps-alone}
 use Rattle.md_core.proofs.Calling.AloneAnswers.{answers-alone, succeeds, as-alone}

@@ -1,7 +1,5 @@
 use Rattle.std.proofs.Common.{refl, ◌∙◌}
-use Rattle.md_jobs.specs.declared.step.Event.{Event}
-use Rattle.md_jobs.specs.Asked.{is_fault}
-use Rattle.md_core.specs.Machine.{occurrence}
+use Rattle.md_core.proofs.Values.{Event, is_fault, occurrence}
 use Rattle.md_core.proofs.Calling.Going.{goes-more, run-more, there-more}
 use Rattle.md_core.proofs.world.World.finish.Goals as goal
 

@@ -1,7 +1,5 @@
 use Rattle.md_core.specs.Runs.{steps_left}
-use Rattle.md_core.specs.Stepping.{IsRun}
-use Rattle.md_core.specs.Laws.{HasJob}
-use Rattle.md_core.specs.Calling.{GoesOnBy, OthersStay}
+use Rattle.md_core.proofs.Values.{IsRun, HasJob, GoesOnBy, OthersStay}
 use Rattle.md_core.proofs.world.World.finish.Given as goal
 
 abbrev pub invariant-loop-own : goal.invariant-loop-own

@@ -1,8 +1,7 @@
 use Rattle.std.proofs.Common.{subst}
-use Rattle.md_core.specs.Runs.{Run}
-use Rattle.md_core.specs.Stepping.{IsRun}
+use Rattle.md_core.proofs.Values.{Run, IsRun}
 use Rattle.md_core.proofs.Traces.All.{interleaves}
-use Rattle.md_core.proofs.Traces.Cleaners.{cleaners}
+use Rattle.md_core.proofs.Answers.Files.Cleaner.{cleaners}
 use Rattle.md_core.proofs.Traces.Plain.{is-trace}
 use Rattle.md_core.proofs.Traces.Shown.{shown}
 use Rattle.md_core.proofs.world.World.interleaves.Goals as goal

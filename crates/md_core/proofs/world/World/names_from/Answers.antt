@@ -1,6 +1,5 @@
 use Rattle.std.proofs.Common.{◌≡◌, ◌∙◌, ap}
-use Rattle.md_core.specs.Machine.{Machine}
-use Rattle.md_core.specs.Runs.{dirs_of}
+use Rattle.md_core.proofs.Values.{Machine, dirs_of}
 use Rattle.md_core.proofs.world.World.names_from.Goals as goal
 
 pub returns : goal.returns

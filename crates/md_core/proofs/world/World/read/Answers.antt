@@ -1,8 +1,5 @@
 use Rattle.std.proofs.Common.{◌≡◌, ◌∙◌, sym, ap, subst, length}
-use Rattle.md_core.specs.Mailbox.{HasOnePath}
-use Rattle.md_core.specs.Machine.{Machine}
-use Rattle.md_core.specs.Runs.{dirs_of}
-use Rattle.md_core.specs.Tracing.{trace_of}
+use Rattle.md_core.proofs.Values.{HasOnePath, Machine, dirs_of, trace_of}
 use Rattle.md_core.proofs.Traces.Shown.{shown-dirs}
 use Rattle.md_core.proofs.world.World.read.Goals as goal
 

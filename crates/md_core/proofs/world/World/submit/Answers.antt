@@ -1,7 +1,5 @@
 use Rattle.std.proofs.Common.{◌≡◌, ◌∙◌, None, ap, sym}
-use Rattle.md_core.specs.Runs.{Run, effects_of}
-use Rattle.md_core.specs.Submitting.{submit_refusal}
-use Rattle.md_core.specs.Worlds.{run_of}
+use Rattle.md_core.proofs.Values.{Run, effects_of, submit_refusal, run_of}
 use Rattle.md_core.proofs.Traces.All.{interleaves}
 use Rattle.md_core.proofs.Worlds.Submitted.{submit-kept, run-submitted, effects-submitted}
 use Rattle.md_core.proofs.world.World.submit.Goals as goal

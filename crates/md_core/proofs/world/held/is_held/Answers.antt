@@ -1,7 +1,5 @@
 use Rattle.std.proofs.Common.{◌∙◌}
-use Rattle.std.specs.FinMap.{entries}
-use Rattle.std.specs.List.{list_any}
-use Rattle.md_core.specs.Looking.{is_message_of, is_tmp_of}
+use Rattle.md_core.proofs.Values.{entries, list_any, is_message_of, is_tmp_of}
 use Rattle.md_core.proofs.Worlds.Held.{bytes-tell, at-first, at-last}
 use Rattle.md_core.proofs.Worlds.Loading.Whole.{either_use}
 use Rattle.md_core.proofs.world.held.is_held.Goals as goal

@@ -1,6 +1,5 @@
 use Rattle.std.proofs.Common.{◌∙◌, ap}
-use Rattle.std.specs.FinMap.{entries}
-use Rattle.md_core.specs.Used.{is_among}
+use Rattle.md_core.proofs.Values.{entries, is_among}
 use Rattle.md_core.proofs.Worlds.Loading.Whole.{used-all}
 use Rattle.md_core.proofs.world.looking.look.Goals as goal
 

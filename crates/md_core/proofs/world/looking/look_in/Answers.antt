@@ -2,10 +2,8 @@ use Rattle.std.proofs.Common.{◌≡◌, ◌⊎◌, ◌+◌, ◌<◌, Some, rule
 use Rattle.std.proofs.Common.{append-nil}
 use Rattle.std.proofs.lemmas.Bool.Decides.{nat_tests}
 use Rattle.std.proofs.lemmas.Option.{slice_get_past}
-use Rattle.md_dirs.specs.Rows.{rows_of}
+use Rattle.md_core.proofs.Values.{rows_of, load_refusal, IsLookOf}
 use Rattle.md_jobs.specs.declared.error.CoreError.TheVariants.{NoMemory}
-use Rattle.md_core.specs.Loading.{load_refusal}
-use Rattle.md_core.specs.Looking.{IsLookOf}
 use Rattle.md_core.proofs.Worlds.Loading.Rows.{entries_until, until-row, until-all, refused-row}
 use Rattle.md_core.proofs.Worlds.Loading.Lent.{lent-at, ended, at-most}
 use Rattle.md_core.proofs.world.looking.look_in.Goals as goal

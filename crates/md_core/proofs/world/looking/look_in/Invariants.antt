@@ -1,6 +1,5 @@
 use Rattle.std.proofs.Common.{◌+◌, ◌-◌, length}
-use Rattle.md_dirs.specs.Rows.{rows_of}
-use Rattle.md_core.specs.Looking.{IsLookOf}
+use Rattle.md_core.proofs.Values.{rows_of, IsLookOf}
 use Rattle.md_core.proofs.Worlds.Loading.Rows.{entries_until}
 use Rattle.md_core.proofs.world.looking.look_in.Given as goal
 

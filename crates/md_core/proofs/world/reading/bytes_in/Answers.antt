@@ -1,6 +1,5 @@
 use Rattle.std.proofs.Common.{◌∙◌, sym, ap}
-use Rattle.md_dirs.specs.Path.{path_of}
-use Rattle.md_dirs.specs.State.{bytes_at_path}
+use Rattle.md_core.proofs.Values.{path_of, bytes_at_path}
 use Rattle.md_core.proofs.Looking.Reading.{row-bytes, none-bytes}
 use Rattle.md_core.proofs.world.reading.bytes_in.Goals as goal
 

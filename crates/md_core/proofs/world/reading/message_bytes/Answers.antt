@@ -1,6 +1,5 @@
 use Rattle.std.proofs.Common.{◌≡◌, sym, subst, arith}
-use Rattle.md_dirs.specs.declared.paths.Place.TheVariants.{New, Cur}
-use Rattle.md_core.specs.Alone.{is_in_place}
+use Rattle.md_core.proofs.Values.{New, Cur, is_in_place}
 use Rattle.md_core.proofs.Looking.Reading.{IsPast, no-part, such-bytes, one-past, none-past}
 use Rattle.md_core.proofs.world.reading.message_bytes.Goals as goal
 

@@ -4,7 +4,6 @@ use Rattle.md_jobs.specs.Turn.{After, reply_from}
 use Rattle.md_jobs.specs.Machines.Deliver.{at_stage, after_append, piece_len}
 use Rattle.md_jobs.specs.Tasks.Delivery.{Delivery as DeliveryView, Stage, Start, Writing, Linked, Undo}
 use Rattle.md_jobs.specs.Tasks.Views.Bodies.{IsAtHand}
-use Rattle.md_jobs.specs.Tasks.Views.Stages.{delivery_stage}
 use Rattle.md_jobs.specs.declared.answer.Answer.{Answer}
 use Rattle.md_jobs.specs.declared.step.DirReply.{DirReply}
 use Rattle.md_jobs.specs.declared.step.DirReply.TheVariants as reply
@@ -35,16 +34,16 @@ on_err (Err e) then h = then h
 pub invariant_of-self-2 : goal.invariant_of-self-2
 invariant_of-self-2 g c =
     let i = c.self.inside in
-    let d : DeliveryView = record { tmp = i.tmp; body = i.whole.value; chunk = i.chunk; stage = delivery_stage i.stage } in
+    let d : DeliveryView = record { tmp = i.tmp; body = i.whole.value; chunk = i.chunk; stage = i.stage } in
     let same : d ≡ c.args.self.now = c.self.view_is in
     let short : length d.body ≤ d.chunk = subst (λ (x : DeliveryView). length x.body ≤ x.chunk) (sym same) c.requires.whole in
     let more : 0 < length d.body = subst (λ (x : DeliveryView). 0 < length x.body) (sym same) c.requires.more in
-    let stage : delivery_stage i.stage ≡ Writing c.args.start 0 = ap (λ (x : DeliveryView). x.stage) same ∙ c.requires.stage in
+    let stage : i.stage ≡ Writing c.args.start 0 = ap (λ (x : DeliveryView). x.stage) same ∙ c.requires.stage in
     let whole : i.body ≡ d.body = subst (λ s. IsAtHand s d.body i.body) stage c.self.invariant.at_hand more in
     let all : length d.body ≡ 0 + piece_len d 0 = omega (arith, short) in
     record {
       sized = c.self.invariant.sized;
-      at_hand = at-hand d c.args.start c.append_body.new.body c.append_body.result c.in_ok-reply.reply (delivery_stage c.appended-answer.new.stage)
+      at_hand = at-hand d c.args.start c.append_body.new.body c.append_body.result c.in_ok-reply.reply c.appended-answer.new.stage
           c.appended-answer.result c.in_ok-reply.ensures.ok (on_err c.append_body.result (λ kept. kept ∙ whole) c.append_body.ensures.body) all
           (c.appended-answer.ensures d 0 refl (c.self.invariant.sized ∙ all));
     }

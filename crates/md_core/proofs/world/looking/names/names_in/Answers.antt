@@ -1,6 +1,5 @@
 use Rattle.std.proofs.Common.{ℕ, ◌≡◌, ◌∙◌, ap, subst, arith}
-use Rattle.md_core.specs.Gathering.{AreOf}
-use Rattle.md_core.specs.Looking.{entries_before}
+use Rattle.md_core.proofs.Values.{AreOf, entries_before}
 use Rattle.md_core.proofs.Worlds.Gathered.{gathered-none}
 use Rattle.md_core.proofs.Worlds.Loading.Order.{before-all}
 use Rattle.md_core.proofs.world.looking.names.names_in.Goals as goal

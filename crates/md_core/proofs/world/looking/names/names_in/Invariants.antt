@@ -1,5 +1,4 @@
-use Rattle.md_core.specs.Gathering.{AreOf}
-use Rattle.md_core.specs.Looking.{entries_before}
+use Rattle.md_core.proofs.Values.{AreOf, entries_before}
 use Rattle.md_core.proofs.world.looking.names.names_in.Given as goal
 
 abbrev pub invariant-loop-folder : goal.invariant-loop-folder

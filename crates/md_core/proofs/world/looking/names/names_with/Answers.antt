@@ -1,9 +1,7 @@
 use Rattle.std.proofs.Common.{◌≡◌, ◌||◌, ◌∙◌, Some, slice_get, sym, ap}
-use Rattle.std.specs.Str.{bytes_eq}
+use Rattle.md_core.proofs.Values.{bytes_eq, holds, is_among}
 use Rattle.std.proofs.lemmas.List.{take_all}
 use Rattle.std.proofs.lemmas.Option.{slice_get-get_or}
-use Rattle.md_core.specs.Gathering.{holds}
-use Rattle.md_core.specs.Used.{is_among}
 use Rattle.md_core.proofs.Worlds.Gathered.{among-more}
 use Rattle.md_core.proofs.world.looking.names.names_with.Goals as goal
 

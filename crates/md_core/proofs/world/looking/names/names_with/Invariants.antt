@@ -1,6 +1,5 @@
 use Rattle.std.proofs.Common.{ℕ, ◌≡◌, ◌||◌, List, take}
-use Rattle.md_core.specs.Gathering.{holds}
-use Rattle.md_core.specs.Used.{is_among}
+use Rattle.md_core.proofs.Values.{holds, is_among}
 use Rattle.md_core.proofs.world.looking.names.names_with.Given as goal
 
 abbrev pub invariant-loop-key : goal.invariant-loop-key

@@ -1,8 +1,6 @@
 use Rattle.std.proofs.Common.{◌≤◌, ◌||◌, ◌∙◌, length, ap, arith}
-use Rattle.std.specs.List.{list_any}
-use Rattle.std.specs.Str.{bytes_eq}
+use Rattle.md_core.proofs.Values.{list_any, bytes_eq, is_among}
 use Rattle.std.proofs.lemmas.List.{take_all}
-use Rattle.md_core.specs.Used.{is_among}
 use Rattle.md_core.proofs.Worlds.Holding.{rows-there}
 use Rattle.md_core.proofs.world.looking.names.push_tmp.Goals as goal
 

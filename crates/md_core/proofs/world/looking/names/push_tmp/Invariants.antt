@@ -1,7 +1,5 @@
 use Rattle.std.proofs.Common.{ℕ, ◌≡◌, ◌≤◌, ◌||◌, List, length, take}
-use Rattle.std.specs.List.{list_any}
-use Rattle.std.specs.Str.{bytes_eq}
-use Rattle.md_core.specs.Used.{is_among}
+use Rattle.md_core.proofs.Values.{list_any, bytes_eq, is_among}
 use Rattle.md_core.proofs.world.looking.names.push_tmp.Given as goal
 
 abbrev pub invariant-loop-row : goal.invariant-loop-row

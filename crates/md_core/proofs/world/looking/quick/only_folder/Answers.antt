@@ -1,7 +1,5 @@
 use Rattle.std.proofs.Common.{ℕ, ◌≡◌, ◌+◌, ◌∙◌, true, false, length, refl, sym, subst, arith}
-use Rattle.md_dirs.specs.Rows.{rows_of}
-use Rattle.md_dirs.specs.declared.paths.Place.TheVariants.{New, Cur}
-use Rattle.md_core.specs.Quick.{AreBare}
+use Rattle.md_core.proofs.Values.{rows_of, New, Cur, AreBare}
 use Rattle.md_core.proofs.Worlds.Quick.{bare-more, bare-met}
 use Rattle.md_core.proofs.world.looking.quick.only_folder.Goals.{then-count-gt0+else-is_met, else-count-gt0+else-count-gt0-2}
 use Rattle.md_core.proofs.world.looking.quick.only_folder.Goals as goal

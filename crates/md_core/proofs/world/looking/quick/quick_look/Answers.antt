@@ -1,7 +1,5 @@
 use Rattle.std.proofs.Common.{ℕ, ◌≡◌, ◌∙◌, ap, subst, arith}
-use Rattle.std.specs.FinMap.{entries}
-use Rattle.md_core.specs.Looking.{entries_before}
-use Rattle.md_core.specs.Quick.{IsQuickLook}
+use Rattle.md_core.proofs.Values.{entries, entries_before, IsQuickLook}
 use Rattle.md_core.proofs.Worlds.Loading.Order.{before-all}
 use Rattle.md_core.proofs.Worlds.Quick.{quick-none, quick-loads}
 use Rattle.md_core.proofs.world.looking.quick.quick_look.Goals as goal

@@ -1,5 +1,4 @@
-use Rattle.md_core.specs.Looking.{entries_before}
-use Rattle.md_core.specs.Quick.{IsQuickLook}
+use Rattle.md_core.proofs.Values.{entries_before, IsQuickLook}
 use Rattle.md_core.proofs.world.looking.quick.quick_look.Given as goal
 
 abbrev pub invariant-loop-folder : goal.invariant-loop-folder

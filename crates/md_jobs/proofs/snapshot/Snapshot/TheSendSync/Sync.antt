@@ -1,7 +1,7 @@
--- A `&` to an image holds a share of a place with no bytes, and that fact.
+-- A `&` to a snapshot holds a share of a place with no bytes, and that fact.
 use denote.Param.Send.{IsSync, Pure-keyless, whole-keyless}
 use denote.RattleType.{RattleType}
-use Rattle.md_jobs.specs.contracts.image.Image.{the_row}
+use Rattle.md_jobs.specs.contracts.snapshot.Snapshot.{the_row}
 use Rattle.md_jobs.proofs.NoMemory.{no-memory}
 
 pub sync : (D : RattleType) → IsSync (the_row D)

@@ -1,4 +1,4 @@
--- An image is made of nothing: its walk gives up the reference, stores two empty structs, and names the value that the reference shows.
+-- A snapshot is made of nothing: its walk gives up the reference, stores two empty structs, and names the value that the reference shows.
 use mathlib.Core.Path.{refl}
 use mathlib.Core.List.{[], ◌∷◌}
 use mir.Syntax.{a_type, named}
@@ -18,17 +18,17 @@ use denote.Steps.{nothing}
 use denote.Triple.Entry.{alive}
 use denote.Triple.Walked.{Stays, says, stay_dropped, Goes-dropped, ends_at}
 use Rattle.std.proofs.raw_atomic.Walks.{proved}
-use Rattle.md_jobs.specs.declared.image.Image.{Image}
-use Rattle.md_jobs.specs.contracts.image.Image.{the_row}
-use Rattle.md_jobs.specs.contracts.image.Image.of as f
+use Rattle.md_jobs.specs.declared.snapshot.Snapshot.{Snapshot}
+use Rattle.md_jobs.specs.contracts.snapshot.Snapshot.{the_row}
+use Rattle.md_jobs.specs.contracts.snapshot.Snapshot.of as f
 use Rattle.md_jobs.proofs.NoMemory.{no-memory}
-use Rattle.md_jobs.proofs.image.Image.of.Statement.{statement}
-use Rattle.md_jobs.proofs.image.Image.of.Code as code
+use Rattle.md_jobs.proofs.snapshot.Snapshot.of.Statement.{statement}
+use Rattle.md_jobs.proofs.snapshot.Snapshot.of.Code as code
 
 abbrev stayed : (D : RattleType) → Stays (f.ended D).signature.params (f.ended D).kept
 stayed D = (stay_dropped _ yes, tt)
 
--- an image in the machine: a struct of the marker alone, which is an empty struct
+-- a snapshot in the machine: a struct of the marker alone, which is an empty struct
 abbrev made : Val
 made = vstruct (vcons (vstruct vnil) vnil)
 
@@ -40,7 +40,7 @@ of_spec 𝓤 𝓛 𝓜 𝓡 wired D laws =
     (f.Key.name Ts) (inst_fn Ts code.function) (code.unfolded 𝓤 𝓛.H 𝓜 𝓡 wired (D, tt))
     (λ κs. (shr_vals, tt)) (λ κs. (shr_Tells (named 0) κs.0 (f.D-row D), tt)) (λ κs qs bounds a n are.
     let vss : Valss (types_at S.params κs) = (shr_vals a.0, tt) in
-    let r : Image D.Denot = record { of = record {}; value = a.0.now } in
+    let r : Snapshot D.Denot = record { of = record {}; value = a.0.now } in
     qed 𝓛 ((raw (alive 𝓛 S κs qs) ⊛ ‵ (owns (types_at S.params κs) a vss)) ∷ raw ((c κs a).requires n) ∷ []) ∵
     split ! $ keep ! (0 ∷ []) $
     enter ! _ _ _ _ _ $ alloc_all ! (λ l. pass_all ! refl ((tt, tt), tt) $

@@ -1,7 +1,7 @@
--- An image holds a fact alone, which is as true in another thread.
+-- A snapshot holds a fact alone, which is as true in another thread.
 use denote.Param.Send.{IsSend, Pure-keyless}
 use denote.RattleType.{RattleType}
-use Rattle.md_jobs.specs.contracts.image.Image.{the_row}
+use Rattle.md_jobs.specs.contracts.snapshot.Snapshot.{the_row}
 use Rattle.md_jobs.proofs.NoMemory.{no-memory}
 
 pub send : (D : RattleType) → IsSend (the_row D)
