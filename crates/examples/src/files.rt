@@ -3,7 +3,7 @@ use crate::judge::judge_file;
 use crate::scripts::{play_rows, play_script};
 use std::{fs, io};
 
-/// What a file is, as its ending says.
+// What a file is, as its ending says.
 #[derive(Clone, Copy)]
 enum Kind {
     Script,

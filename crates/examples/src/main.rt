@@ -25,7 +25,7 @@ use server::{Counts, Plan, Unwatched, serve};
 use std::env::Args;
 use std::{env, io};
 
-/// What the words of the command line ask for.
+// What the words of the command line ask for.
 #[derive(Clone, Copy)]
 struct Asked {
     plan: Plan,

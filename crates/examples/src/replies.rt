@@ -7,7 +7,7 @@ use md_name::Flags;
 use std::alloc::Global;
 use std::collections::VecDeque;
 
-/// The moment of each call, in seconds.
+// The moment of each call, in seconds.
 const NOW: Moment = Moment {
     clock: 1000,
     own: 1000,

@@ -21,7 +21,7 @@ use std::thread::Threads;
 
 const MAIL: &[u8] = b"From: a@example.org\r\nSubject: hello\r\n\r\nHello.\r\n";
 
-/// The second of the store's clock.
+// The second of the store's clock.
 const NOW: u64 = 1000;
 
 /// How many threads there are, how many messages each takes in, and after how many of them it lists.
@@ -79,7 +79,7 @@ impl Watch for Unwatched {
     fn closing(&self) {}
 }
 
-/// A thread's number, from 0, and its pass.
+// A thread's number, from 0, and its pass.
 #[derive(Drop)]
 struct Session<J: Naming> {
     number: u64,
@@ -215,7 +215,7 @@ fn shown(alloc: Global, world: &World<IndexDirs>) -> Result<usize> {
     Ok(list(alloc, world, 0)?.len())
 }
 
-/// One round: opens a store of a world, lets the threads take in their messages, and closes it.
+// One round: opens a store of a world, lets the threads take in their messages, and closes it.
 fn round<W: Watch, R: Threads + Wait + Sync>(
     rt: &R,
     alloc: Global,

@@ -1,5 +1,7 @@
-//! Tests of `md_dirs`.
+//! Tests of `md_dirs`, and of the worlds of `md_core` over them.
 #![tactic(auto)]
 
 #[cfg(test)]
 mod tests;
+#[cfg(test)]
+mod world;

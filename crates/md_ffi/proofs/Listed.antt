@@ -1,14 +1,13 @@
 -- The messages of a listing as bytes, and what a buffer has of them.
-use Rattle.std.proofs.Common.{arith, ℕ, zero, suc, ◌≡◌, ◌≤◌, ◌<◌, ◌+◌, ◌++◌, List, [], ◌∷◌, All, length, take, drop, get_or, refl, sym, ap, subst, ◌∙◌}
-use Rattle.std.proofs.Math.Seq.{take-suc}
+use Rattle.std.proofs.Common.{ℕ, ◌≡◌, ◌≤◌, ◌<◌, ◌+◌, ◌++◌, List, [], ◌∷◌, All, length, take, drop, get_or, refl, sym, ap, subst, ◌∙◌}
 use Rattle.std.proofs.lemmas.Grind.{flat_map-append}
-use Rattle.std.proofs.lemmas.List.{length-append, append-nil}
+use Rattle.std.proofs.lemmas.List.{length-append, append-nil, drop-drop, take_more}
 use Rattle.std.proofs.lemmas.List.Elements.{All-append, All-cons, All-nil}
 use Rattle.std.proofs.lemmas.List.Folds.{length-flat_map-take}
 use Rattle.std.specs.List.{flat_map}
+use Rattle.md_dirs.specs.Path.{place_index}
 use Rattle.md_view.specs.declared.entry.Entry.{Entry}
-use Rattle.md_ffi.specs.Reading.{four_bytes, eight_bytes, entry_bytes, entries_bytes, place_number, HasShortName}
-use Rattle.md_ffi.proofs.Records.{ends-alike}
+use Rattle.md_ffi.specs.Reading.{four_bytes, eight_bytes, entry_bytes, entries_bytes, HasShortName}
 
 -- what stands before a name takes 16 bytes
 pub length_header : (p l s : ℕ) → length (four_bytes p ++ four_bytes l ++ eight_bytes s) ≡ 16
@@ -17,13 +16,11 @@ length_header p l s = refl
 
 pub length_entry : (e : Entry) → length (entry_bytes e) ≡ 16 + length e.name
 length_entry e =
-    let before : List ℕ = four_bytes (place_number e.place) ++ four_bytes (length e.name) ++ eight_bytes e.size in
-    length-append before e.name ∙ ap (λ (n : ℕ). n + length e.name) (length_header (place_number e.place) (length e.name) e.size)
+    let before : List ℕ = four_bytes (place_index e.place) ++ four_bytes (length e.name) ++ eight_bytes e.size in
+    length-append before e.name ∙ ap (λ (n : ℕ). n + length e.name) (length_header (place_index e.place) (length e.name) e.size)
 
 next-take : (es : List Entry) (i : ℕ) (e : Entry) → i < length es → e ≡ get_or es i e → take (i + 1) es ≡ take i es ++ e ∷ []
-next-take es i e less is =
-    let next : i + 1 ≡ suc i = omega arith in
-    ap (λ (n : ℕ). take n es) next ∙ take-suc es i e less ∙ ap (λ (x : Entry). take i es ++ x ∷ []) (sym is)
+next-take es i e less is = take_more es i e less ∙ ap (λ (x : Entry). take i es ++ x ∷ []) (sym is)
 
 -- one message more
 pub one_more : (es : List Entry) (i : ℕ) (e : Entry) → i < length es → e ≡ get_or es i e
@@ -50,10 +47,5 @@ has_room es i e less is =
     (length-flat_map-take entry_bytes es i e less)
 
 -- lists that end alike from a position on do so from each later one on
-pub ends_alike_after : (n k : ℕ) (xs ys : List ℕ) → drop n xs ≡ drop n ys → drop (n + k) xs ≡ drop (n + k) ys
-ends_alike_after n zero xs ys same =
-    let none : n + 0 ≡ n = omega arith in
-    ap (λ (i : ℕ). drop i xs) none ∙ same ∙ sym (ap (λ (i : ℕ). drop i ys) none)
-ends_alike_after n (suc k) xs ys same =
-    let next : n + suc k ≡ (n + k) + 1 = omega arith in
-    ap (λ (i : ℕ). drop i xs) next ∙ ends-alike (n + k) xs ys (ends_alike_after n k xs ys same) ∙ sym (ap (λ (i : ℕ). drop i ys) next)
+pub ends_alike_after : {X : Type 0} (n k : ℕ) (xs ys : List X) → drop n xs ≡ drop n ys → drop (n + k) xs ≡ drop (n + k) ys
+ends_alike_after n k xs ys same = sym (drop-drop k n xs) ∙ ap (drop k) same ∙ drop-drop k n ys

@@ -1,5 +1,5 @@
 -- Calls of records, one more after those that were made.
-use Rattle.std.proofs.Common.{arith, ℕ, zero, suc, ◌≡◌, ◌≢◌, ◌==◌, ◌<◌, ◌+◌, List, [], ◌∷◌, ◌++◌, Option, Some, None, Ok, Err, Bool, true, false, length, drop, refl, sym, ap, subst, ◌∙◌, true≢false}
+use Rattle.std.proofs.Common.{ℕ, ◌≡◌, ◌≢◌, ◌==◌, List, [], ◌∷◌, ◌++◌, Some, None, Ok, true, false, length, refl, sym, ap, subst, ◌∙◌, true≢false}
 use Rattle.std.proofs.lemmas.Bool.{eqb-true}
 use Rattle.std.proofs.lemmas.List.{nil_from_length}
 use Rattle.md_jobs.specs.declared.answer.Answer.{Answer}
@@ -36,14 +36,3 @@ not-empty xs is e = true≢false (sym (ap (λ (ys : List ℕ). length ys == 0) e
 
 pub empty : (xs : List ℕ) → (length xs == 0) ≡ true → xs ≡ []
 empty xs is = nil_from_length xs (eqb-true (length xs) 0 is)
-
-drop-one : {X : Type 0} → (n : ℕ) (xs : List X) → drop (suc n) xs ≡ drop 1 (drop n xs)
-drop-one zero xs = refl
-drop-one (suc n) [] = refl
-drop-one (suc n) (x ∷ xs) = drop-one n xs
-
--- lists that end alike do so also after one item less
-pub ends-alike : {X : Type 0} → (n : ℕ) (xs ys : List X) → drop n xs ≡ drop n ys → drop (n + 1) xs ≡ drop (n + 1) ys
-ends-alike n xs ys same =
-    let next : n + 1 ≡ suc n = omega arith in
-    ap (λ (k : ℕ). drop k xs) next ∙ drop-one n xs ∙ ap (drop 1) same ∙ sym (drop-one n ys) ∙ ap (λ (k : ℕ). drop k ys) (sym next)

@@ -1,9 +1,9 @@
 -- The first job without an answer, as a loop over the jobs meets it.
-use Rattle.std.proofs.Common.{arith, ℕ, suc, ◌≡◌, ◌⊎◌, inl, inr, ◌+◌, ◌<◌, ◌≤◌, List, Option, Some, None, Bool, true, false, cond, nat_lt, is_some, not, option_map, position, length, slice_get, get_or, refl, sym, ap, subst, ◌∙◌}
+use Rattle.std.proofs.Common.{arith, below_more, ℕ, suc, ◌≡◌, ◌+◌, ◌<◌, ◌≤◌, List, Option, Some, None, Bool, true, false, cond, nat_lt, is_some, not, option_map, length, get_or, refl, sym, ap, ◌∙◌}
 use Rattle.std.specs.List.{position_or_len}
 use Rattle.std.proofs.lemmas.List.Sums.{position_or_len_is}
 use Rattle.std.proofs.lemmas.Option.{slice_get-get_or}
-use Rattle.std.proofs.lemmas.Bool.{cases_lt, lt-ltb, le-ltb}
+use Rattle.std.proofs.lemmas.Bool.{lt-ltb, le-ltb}
 use Rattle.md_jobs.specs.declared.answer.Answer.TheVariants.{Delivered}
 use Rattle.md_core.specs.Machine.{Standing, working, answered, is_working, job_at}
 use Rattle.md_core.specs.Runs.{Run, answer_of, jobs_of}
@@ -39,16 +39,10 @@ pub starts : (r : Run) → length (jobs_of r) ≡ length r.calls → AllAnswered
 starts r as_many = record { as_many = as_many; each = λ k less. absurd (omega arith) }
 
 pub goes_on : (r : Run) (n : ℕ) → AllAnswered r n → has r (n + 1) ≡ true → AllAnswered r (n + 1)
-goes_on r n so_far answered_now = record { as_many = so_far.as_many; each = each }
-  where
-    each : (k : ℕ) → k < n + 1 → lacks r (k + 1) ≡ false
-    each k less = at (cases_lt k n)
-      where
-        at : ((k < n) ⊎ (n ≤ k)) → lacks r (k + 1) ≡ false
-        at (inl below) = so_far.each k below
-        at (inr past) =
-            let same : k ≡ n = omega arith in
-            ap (λ (j : ℕ). lacks r (j + 1)) same ∙ ap not answered_now
+goes_on r n so_far answered_now = record {
+  as_many = so_far.as_many;
+  each = below_more (λ k. lacks r (k + 1) ≡ false) n so_far.each (ap not answered_now);
+}
 
 place : (r : Run) (n : ℕ) → n ≤ length r.calls → AllAnswered r n → (n < length r.calls → lacks r (n + 1) ≡ true) → position_or_len is_working (jobs_of r) ≡ n
 place r n most so_far last =

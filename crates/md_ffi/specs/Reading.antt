@@ -3,6 +3,7 @@ use Rattle.std.specs.Prelude.{ℕ, ◌==◌, ◌++◌, ◌<◌, ◌^◌, List, O
 use Rattle.std.specs.Option.{option_map}
 use Rattle.std.specs.FinMap as finmap
 use Rattle.std.specs.Int.{w32, w64, to_le_bytes}
+use Rattle.md_dirs.specs.Path.{place_index}
 use Rattle.md_dirs.specs.Rows.{rows_of}
 use Rattle.md_dirs.specs.declared.rows.Row.{Row}
 use Rattle.md_dirs.specs.declared.paths.Place.{Place}
@@ -15,12 +16,6 @@ use Rattle.md_view.specs.declared.entry.Entry.{Entry}
 use Rattle.md_script.specs.declared.error.PlayKind.TheVariants.{Core}
 use Rattle.md_ffi.specs.declared.refusal.Refusal.{Refusal}
 use Rattle.md_ffi.specs.declared.refusal.Refusal.TheVariants.{Kind, NoPlace, NotThere}
-
--- the number of a place
-abbrev pub place_number : Place → ℕ
-place_number Tmp = 0
-place_number New = 1
-place_number Cur = 2
 
 -- the place of a number
 abbrev pub place_at : ℕ → Option Place
@@ -36,7 +31,7 @@ eight_bytes n = to_le_bytes w64 n
 
 -- a message of a listing: its place, the length of its name, its size, and its name
 abbrev pub entry_bytes : Entry → List ℕ
-entry_bytes e = four_bytes (place_number e.place) ++ four_bytes (length e.name) ++ eight_bytes e.size ++ e.name
+entry_bytes e = four_bytes (place_index e.place) ++ four_bytes (length e.name) ++ eight_bytes e.size ++ e.name
 
 -- the length of the name fits in 4 bytes
 abbrev pub HasShortName : Entry → Type 0

@@ -8,7 +8,7 @@ use Rattle.md_jobs.specs.declared.step.DirReply.{DirReply}
 use Rattle.md_jobs.specs.declared.step.DirReply.TheVariants as reply
 use Rattle.md_jobs.specs.declared.step.StepOut.{StepOut}
 use Rattle.md_name.specs.Words.{word_of}
-use Rattle.md_ffi.specs.Reading.{place_number}
+use Rattle.md_dirs.specs.Path.{place_index}
 use Rattle.md_ffi.specs.declared.shown.AnswerShown.{AnswerShown}
 use Rattle.md_ffi.specs.declared.shown.StepShown.{StepShown}
 
@@ -52,7 +52,7 @@ call_number (dir.List place) = 6
 -- the bytes of an append, or the place of a listing, else 0
 abbrev pub call_value : DirCall → ℕ
 call_value (dir.Append count) = count
-call_value (dir.List place) = place_number place
+call_value (dir.List place) = place_index place
 call_value other = 0
 
 -- the number of what the directories answered

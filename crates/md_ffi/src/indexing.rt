@@ -1,11 +1,11 @@
 //! The index of the messages of lines, which needs no world of the caller's.
-ghost use Rattle.md_indexing.specs.Indexing.{index_of_script};
+ghost use Rattle.md_script.specs.Indexing.{index_of_script};
 ghost use Rattle.md_ffi.specs.Naming.{Indexes};
 
 use crate::refusal::{Refusal, status};
 use crate::room::lay;
 use crate::seed::seed_of;
-use md_indexing::index_text;
+use md_script::index_text;
 use std::alloc::Global;
 
 /// Lays the index of `folder` and `file` lines into `out`, as `maildir_cli index` prints it, and sets `length` to its length and `line` to

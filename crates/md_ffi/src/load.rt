@@ -11,8 +11,7 @@ use crate::refusal::Refusal;
 use crate::seed::seed_of;
 use md_core::World;
 use md_dirs::{HashSeed, IndexDirs};
-use md_indexing::load;
-use md_script::{PlayError, PlayKind, Setup, image};
+use md_script::{PlayError, PlayKind, Setup, image, load};
 use std::alloc::Global;
 
 // The store that lines load, which hashes names by a seed.

@@ -58,7 +58,7 @@ impl Refusal {
         }
     }
 
-    /// What a refusal says, in at most 32 bytes.
+    // What a refusal says, in at most 32 bytes.
     fn text(self) -> &'static str
         ensures text { result.now ≡ refusal_text self }
         ensures short { length result.now ≤ 32 }
@@ -156,7 +156,7 @@ pub(crate) fn text_of(number: u32) -> &'static str
     }
 }
 
-/// The refusal of a number, or none.
+// The refusal of a number, or none.
 fn refusal_of(number: u32) -> Option<Refusal>
     ensures some { IfSome result (λ refusal. refusal_number refusal ≡ number) }
     ensures none { IfNone result ((r : Refusal) → refusal_number r ≢ number) }

@@ -1,6 +1,7 @@
 //! What C sees of answers and steps.
 ghost use Rattle.std.specs.Prelude.{◌≡◌, None, Some};
-ghost use Rattle.md_ffi.specs.Reading.{place_at, place_number};
+ghost use Rattle.md_dirs.specs.Path.{place_index};
+ghost use Rattle.md_ffi.specs.Reading.{place_at};
 ghost use Rattle.md_ffi.specs.Shown.{answer_shown, call_number, call_value, reply_number, IsShown};
 
 use md_core::{Answer, DirCall, DirReply, StepOut};
@@ -29,7 +30,7 @@ pub struct StepShown {
 
 /// The number of a place.
 pub(crate) fn place_number(place: Place) -> u32
-    ensures { result ≡ place_number place }
+    ensures { result ≡ place_index place }
 {
     match place {
         Place::Tmp => 0,

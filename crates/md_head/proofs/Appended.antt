@@ -1,6 +1,7 @@
 -- The summary of a text that follows whole lines.
-use Rattle.std.proofs.Common.{◌≡◌, ℕ, zero, suc, ◌+◌, ◌-◌, ◌<◌, List, [], ◌∷◌, ◌++◌, length, take, Option, Some, None, refl, sym, ap, ◌∙◌, arith, ⊎_elim, take_all}
-use Rattle.std.proofs.lemmas.Bool.{cases_Bool}
+use Rattle.std.proofs.Common.{◌≡◌, ℕ, zero, suc, ◌+◌, ◌-◌, ◌<◌, List, [], ◌∷◌, ◌++◌, length, take, true, Option, Some, None, refl, sym, ap, ◌∙◌, arith, ⊎_elim, take_all}
+use Rattle.std.proofs.lemmas.Bool.{cases_Bool, lt-ltb}
+use Rattle.std.proofs.lemmas.List.Elements.{All-weaker}
 use Rattle.std.proofs.lemmas.List.{take_more}
 use Rattle.std.proofs.lemmas.List.Sums.{take_while-cons}
 use Rattle.std.specs.Prelude.{codes, All, Contains, slice_index_or}
@@ -18,7 +19,7 @@ use Rattle.md_head.proofs.Firsts.{value_is, first_cons}
 use Rattle.md_head.proofs.FieldLines.{line_from}
 use Rattle.md_head.proofs.Steps.{groups_is}
 use Rattle.md_head.proofs.Sums.{made_of, summary_is}
-use Rattle.md_head.proofs.Alls.{all_head, all_tail}
+use Rattle.md_head.proofs.Alls.{all_head, all_tail, take_passing}
 
 -- texts with the same values have the same summary
 pub same_summary : (s t : List ℕ) → ((name : List ℕ) → field_value name s ≡ field_value name t) → summary_of s ≡ summary_of t
@@ -90,11 +91,11 @@ passed_values name (line ∷ front) lines h =
     ∙ rest)
     (cases_Bool (is_continuation line))
 
+some_line : (line : List ℕ) → IsPassedOver line → is_some_line line ≡ true
+some_line line passed = lt-ltb 0 (length line) passed.some
+
 some_passed : (front more : List (List ℕ)) → All IsPassedOver front → take_while is_some_line (front ++ more) ≡ front ++ take_while is_some_line more
-some_passed [] more h = refl
-some_passed ([] ∷ front) more h = absurd (omega (arith, (all_head IsPassedOver [] front h).some))
-some_passed ((b ∷ line) ∷ front) more h =
-    some_first b line (front ++ more) ∙ ap (λ ls. (b ∷ line) ∷ ls) (some_passed front more (all_tail IsPassedOver (b ∷ line) front h))
+some_passed front more h = take_passing is_some_line front more (All-weaker IsPassedOver (λ l. is_some_line l ≡ true) some_line front h)
 
 pub others_passed : (front text : List ℕ) → IsWholeLines front → All IsPassedOver (lines_of front) → summary_of (front ++ text) ≡ summary_of text
 others_passed front text h passed =

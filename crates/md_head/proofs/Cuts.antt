@@ -1,5 +1,6 @@
 -- The first line of a text, where a search for a line feed finds its end.
-use Rattle.std.proofs.Common.{◌≡◌, ℕ, ◌+◌, ◌-◌, ◌<◌, List, [], ◌∷◌, length, take, drop, Bool, true, false, refl, sym, ap, ◌∙◌, arith}
+use Rattle.std.proofs.Common.{◌≡◌, ℕ, ◌+◌, ◌-◌, ◌<◌, List, [], ◌∷◌, length, take, drop, false, refl, sym, ap, ◌∙◌, arith}
+use Rattle.std.proofs.lemmas.Bool.{false_from_ne_true}
 use Rattle.std.proofs.lemmas.Bool.Decides.{nat_tests}
 use Rattle.std.proofs.lemmas.List.{length-drop, drop_all}
 use Rattle.std.proofs.lemmas.List.Elements.{All-from_get_or}
@@ -11,19 +12,15 @@ use Rattle.std.specs.Str.Lines.{lines_of_parts, strip_carriage_return}
 use Rattle.memchr.specs.Find.{Nowhere, NoneBefore, Passes, is_byte}
 use Rattle.md_head.specs.Header.{is_line_feed, lines_of}
 
-refuted : (b : Bool) → ¬ (b ≡ true) → b ≡ false
-refuted true h = absurd (h refl)
-refuted false h = refl
-
 -- ---- from the search's words to those of lists
 
 none_is : (b : ℕ) (text : List ℕ) → Nowhere (Passes (is_byte b) text) 0 (length text) → All (λ x. is_byte b x ≡ false) text
-none_is b text none = All-from_get_or (λ x. is_byte b x ≡ false) text 0 (λ i h. refuted _ (none i (omega arith) h))
+none_is b text none = All-from_get_or (λ x. is_byte b x ≡ false) text 0 (λ i h. false_from_ne_true _ (none i (omega arith) h))
 
 first_at : (b : ℕ) (text : List ℕ) (at : ℕ) → NoneBefore (Passes (is_byte b) text) 0 (length text) at × Passes (is_byte b) text at
     → position_or_len (is_byte b) text ≡ at
 first_at b text at found =
-    position_or_len_is (is_byte b) text at 0 (omega (arith, found.0.high)) (λ k h. refuted _ (found.0.before k (omega arith) h)) (λ h. found.1)
+    position_or_len_is (is_byte b) text at 0 (omega (arith, found.0.high)) (λ k h. false_from_ne_true _ (found.0.before k (omega arith) h)) (λ h. found.1)
 
 -- what is left from a place on, as a range of a slice says it
 pub rest_whole : (text : List ℕ) (n : ℕ) → take (length text - n) (drop n text) ≡ drop n text
@@ -64,7 +61,7 @@ first_line text at found =
 pub nothing_behind : (text : List ℕ) → Nowhere (Passes (is_byte 10) text) 0 (length text) → after_first is_line_feed text ≡ []
 nothing_behind text none =
     let place : position_or_len is_line_feed text ≡ length text =
-    position_or_len_is is_line_feed text (length text) 0 (omega arith) (λ k h. refuted _ (none k (omega arith) h)) (λ h. absurd (omega arith)) in
+    position_or_len_is is_line_feed text (length text) 0 (omega arith) (λ k h. false_from_ne_true _ (none k (omega arith) h)) (λ h. absurd (omega arith)) in
     ap (λ n. drop (n + 1) text) place ∙ drop_all (length text + 1) text (omega arith)
 
 pub rest_behind : (text : List ℕ) (at : ℕ) → NoneBefore (Passes (is_byte 10) text) 0 (length text) at × Passes (is_byte 10) text at

@@ -2,13 +2,13 @@
 use Rattle.std.proofs.Common.{◌≡◌, ℕ, ◌+◌, ◌<◌, Bool, true, false, List, [], ◌∷◌, ◌++◌, length, get_or, take, drop, Option, Some, None, refl, sym, ap, ◌∙◌, arith, subst, cond, take-append-drop, get_or-take}
 use Rattle.std.specs.Prelude.{◌&&◌, nat_eq, nat_lt}
 use Rattle.std.proofs.lemmas.Bool.Decides.{nat_tests}
-use Rattle.std.proofs.lemmas.Bool.{eqb-true}
+use Rattle.std.proofs.lemmas.Bool.{eqb-true, ltb-true}
 use Rattle.std.proofs.lemmas.List.Sums.{prefix_len_passes}
 use Rattle.std.proofs.lemmas.List.Folds.{length-prefix_len}
 use Rattle.std.specs.List.{AllPass, prefix_len}
 use Rattle.md_head.specs.Header.{is_blank, is_name_byte, is_continuation, IsFieldLine}
 use Rattle.md_head.specs.Computed.{field_of}
-use Rattle.md_head.proofs.Alls.{pass_head, prefix_stops, take_front, drop_front}
+use Rattle.md_head.proofs.Alls.{pass_head, prefix_stops, take_front, drop_front, none_no_some}
 
 -- the field of a name of n bytes, and what stands behind it and the white space
 abbrev from_parts : List ℕ → ℕ → List ℕ → Option (List ℕ × List ℕ)
@@ -46,14 +46,8 @@ field_from line name body f =
     ∙ ap (from_parts name (length name)) whole
     ∙ from_name name body f.some_name
 
-none_no_some : {x : List ℕ × List ℕ} (o : Option (List ℕ × List ℕ)) → o ≡ None → o ≡ Some x → ⊥
-none_no_some o none some = cc
-
 some_is : {x y : List ℕ × List ℕ} → Some x ≡ Some y → x ≡ y
 some_is e = cc
-
-at_least : (n : ℕ) → nat_lt 0 n ≡ true → 0 < n
-at_least n h = grind (arith, nat_tests)
 
 -- both tests passed
 record BothPass (name : List ℕ) (n : ℕ) (body : List ℕ) (name' body' : List ℕ) : Type 0 where
@@ -70,7 +64,7 @@ both_pass name n body name' body' e = go (nat_lt 0 n) (nat_eq (get_or body 0 0) 
         → BothPass name n body name' body'
     go true true some colon is =
         record {
-          some = at_least n some;
+          some = ltb-true 0 n some;
           colon = eqb-true (get_or body 0 0) 58 colon;
           same_name = ap (λ (p : List ℕ × List ℕ). p.0) (some_is is);
           same_body = ap (λ (p : List ℕ × List ℕ). p.1) (some_is is);

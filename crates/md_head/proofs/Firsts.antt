@@ -7,12 +7,9 @@ use Rattle.std.proofs.lemmas.List.Elements.{All-cons, All-nil}
 use Rattle.md_head.specs.Header.{Group}
 use Rattle.md_head.specs.Values.{IsTrimmed, IsField, IsOther, IsFirstValue}
 use Rattle.md_head.specs.Computed.{field_of, trimmed, value_if, value_of, or_later, first_value}
-use Rattle.md_head.proofs.Alls.{all_head, all_tail}
+use Rattle.md_head.proofs.Alls.{all_head, all_tail, none_no_some}
 use Rattle.md_head.proofs.Trims.{trimmed_is, trimmed_only}
 use Rattle.md_head.proofs.FieldLines.{field_from, line_from}
-
-none_no_some : {x : List ℕ} (o : Option (List ℕ)) → o ≡ None → o ≡ Some x → ⊥
-none_no_some o none some = cc
 
 pub value_is : (name : List ℕ) (g : Group) → value_of name g ≡ value_if name g.continuations (field_of g.first)
 unfolding value_of

@@ -1,6 +1,7 @@
 -- The value that the bytes of a group give: those of a line and its continuations, with their line ends.
 use Rattle.std.proofs.Common.{◌≡◌, ◌≢◌, ℕ, ◌<◌, Bool, true, List, [], ◌∷◌, ◌++◌, length, Option, Some, None, refl, sym, ap, ◌∙◌, arith, subst, append_assoc, append-nil, cond}
 use Rattle.std.proofs.lemmas.Bool.Decides.{nat_tests}
+use Rattle.std.proofs.lemmas.List.Elements.{All-weaker}
 use Rattle.std.specs.Prelude.{◌||◌, nat_eq}
 use Rattle.std.specs.Str.{str_eq_ignore_ascii_case}
 use Rattle.std.specs.List.{onto_first, concat, AllPass}
@@ -11,7 +12,7 @@ use Rattle.md_head.proofs.Lines.{step_plain}
 use Rattle.md_head.proofs.Scans.{Front, front_line}
 use Rattle.md_head.proofs.Firsts.{value_is}
 use Rattle.md_head.proofs.FieldLines.{field_from, line_from}
-use Rattle.md_head.proofs.Alls.{pass_head, pass_tail, pass_nil, pass_cons, pass_append}
+use Rattle.md_head.proofs.Alls.{pass_head, pass_tail, pass_nil, pass_cons, pass_append, none_no_some}
 
 -- ---- bytes with no line end, before a text
 
@@ -59,8 +60,7 @@ unfolding unfolded
 unfolded_is body = refl
 
 pub all_inner : (p : ℕ → Bool) (bytes : List ℕ) → ((b : ℕ) → p b ≡ true → is_inner b ≡ true) → AllPass p bytes → AllPass is_inner bytes
-all_inner p [] each h = pass_nil is_inner
-all_inner p (b ∷ bytes) each h = pass_cons is_inner b bytes (each b (pass_head p b bytes h)) (all_inner p bytes each (pass_tail p b bytes h))
+all_inner p bytes each = All-weaker (λ b. p b ≡ true) (λ b. is_inner b ≡ true) each bytes
 
 pub blank_inner : (b : ℕ) → is_blank b ≡ true → is_inner b ≡ true
 blank_inner b h = grind (arith, nat_tests)
@@ -127,9 +127,6 @@ group_field bytes first continuations name found body e f = go (lines_of body) r
         let at_first : front ++ l ≡ first = cc in
         let at_others : ls ≡ continuations = cc in
         value_at l ls (l ∷ ls) is at_first at_others refl
-
-none_no_some : {x : List ℕ × List ℕ} (o : Option (List ℕ × List ℕ)) → o ≡ None → o ≡ Some x → ⊥
-none_no_some o none some = cc
 
 -- and no field, where they begin with none
 group_none : (bytes first : List ℕ) (continuations : List (List ℕ)) (name : List ℕ) → lines_of bytes ≡ first ∷ continuations → field_of bytes ≡ None

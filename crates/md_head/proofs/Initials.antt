@@ -1,6 +1,6 @@
 -- A field whose name begins with another letter is of another name.
-use Rattle.std.proofs.Common.{◌≡◌, ◌≢◌, ℕ, ◌<◌, Bool, true, false, List, [], ◌∷◌, get_or, take, Option, Some, None, refl, sym, ap, ◌∙◌, arith, cond, get_or-take}
-use Rattle.std.specs.Prelude.{◌&&◌, not, nat_eq, codes}
+use Rattle.std.proofs.Common.{◌≡◌, ◌≢◌, ℕ, ◌<◌, false, List, [], ◌∷◌, get_or, take, Option, Some, None, refl, sym, ap, ◌∙◌, arith, cond, get_or-take}
+use Rattle.std.specs.Prelude.{◌&&◌, nat_eq, codes}
 use Rattle.std.proofs.lemmas.Bool.Decides.{nat_tests}
 use Rattle.std.specs.Char.{to_ascii_lowercase}
 use Rattle.std.specs.Str.{str_eq_ignore_ascii_case, str_to_ascii_lowercase, bytes_eq}
@@ -10,10 +10,6 @@ use Rattle.md_head.specs.Computed.{field_of}
 use Rattle.md_head.specs.Bodies.{unfolded}
 use Rattle.md_head.proofs.FieldLines.{line_from}
 use Rattle.md_head.proofs.GroupValues.{value_in}
-
-pub not_true : (b : Bool) → not b ≡ true → b ≡ false
-not_true true e = cc
-not_true false e = refl
 
 unequal : (a b : ℕ) → a ≢ b → nat_eq a b ≡ false
 unequal a b h = grind (arith, nat_tests)

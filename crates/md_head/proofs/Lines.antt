@@ -20,17 +20,17 @@ feed_yes b e = grind (arith, nat_tests)
 feed_no : (b : ℕ) → b ≢ 10 → is_feed b ≡ false
 feed_no b e = grind (arith, nat_tests)
 
--- there is a first part
-record Some (ps : List (List ℕ)) : Type 0 where
-  first : List ℕ
-  others : List (List ℕ)
-  is : ps ≡ first ∷ others
+-- some lines, or parts
+pub record SomeLine (lines : List (List ℕ)) : Type 0 where
+  pub first : List ℕ
+  pub others : List (List ℕ)
+  pub is : lines ≡ first ∷ others
 
-onto_some : (b : ℕ) (ps : List (List ℕ)) → Some (onto_first b ps)
+pub onto_some : (b : ℕ) (lines : List (List ℕ)) → SomeLine (onto_first b lines)
 onto_some b [] = record { first = b ∷ []; others = []; is = refl }
-onto_some b (p ∷ ps) = record { first = b ∷ p; others = ps; is = refl }
+onto_some b (l ∷ ls) = record { first = b ∷ l; others = ls; is = refl }
 
-some : (bytes : List ℕ) → Some (parts bytes)
+some : (bytes : List ℕ) → SomeLine (parts bytes)
 some [] = record { first = []; others = []; is = refl }
 some (b ∷ bytes) = ⊎_elim
     (λ yes. record { first = []; others = parts bytes; is = slice_split-cons_yes is_feed b bytes yes })
@@ -40,7 +40,7 @@ some (b ∷ bytes) = ⊎_elim
     (cases_Bool (is_feed b))
 
 -- a line feed first
-empty_part : (ps : List (List ℕ)) → Some ps → lines_of_parts ([] ∷ ps) ≡ [] ∷ lines_of_parts ps
+empty_part : (ps : List (List ℕ)) → SomeLine ps → lines_of_parts ([] ∷ ps) ≡ [] ∷ lines_of_parts ps
 empty_part [] s = let no : [] ≡ s.first ∷ s.others = s.is in cc
 empty_part (p ∷ ps) s = refl
 
@@ -67,7 +67,7 @@ strip_more b c bytes =
     onto false x y = refl
 
 -- a carriage return before a line feed
-alone : (b : ℕ) (ps : List (List ℕ)) → Some ps → b ≡ 13 → lines_of_parts ((b ∷ []) ∷ ps) ≡ [] ∷ lines_of_parts ps
+alone : (b : ℕ) (ps : List (List ℕ)) → SomeLine ps → b ≡ 13 → lines_of_parts ((b ∷ []) ∷ ps) ≡ [] ∷ lines_of_parts ps
 alone b [] s e = let no : [] ≡ s.first ∷ s.others = s.is in cc
 alone b (p ∷ ps) s e = ap (λ l. l ∷ lines_of_parts (p ∷ ps)) (strip_return b e)
 

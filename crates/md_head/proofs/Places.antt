@@ -1,7 +1,6 @@
 -- What the loop over groups knows of a name: where its first field stands, and what is still to be read.
 use Rattle.std.proofs.Common.{◌≡◌, ℕ, ◌<◌, Bool, true, false, List, [], ◌∷◌, ◌++◌, length, get_or, take, drop, Option, Some, None, refl, sym, ap, ◌∙◌, arith, ⊎_elim, ◌⊎◌, inl, inr, append_assoc, append-nil, take-append-drop, get_or-take, length-take-le, cond}
-use Rattle.std.proofs.lemmas.Bool.Decides.{nat_tests}
-use Rattle.std.proofs.lemmas.Bool.{false≢true}
+use Rattle.std.proofs.lemmas.Bool.{and_parts, false≢true}
 use Rattle.std.proofs.lemmas.List.Sums.{take_while-cons}
 use Rattle.std.specs.Prelude.{◌&&◌, option_map, is_some, IfSome}
 use Rattle.std.specs.Str.{str_eq_ignore_ascii_case}
@@ -13,7 +12,7 @@ use Rattle.md_head.specs.Scan.{EndsGroup}
 use Rattle.md_head.specs.declared.body.FieldBody.{FieldBody}
 use Rattle.md_head.proofs.Lines.{lines_nil}
 use Rattle.md_head.proofs.Texts.{whole_behind}
-use Rattle.md_head.proofs.Sections.{section_is, some_first, over_at_end, some_section}
+use Rattle.md_head.proofs.Sections.{section_is, has_bytes, all_have_bytes, over_at_end, some_section}
 use Rattle.md_head.proofs.Groups.{grouped_nil}
 use Rattle.md_head.proofs.Firsts.{first_nil}
 use Rattle.md_head.proofs.FieldLines.{line_from}
@@ -21,27 +20,7 @@ use Rattle.md_head.proofs.GroupValues.{value_in, group_value}
 use Rattle.md_head.proofs.Steps.{nothing_in_front, value_step, step}
 use Rattle.md_head.proofs.Appended.{value_in_section, lines_whole_append, section_append}
 use Rattle.md_head.proofs.Earlier.{grouped_append, first_append}
-use Rattle.md_head.proofs.Alls.{pass_head, pass_tail, pass_nil, pass_cons, pass_append}
-
--- ---- lines that all have bytes
-
-has_bytes : (b : ℕ) (line : List ℕ) → is_some_line (b ∷ line) ≡ true
-has_bytes b line = grind (arith, nat_tests)
-
-all_have_bytes : (continuations : List (List ℕ)) → AllPass is_continuation continuations → AllPass is_some_line continuations
-all_have_bytes [] h = pass_nil is_some_line
-all_have_bytes ([] ∷ lines) h = absurd (false≢true (pass_head is_continuation [] lines h))
-all_have_bytes ((b ∷ line) ∷ lines) h =
-    pass_cons is_some_line (b ∷ line) lines (has_bytes b line) (all_have_bytes lines (pass_tail is_continuation (b ∷ line) lines h))
-
-no_bytes : is_some_line [] ≡ false
-no_bytes = grind (arith, nat_tests)
-
-some_taken : (lines more : List (List ℕ)) → AllPass is_some_line lines → take_while is_some_line (lines ++ more) ≡ lines ++ take_while is_some_line more
-some_taken [] more h = refl
-some_taken ([] ∷ lines) more h = absurd (false≢true (sym no_bytes ∙ pass_head is_some_line [] lines h))
-some_taken ((b ∷ line) ∷ lines) more h =
-    some_first b line (lines ++ more) ∙ ap (λ ls. (b ∷ line) ∷ ls) (some_taken lines more (pass_tail is_some_line (b ∷ line) lines h))
+use Rattle.md_head.proofs.Alls.{pass_nil, pass_cons, pass_append, take_passing}
 
 -- ---- the value of a name in whole lines and one group behind them
 
@@ -60,7 +39,7 @@ value_of_one : (name bytes first : List ℕ) (continuations : List (List ℕ)) �
 value_of_one name bytes first continuations lines some goes_on =
     let whole = append-nil (first ∷ continuations) in
     let section : header_section bytes ≡ first ∷ (continuations ++ []) =
-    section_is bytes ∙ ap (take_while is_some_line) (lines ∙ sym whole) ∙ some_taken (first ∷ continuations) [] some in
+    section_is bytes ∙ ap (take_while is_some_line) (lines ∙ sym whole) ∙ take_passing is_some_line (first ∷ continuations) [] some in
     value_in_section name bytes ∙ ap (λ ls. first_value name (grouped ls).groups) section
     ∙ value_step name first continuations [] goes_on (ap (λ (g : Grouped). g.front) grouped_nil)
     ∙ ap (or_later _) (no_value name) ∙ last_none _
@@ -72,9 +51,9 @@ value_behind name before more whole some begins =
     let front = nothing_in_front more begins in
     let lines = lines_of before in
     let all : header_section (before ++ more) ≡ lines ++ header_section more =
-    section_append before more whole ∙ some_taken lines (lines_of more) some ∙ sym (ap (λ ls. lines ++ ls) (section_is more)) in
+    section_append before more whole ∙ take_passing is_some_line lines (lines_of more) some ∙ sym (ap (λ ls. lines ++ ls) (section_is more)) in
     let own : header_section before ≡ lines =
-    section_is before ∙ sym (ap (take_while is_some_line) (append-nil lines)) ∙ some_taken lines [] some ∙ append-nil lines in
+    section_is before ∙ sym (ap (take_while is_some_line) (append-nil lines)) ∙ take_passing is_some_line lines [] some ∙ append-nil lines in
     value_in_section name (before ++ more) ∙ ap (λ ls. first_value name (grouped ls).groups) all
     ∙ ap (λ (g : Grouped). first_value name g.groups) (grouped_append lines (header_section more) front)
     ∙ first_append name (grouped lines).groups (grouped (header_section more)).groups
@@ -249,11 +228,11 @@ knows_all message left name found over k = record {
     go (Some body) stands = stands
 
 pub all_four : (a b c d : Bool) → (a && b && c && d) ≡ true → (a ≡ true) × (b ≡ true) × (c ≡ true) × (d ≡ true)
-all_four true true true true e = (refl, refl, refl, refl)
-all_four true true true false e = absurd (false≢true e)
-all_four true true false d e = absurd (false≢true e)
-all_four true false c d e = absurd (false≢true e)
-all_four false b c d e = absurd (false≢true e)
+all_four a b c d e =
+    let three = and_parts (a && b && c) d e in
+    let two = and_parts (a && b) c three.0 in
+    let one = and_parts a b two.0 in
+    (one.0, one.1, two.1, three.1)
 
 -- the name was found
 pub knows_found : (message left name : List ℕ) (found : Option FieldBody) → is_some found ≡ true → Knows message left name found

@@ -1,5 +1,5 @@
 -- A field whose name is written in another case.
-use Rattle.std.proofs.Common.{◌≡◌, ℕ, ◌<◌, true, false, List, [], ◌∷◌, ◌++◌, length, drop, Some, None, refl, sym, ap, ◌∙◌, arith, ⊎_elim, append_assoc, append-nil, cond}
+use Rattle.std.proofs.Common.{◌≡◌, ℕ, ◌<◌, Bool, true, false, List, [], ◌∷◌, ◌++◌, length, drop, Option, Some, None, refl, sym, ap, ◌∙◌, arith, ⊎_elim, append_assoc, append-nil, cond}
 use Rattle.std.proofs.lemmas.Bool.Decides.{nat_tests}
 use Rattle.std.proofs.lemmas.Bool.{cases_Bool}
 use Rattle.std.proofs.lemmas.List.Sums.{take_while-cons}
@@ -10,7 +10,7 @@ use Rattle.std.specs.List.{AllPass, concat, take_while}
 use Rattle.md_head.specs.Header.{is_blank, is_name_byte, is_some_line, is_continuation, lines_of, IsWholeLines}
 use Rattle.md_head.specs.Computed.{Grouped, grouped, field_of, trimmed, value_if, value_of, or_later, first_value}
 use Rattle.md_head.specs.Summaries.{summary_of}
-use Rattle.md_head.proofs.Sections.{some_first}
+use Rattle.md_head.proofs.Sections.{has_bytes}
 use Rattle.md_head.proofs.Groups.{grouped_on, grouped_new}
 use Rattle.md_head.proofs.Firsts.{value_is, first_cons}
 use Rattle.md_head.proofs.FieldLines.{field_from}
@@ -90,80 +90,70 @@ field_text name spacing rest h bytes blank =
 
 -- ---- one line in place of another
 
-record SameValues (name : List ℕ) (lines others : List (List ℕ)) : Type 0 where
-  front : (grouped lines).front ≡ (grouped others).front
-  value : first_value name (grouped lines).groups ≡ first_value name (grouped others).groups
+-- what of grouped lines goes on in front of them: the lines in front of their groups, and the first value of a name
+abbrev Facts : Type 0
+Facts = List (List ℕ) × Option (List ℕ)
 
-module _ (name found other body line line' : List ℕ) (l : NamedLine found body line) (l' : NamedLine other body line')
-    (same : str_eq_ignore_ascii_case found name ≡ str_eq_ignore_ascii_case other name) where
-  same_value : (continuations : List (List ℕ))
-      → value_of name (record { first = line; continuations = continuations }) ≡ value_of name (record { first = line'; continuations = continuations })
-  same_value continuations =
-      let v = Some (trimmed (body ++ concat continuations)) in
-      value_is name (record { first = line; continuations = continuations }) ∙ ap (value_if name continuations) l.field
-      ∙ ap (λ b. cond b v None) same
-      ∙ sym (ap (value_if name continuations) l'.field) ∙ sym (value_is name (record { first = line'; continuations = continuations }))
+module _ (name : List ℕ) where
+  abbrev facts : Grouped → Facts
+  facts g = (g.front, first_value name g.groups)
 
-  begins_group : (line : List ℕ) (lines : List (List ℕ)) → is_continuation line ≡ false
-      → ((grouped (line ∷ lines)).front ≡ []) × (first_value name (grouped (line ∷ lines)).groups
-      ≡ or_later (value_of name (record { first = line; continuations = (grouped lines).front })) (first_value name (grouped lines).groups))
-  begins_group line lines h =
-      let g = grouped_new line lines h in (
-        ap (λ (r : Grouped). r.front) g,
-        ap (λ (r : Grouped). first_value name r.groups) g ∙
-            first_cons name (record { first = line; continuations = (grouped lines).front }) (grouped lines).groups,
-      )
+  abbrev next : List ℕ → Facts → Facts
+  next line f = cond (is_continuation line) (line ∷ f.0, f.1) ([], or_later (value_of name (record { first = line; continuations = f.0 })) f.1)
 
-  section_of : (line : List ℕ) (first : ℕ) (some : List ℕ) (lines : List (List ℕ)) → line ≡ first ∷ some
-      → take_while is_some_line (line ∷ lines) ≡ line ∷ take_while is_some_line lines
-  section_of line first some lines is =
-      ap (λ t. take_while is_some_line (t ∷ lines)) is ∙ some_first first some lines ∙ sym (ap (λ t. t ∷ take_while is_some_line lines) is)
-
-  same_values : (front behind : List (List ℕ))
-      → SameValues name (take_while is_some_line (front ++ line ∷ behind)) (take_while is_some_line (front ++ line' ∷ behind))
-  same_values [] behind =
-      let rest = take_while is_some_line behind in
-      let a = begins_group line rest l.begins in
-      let b = begins_group line' rest l'.begins in
-      let s = section_of line l.first l.some behind l.is in
-      let s' = section_of line' l'.first l'.some behind l'.is in
-      record {
-        front = ap (λ ls. (grouped ls).front) s ∙ a.0 ∙ sym b.0 ∙ sym (ap (λ ls. (grouped ls).front) s');
-        value = ap (λ ls. first_value name (grouped ls).groups) s ∙ a.1
-            ∙ ap (λ v. or_later v (first_value name (grouped rest).groups)) (same_value (grouped rest).front)
-            ∙ sym b.1 ∙ sym (ap (λ ls. first_value name (grouped ls).groups) s');
-      }
-  same_values ([] ∷ front) behind =
-      let over = λ (more : List (List ℕ)). take_while-cons is_some_line [] more in
-      let both = over (front ++ line ∷ behind) ∙ sym (over (front ++ line' ∷ behind)) in
-      record { front = ap (λ ls. (grouped ls).front) both; value = ap (λ ls. first_value name (grouped ls).groups) both }
-  same_values ((b ∷ text) ∷ front) behind =
-      let first = b ∷ text in
-      let rest = same_values front behind in
-      let lines = take_while is_some_line (front ++ line ∷ behind) in
-      let others = take_while is_some_line (front ++ line' ∷ behind) in
-      let s = some_first b text (front ++ line ∷ behind) in
-      let s' = some_first b text (front ++ line' ∷ behind) in
-      ⊎_elim
-      (λ goes_on. record {
-        front = ap (λ ls. (grouped ls).front) s ∙ ap (λ (r : Grouped). r.front) (grouped_on first lines goes_on) ∙ ap (λ ls. first ∷ ls) rest.front
-            ∙ sym (ap (λ (r : Grouped). r.front) (grouped_on first others goes_on)) ∙ sym (ap (λ ls. (grouped ls).front) s');
-        value = ap (λ ls. first_value name (grouped ls).groups) s ∙ ap (λ (r : Grouped). first_value name r.groups) (grouped_on first lines goes_on) ∙
-            rest.value
-            ∙ sym (ap (λ (r : Grouped). first_value name r.groups) (grouped_on first others goes_on)) ∙
-            sym (ap (λ ls. first_value name (grouped ls).groups) s');
-      })
+  facts_cons : (line : List ℕ) (lines : List (List ℕ)) → facts (grouped (line ∷ lines)) ≡ next line (facts (grouped lines))
+  facts_cons line lines = ⊎_elim
+      (λ goes_on. ap facts (grouped_on line lines goes_on) ∙ sym (ap (λ b. cond b (line ∷ (grouped lines).front, first_value name (grouped lines).groups) later) goes_on))
       (λ begins.
-      let a = begins_group first lines begins in
-      let c = begins_group first others begins in
-      record {
-        front = ap (λ ls. (grouped ls).front) s ∙ a.0 ∙ sym c.0 ∙ sym (ap (λ ls. (grouped ls).front) s');
-        value = ap (λ ls. first_value name (grouped ls).groups) s ∙ a.1
-            ∙ ap (λ ls. or_later (value_of name (record { first = first; continuations = ls })) (first_value name (grouped lines).groups)) rest.front
-            ∙ ap (or_later (value_of name (record { first = first; continuations = (grouped others).front }))) rest.value
-            ∙ sym c.1 ∙ sym (ap (λ ls. first_value name (grouped ls).groups) s');
-      })
-      (cases_Bool (is_continuation first))
+      ap facts (grouped_new line lines begins)
+      ∙ ap (λ (v : Option (List ℕ)). ([], v)) (first_cons name (record { first = line; continuations = (grouped lines).front }) (grouped lines).groups)
+      ∙ sym (ap (λ b. cond b (line ∷ (grouped lines).front, first_value name (grouped lines).groups) later) begins))
+      (cases_Bool (is_continuation line))
+    where
+      later : Facts
+      later = ([], or_later (value_of name (record { first = line; continuations = (grouped lines).front })) (first_value name (grouped lines).groups))
+
+  -- the same of the lines before the first empty one
+  abbrev in_section : List (List ℕ) → Facts
+  in_section lines = facts (grouped (take_while is_some_line lines))
+
+  in_section-cons : (line : List ℕ) (lines : List (List ℕ))
+      → in_section (line ∷ lines) ≡ cond (is_some_line line) (next line (in_section lines)) (facts (grouped []))
+  in_section-cons line lines =
+      ap (λ ls. facts (grouped ls)) (take_while-cons is_some_line line lines) ∙ by (is_some_line line)
+    where
+      by : (b : Bool) → facts (grouped (cond b (line ∷ take_while is_some_line lines) []))
+          ≡ cond b (next line (facts (grouped (take_while is_some_line lines)))) (facts (grouped []))
+      by true = facts_cons line (take_while is_some_line lines)
+      by false = refl
+
+  module _ (found other body line line' : List ℕ) (l : NamedLine found body line) (l' : NamedLine other body line')
+      (same : str_eq_ignore_ascii_case found name ≡ str_eq_ignore_ascii_case other name) where
+    abbrev named : Facts → List ℕ → Facts
+    named f line = ([], or_later (value_of name (record { first = line; continuations = f.0 })) f.1)
+
+    same_value : (continuations : List (List ℕ))
+        → value_of name (record { first = line; continuations = continuations }) ≡ value_of name (record { first = line'; continuations = continuations })
+    same_value continuations =
+        let v = Some (trimmed (body ++ concat continuations)) in
+        value_is name (record { first = line; continuations = continuations }) ∙ ap (value_if name continuations) l.field
+        ∙ ap (λ b. cond b v None) same
+        ∙ sym (ap (value_if name continuations) l'.field) ∙ sym (value_is name (record { first = line'; continuations = continuations }))
+
+    begins : (found line : List ℕ) → NamedLine found body line → (behind : List (List ℕ)) → in_section (line ∷ behind) ≡ named (in_section behind) line
+    begins found line l behind =
+        in_section-cons line behind
+        ∙ ap (λ b. cond b (next line (in_section behind)) (facts (grouped []))) (ap is_some_line l.is ∙ has_bytes l.first l.some)
+        ∙ ap (λ b. cond b (line ∷ (in_section behind).0, (in_section behind).1) (named (in_section behind) line)) l.begins
+
+    same_values : (front behind : List (List ℕ)) → in_section (front ++ line ∷ behind) ≡ in_section (front ++ line' ∷ behind)
+    same_values [] behind =
+        begins found line l behind ∙ ap (λ v. ([], or_later v (in_section behind).1)) (same_value (in_section behind).0)
+        ∙ sym (begins other line' l' behind)
+    same_values (first ∷ front) behind =
+        in_section-cons first (front ++ line ∷ behind)
+        ∙ ap (λ f. cond (is_some_line first) (next first f) (facts (grouped []))) (same_values front behind)
+        ∙ sym (in_section-cons first (front ++ line' ∷ behind))
 
 pub renamed : (front name other spacing rest : List ℕ) → IsWholeLines front → 0 < length name → AllPass is_name_byte name
     → str_eq_ignore_ascii_case name other ≡ true → AllPass is_blank spacing
@@ -186,5 +176,5 @@ renamed front name other spacing rest whole some bytes same blank =
     let v = same_values wanted name other body (name ++ (spacing ++ 58 ∷ body)) (other ++ (spacing ++ 58 ∷ body)) l l'
     (ap (λ t. bytes_eq t (str_to_ascii_lowercase wanted)) lower) (lines_of front) behind in
     value_in_section wanted (front ++ text) ∙ ap (λ ls. first_value wanted (grouped ls).groups) s
-    ∙ v.value
+    ∙ ap (λ (f : Facts). f.1) v
     ∙ sym (ap (λ ls. first_value wanted (grouped ls).groups) s') ∙ sym (value_in_section wanted (front ++ text')))

@@ -1,10 +1,12 @@
 -- Where a header section ends, by the bytes that a text begins with.
-use Rattle.std.proofs.Common.{◌≡◌, ◌≢◌, ℕ, suc, ◌<◌, true, List, [], ◌∷◌, length, get_or, refl, sym, ap, ◌∙◌, arith, cond}
+use Rattle.std.proofs.Common.{◌≡◌, ◌≢◌, ℕ, ◌<◌, true, List, [], ◌∷◌, ◌++◌, length, get_or, refl, sym, ap, ◌∙◌, arith, cond}
 use Rattle.std.proofs.lemmas.Bool.Decides.{nat_tests}
-use Rattle.std.specs.Prelude.{nat_lt}
-use Rattle.std.specs.List.{onto_first, take_while}
+use Rattle.std.proofs.lemmas.Bool.{false≢true}
+use Rattle.std.proofs.lemmas.List.Elements.{All-weaker}
+use Rattle.std.specs.List.{AllPass, onto_first, take_while}
 use Rattle.std.proofs.lemmas.List.Sums.{take_while-cons}
-use Rattle.md_head.specs.Header.{is_some_line, lines_of, header_section}
+use Rattle.md_head.specs.Header.{is_some_line, is_continuation, lines_of, header_section}
+use Rattle.md_head.proofs.Alls.{take_passing}
 use Rattle.md_head.proofs.Lines.{step_feed, step_return, step_plain, lines_nil}
 
 pub section_is : (text : List ℕ) → header_section text ≡ take_while is_some_line (lines_of text)
@@ -29,10 +31,24 @@ over_at_return (b ∷ []) h g = absurd (omega arith)
 over_at_return (b ∷ c ∷ text) h g = section_empty (b ∷ c ∷ text) (lines_of text) (step_return b (c ∷ text) h g ∙ step_feed c text g)
 
 -- a first line that isn't empty
+pub has_bytes : (b : ℕ) (line : List ℕ) → is_some_line (b ∷ line) ≡ true
+has_bytes b line = grind (arith, nat_tests)
+
 pub some_first : (b : ℕ) (line : List ℕ) (lines : List (List ℕ)) → take_while is_some_line ((b ∷ line) ∷ lines) ≡ (b ∷ line) ∷ take_while is_some_line lines
-some_first b line lines =
-    let yes : nat_lt 0 (suc (length line)) ≡ true = grind (arith, nat_tests) in
-    take_while-cons is_some_line (b ∷ line) lines ∙ ap (λ t. cond t ((b ∷ line) ∷ take_while is_some_line lines) []) yes
+some_first b line lines = take_while-cons is_some_line (b ∷ line) lines ∙
+    ap (λ t. cond t ((b ∷ line) ∷ take_while is_some_line lines) []) (has_bytes b line)
+
+-- lines that go on have bytes, and are taken whole
+continues_some : (line : List ℕ) → is_continuation line ≡ true → is_some_line line ≡ true
+continues_some [] h = absurd (false≢true h)
+continues_some (b ∷ line) h = has_bytes b line
+
+pub all_have_bytes : (continuations : List (List ℕ)) → AllPass is_continuation continuations → AllPass is_some_line continuations
+all_have_bytes = All-weaker (λ l. is_continuation l ≡ true) (λ l. is_some_line l ≡ true) continues_some
+
+pub section_continues : (lines more : List (List ℕ)) → AllPass is_continuation lines
+    → take_while is_some_line (lines ++ more) ≡ lines ++ take_while is_some_line more
+section_continues lines more h = take_passing is_some_line lines more (all_have_bytes lines h)
 
 onto_goes_on : (b : ℕ) (lines : List (List ℕ)) → take_while is_some_line (onto_first b lines) ≡ [] → ⊥
 onto_goes_on b [] e = let some = sym (some_first b [] []) ∙ e in cc

@@ -1,30 +1,22 @@
 -- One group more of a header section.
 use Rattle.std.proofs.Common.{◌≡◌, ℕ, true, false, List, [], ◌∷◌, ◌++◌, get_or, take, drop, None, refl, sym, ap, ◌∙◌, ⊎_elim, append-nil}
-use Rattle.std.proofs.lemmas.Bool.{cases_Bool, false≢true}
+use Rattle.std.proofs.lemmas.Bool.{cases_Bool}
 use Rattle.std.proofs.lemmas.List.Sums.{take_while-cons}
 use Rattle.std.specs.List.{AllPass, take_while}
 use Rattle.md_head.specs.Header.{is_blank, is_some_line, is_continuation, lines_of, header_section}
 use Rattle.md_head.specs.Computed.{Grouped, grouped, groups_of, field_of, value_if, value_of, or_later, first_value, field_value}
 use Rattle.md_head.specs.Scan.{EndsGroup}
 use Rattle.md_head.proofs.Scans.{first_continues}
-use Rattle.md_head.proofs.Sections.{section_is, some_first}
+use Rattle.md_head.proofs.Sections.{section_is, section_continues, some_first}
 use Rattle.md_head.proofs.Groups.{grouped_nil, grouped_new, grouped_all, grouped_group}
 use Rattle.md_head.proofs.Firsts.{value_is, first_cons}
 use Rattle.md_head.proofs.FieldLines.{no_field}
 use Rattle.md_head.proofs.GroupValues.{value_in, group_value}
-use Rattle.md_head.proofs.Alls.{pass_head, pass_tail, pass_cons}
+use Rattle.md_head.proofs.Alls.{pass_cons}
 
 pub groups_is : (text : List ℕ) → groups_of text ≡ (grouped (header_section text)).groups
 unfolding groups_of
 groups_is text = refl
-
--- a continuation isn't empty
-pub section_continues : (lines more : List (List ℕ)) → AllPass is_continuation lines
-    → take_while is_some_line (lines ++ more) ≡ lines ++ take_while is_some_line more
-section_continues [] more h = refl
-section_continues ([] ∷ lines) more h = absurd (false≢true (pass_head is_continuation [] lines h))
-section_continues ((b ∷ line) ∷ lines) more h =
-    some_first b line (lines ++ more) ∙ ap (λ ls. (b ∷ line) ∷ ls) (section_continues lines more (pass_tail is_continuation (b ∷ line) lines h))
 
 -- the section of a text that begins with some lines, of which the first isn't empty
 section_group : (text rest first : List ℕ) (continuations : List (List ℕ)) → lines_of text ≡ (first ∷ continuations) ++ lines_of rest

@@ -27,13 +27,7 @@ pub made_of : (text : List ℕ) (subject from message_id date : Option (List ℕ
     → date ≡ field_value (codes "date") text → seconds ≡ seconds_of (field_value (codes "date") text)
     → shown subject from message_id date seconds ≡ summary_of text
 made_of text subject from message_id date seconds a b c d e =
-    ap (λ v. shown v from message_id date seconds) a
-    ∙ ap (λ v. shown (field_value (codes "subject") text) v message_id date seconds) b
-    ∙ ap (λ v. shown (field_value (codes "subject") text) (field_value (codes "from") text) v date seconds) c
-    ∙ ap (λ v. shown (field_value (codes "subject") text) (field_value (codes "from") text) (field_value (codes "message-id") text) v seconds) d
-    ∙ ap (shown (field_value (codes "subject") text) (field_value (codes "from") text) (field_value (codes "message-id") text)
-    (field_value (codes "date") text)) e
-    ∙ sym (summary_is text)
+    (λ i. shown (a i) (b i) (c i) (d i) (e i)) ∙ sym (summary_is text)
 
 first_of_text : (text name : List ℕ) → IsFirstValue (grouped (header_section text)).groups name (field_value name text)
 first_of_text text name = subst (λ gs. IsFirstValue gs name (field_value name text)) (groups_is text) (first_is (groups_of text) name)

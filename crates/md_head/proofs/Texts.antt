@@ -2,18 +2,8 @@
 use Rattle.std.proofs.Common.{◌≡◌, ℕ, suc, ◌-◌, ◌<◌, List, [], ◌∷◌, ◌++◌, length, get_or, refl, sym, ap, ◌∙◌, arith, length-append}
 use Rattle.std.specs.List.{onto_first}
 use Rattle.md_head.specs.Header.{lines_of, IsWholeLines}
-use Rattle.md_head.proofs.Lines.{lines_nil, step, step_feed, step_return, step_plain}
+use Rattle.md_head.proofs.Lines.{SomeLine, onto_some, lines_nil, step, step_feed, step_return, step_plain}
 use Rattle.md_head.proofs.Lines.Step.{Feed, Return, Plain}
-
--- some bytes have some line
-pub record SomeLine (lines : List (List ℕ)) : Type 0 where
-  pub first : List ℕ
-  pub others : List (List ℕ)
-  pub is : lines ≡ first ∷ others
-
-onto_some : (b : ℕ) (lines : List (List ℕ)) → SomeLine (onto_first b lines)
-onto_some b [] = record { first = b ∷ []; others = []; is = refl }
-onto_some b (l ∷ ls) = record { first = b ∷ l; others = ls; is = refl }
 
 pub some_line : (bytes : List ℕ) → 0 < length bytes → SomeLine (lines_of bytes)
 some_line [] h = absurd (omega arith)

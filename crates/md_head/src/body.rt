@@ -29,7 +29,7 @@ fn trim_end(text: &[u8]) -> &[u8]
     text.trim_end_with(|c| c == ' ' || c == '\t')
 }
 
-/// The lines of a text joined without their line ends, from the first byte on that is no white space.
+// The lines of a text joined without their line ends, from the first byte on that is no white space.
 fn joined(alloc: Global, text: &[u8]) -> Result<Vec<u8>, AllocError>
     ensures { IfOk result (λ bytes. bytes.items ≡ trimmed_front (concat (lines_of text.now))) }
 {

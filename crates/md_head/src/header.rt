@@ -57,7 +57,7 @@ pub fn header_fields(message: &[u8]) -> HeaderFields<'_>
     fields
 }
 
-/// Whether a text begins as none of the four names does. Most fields are passed over by this one byte.
+// Whether a text begins as none of the four names does. Most fields are passed over by this one byte.
 fn begins_other(text: &[u8]) -> bool
     ensures { result ≡ not (is_initial (slice_index text.now 0)) }
 {
@@ -67,7 +67,7 @@ fn begins_other(text: &[u8]) -> bool
     }
 }
 
-/// Whether a byte is the first letter of one of the four names.
+// Whether a byte is the first letter of one of the four names.
 fn is_initial(byte: u8) -> bool
     ensures { result ≡ is_initial byte }
 {
@@ -75,7 +75,7 @@ fn is_initial(byte: u8) -> bool
 }
 
 impl<'a> HeaderFields<'a> {
-    /// Whether each of the four was found.
+    // Whether each of the four was found.
     fn is_complete(&self) -> bool
         ensures { result ≡ (is_some self.now.subject && is_some self.now.from && is_some self.now.message_id && is_some self.now.date) }
     {
@@ -85,7 +85,7 @@ impl<'a> HeaderFields<'a> {
             && self.date.is_some()
     }
 
-    /// Keeps the body of a field under its name, where that is one of the four and has no body yet.
+    // Keeps the body of a field under its name, where that is one of the four and has no body yet.
     fn keep_first(&mut self, name: &[u8], body: FieldBody<'a>)
         ensures subject { self.new.subject ≡ or_this self.old.subject (str_eq_ignore_ascii_case name.now (codes "subject")) body.entry }
         ensures from { self.new.from ≡ or_this self.old.from (str_eq_ignore_ascii_case name.now (codes "from")) body.entry }
@@ -99,7 +99,7 @@ impl<'a> HeaderFields<'a> {
     }
 }
 
-/// Keeps the body where there is none yet and its field has the name that is looked for.
+// Keeps the body where there is none yet and its field has the name that is looked for.
 fn keep_if<'a>(place: &mut Option<FieldBody<'a>>, wanted: &[u8], name: &[u8], body: FieldBody<'a>)
     ensures { place.new ≡ or_this place.old (str_eq_ignore_ascii_case name.now wanted.now) body.entry }
 {

@@ -21,7 +21,7 @@ pub(crate) fn is_blank(byte: u8) -> bool
     byte == SPACE || byte == TAB
 }
 
-/// Whether a text begins with white space, as a continuation does.
+// Whether a text begins with white space, as a continuation does.
 fn begins_blank(text: &[u8]) -> bool
     ensures { result ≡ is_blank (slice_index text.now 0) }
 {
@@ -72,7 +72,7 @@ pub fn cut_line(text: &[u8]) -> Option<(&[u8], &[u8])>
     }
 }
 
-/// The bytes in front of a line feed without the carriage return that belongs to the line's end.
+// The bytes in front of a line feed without the carriage return that belongs to the line's end.
 fn without_return(line: &[u8]) -> &[u8]
     ensures { result.now ≡ strip_carriage_return line.now }
 {

@@ -31,7 +31,7 @@ pub(crate) fn gathered<G: Gate>(
     Ok(all)
 }
 
-/// The entry of this number, if it is the next that some worker brought.
+// The entry of this number, if it is the next that some worker brought.
 fn taken(given: &mut [WorkerEntries<'_>], item: usize) -> Option<Indexed>
     ensures same { given.new ≡ given.old }
     ensures entry { (messages : List Message) → All (λ whose. whose ≡ messages) given.old → IfSome result (λ made. IsBrought messages (item, made)) }

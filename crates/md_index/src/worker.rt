@@ -12,7 +12,7 @@ use std::sync::Wait;
 use std::thread;
 use std::thread::Threads;
 
-/// The entry of a number that was stolen. None when out of memory, or at a number past the messages, which the owner never pushes.
+// The entry of a number that was stolen. None when out of memory, or at a number past the messages, which the owner never pushes.
 fn brought<G: Gate>(
     alloc: Global,
     messages: &[Message<'_>],
@@ -26,7 +26,7 @@ fn brought<G: Gate>(
     Some((item, made))
 }
 
-/// Steals until nothing is found, or a growth of memory is refused. It begins with room for `share` entries, so that it seldom grows.
+// Steals until nothing is found, or a growth of memory is refused. It begins with room for `share` entries, so that it seldom grows.
 fn work<G: Gate, R: Wait>(
     rt: &R,
     alloc: Global,

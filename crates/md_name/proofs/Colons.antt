@@ -1,9 +1,10 @@
 -- The first colon of a name, and the parts on both sides of it.
 use Rattle.std.proofs.Common.{◌≡◌, ℕ, ◌+◌, Option, cond, List, length, take, drop, None, Some, sym, ap, ◌∙◌, ◌<◌, arith, length-take-le}
 use Rattle.std.specs.Prelude.{position}
+use Rattle.std.proofs.lemmas.Bool.{false_from_ne_true}
 use Rattle.std.proofs.lemmas.List.Sums.{position_or_len_is}
 use Rattle.std.specs.List.{after_first, position_or_len}
-use Rattle.md_name.proofs.Firsts.{refuted, placed, unplaced, place_within, found, not_found}
+use Rattle.md_name.proofs.Firsts.{placed, unplaced, place_within, found, not_found}
 use Rattle.memchr.specs.Find.{IsFirstByte}
 use Rattle.md_name.specs.declared.info.Info.TheVariants.{Bare}
 use Rattle.md_name.specs.Names.{is_colon, unique_of, info_text, info_of, info_by}
@@ -11,9 +12,9 @@ use Rattle.md_name.specs.Names.{is_colon, unique_of, info_text, info_of, info_by
 -- the place that a search gives
 pub colon_place : (name : List ℕ) (r : Option ℕ) → IsFirstByte is_colon name r → r ≡ position is_colon name
 colon_place name None none = sym (unplaced is_colon name
-    (position_or_len_is is_colon name (length name) 0 (omega arith) (λ k h. refuted _ (none k (omega arith) h)) (λ h. absurd (omega arith))))
+    (position_or_len_is is_colon name (length name) 0 (omega arith) (λ k h. false_from_ne_true _ (none k (omega arith) h)) (λ h. absurd (omega arith))))
 colon_place name (Some at) found = sym (placed is_colon name at found.0.high
-    (position_or_len_is is_colon name at 0 (omega (arith, found.0.high)) (λ k h. refuted _ (found.0.before k (omega arith) h)) (λ h. found.1)))
+    (position_or_len_is is_colon name at 0 (omega (arith, found.0.high)) (λ k h. false_from_ne_true _ (found.0.before k (omega arith) h)) (λ h. found.1)))
 
 -- ---- a name with a colon at a place
 

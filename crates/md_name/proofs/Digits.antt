@@ -1,10 +1,11 @@
 -- The bytes of a made unique name: four numbers and a host, with other bytes between.
-use Rattle.std.proofs.Common.{◌≡◌, ℕ, ◌^◌, ◌<◌, Bool, true, false, ◌||◌, ◌&&◌, List, [], ◌∷◌, ◌++◌, length, refl, ap, ◌∙◌, arith}
+use Rattle.std.proofs.Common.{◌≡◌, ℕ, ◌^◌, ◌<◌, Bool, true, false, ◌&&◌, List, [], ◌∷◌, ◌++◌, length, refl, ap, arith}
 use Rattle.std.specs.Char.{is_ascii_digit}
 use Rattle.std.specs.Str.{all_ascii_digits}
 use Rattle.std.specs.Str.Parse.{digits_value}
 use Rattle.std.specs.List.{list_any}
 use Rattle.std.specs.Fmt.{decimal}
+use Rattle.std.proofs.lemmas.Bool.{and_parts, or_from}
 use Rattle.std.proofs.lemmas.Bool.Decides.{nat_tests}
 use Rattle.std.proofs.lemmas.Str.Parse.{IsNumeralModel, numerals_by_value, tells_all_ascii_digits}
 use Rattle.std.proofs.lemmas.Fmt.{digits_decimal}
@@ -20,12 +21,10 @@ pub digits-decimal : (n : ℕ) → n < 2 ^ 64 → all_ascii_digits (decimal n) �
 digits-decimal n h = digits_decimal own n h
 
 pub and_first : (a b : Bool) → (a && b) ≡ true → a ≡ true
-and_first true b h = refl
-and_first false b h = h
+and_first a b h = (and_parts a b h).0
 
 pub and_second : (a b : Bool) → (a && b) ≡ true → b ≡ true
-and_second true b h = h
-and_second false b h = cc
+and_second a b h = (and_parts a b h).1
 
 -- ---- which bytes there are
 
@@ -33,8 +32,7 @@ and_second false b h = cc
 pub none_of_digits : (p : ℕ → Bool) → ((c : ℕ) → is_ascii_digit c ≡ true → p c ≡ false) → (ds : List ℕ) → all_ascii_digits ds ≡ true → list_any p ds ≡ false
 none_of_digits p none [] h = refl
 none_of_digits p none (d ∷ ds) h =
-    ap (λ b. b || list_any p ds) (none d (and_first (is_ascii_digit d) (all_ascii_digits ds) h))
-    ∙ none_of_digits p none ds (and_second (is_ascii_digit d) (all_ascii_digits ds) h)
+    let parts = and_parts (is_ascii_digit d) (all_ascii_digits ds) h in or_from _ _ (none d parts.0) (none_of_digits p none ds parts.1)
 
 -- a text that begins with a number doesn't begin with a dot
 pub no_dot_first : (ds rest : List ℕ) → all_ascii_digits ds ≡ true → 0 < length ds → begins_with_dot (ds ++ rest) ≡ false

@@ -1,5 +1,5 @@
 -- Whether an element meets one of some tests.
-use Rattle.std.proofs.Common.{◌≡◌, ℕ, List, [], ◌∷◌, Bool, true, false, not, ◌||◌, ◌&&◌, length, refl, ap, sym, ◌∙◌}
+use Rattle.std.proofs.Common.{◌≡◌, ℕ, List, [], ◌∷◌, Bool, true, false, not, ◌||◌, ◌&&◌, length, refl, ap, sym, ◌∙◌, arith}
 use Rattle.std.specs.Prelude.{nat_lt, nat_le}
 use Rattle.std.specs.List.{list_any}
 use Rattle.md_name.specs.Names.{is_barred, is_colon, is_slash, is_terminator, begins_with_dot, is_maildir_unique, is_unique_name}
@@ -22,17 +22,7 @@ any-barred name =
 -- each test in turn, or those of the bytes at once
 at_once : (first short end slash colon : Bool)
     → (((first && not colon) && not slash) && short && not end) ≡ (first && short && not ((end || slash) || colon))
-at_once false short end slash colon = refl
-at_once true false end slash true = refl
-at_once true false end true false = refl
-at_once true false end false false = refl
-at_once true true true slash true = refl
-at_once true true true true false = refl
-at_once true true true false false = refl
-at_once true true false true true = refl
-at_once true true false true false = refl
-at_once true true false false true = refl
-at_once true true false false false = refl
+at_once first short end slash colon = grind arith
 
 pub unique_by_barred : (name : List ℕ) → is_unique_name name
     ≡ (nat_lt 0 (length name) && not (begins_with_dot name) && nat_le (length name) 200 && not (list_any is_barred name))

@@ -3,11 +3,8 @@ use Rattle.std.proofs.Common.{◌≡◌, ℕ, ◌+◌, ◌≤◌, ◌<◌, Bool,
 use Rattle.std.specs.Prelude.{nat_lt, position}
 use Rattle.std.proofs.lemmas.Bool.Decides.{nat_tests}
 use Rattle.std.proofs.lemmas.List.{take_all}
+use Rattle.std.proofs.lemmas.List.Sums.{prefix_len-le-length}
 use Rattle.std.specs.List.{list_any, before_first, position_or_len}
-
-pub refuted : (b : Bool) → ¬ (b ≡ true) → b ≡ false
-refuted true h = absurd (h refl)
-refuted false h = refl
 
 -- some byte passes just where the first that does stands within the list
 pub any_by_place : (p : ℕ → Bool) (xs : List ℕ) → list_any p xs ≡ nat_lt (position_or_len p xs) (length xs)
@@ -20,10 +17,7 @@ any_by_place p (x ∷ xs) =
     ]
 
 pub place_within : (p : ℕ → Bool) (xs : List ℕ) → position_or_len p xs ≤ length xs
-place_within p [] = omega arith
-place_within p (x ∷ xs) =
-    let rest = place_within p xs in
-    elim (p x) as (λ b. cond (not b) (1 + position_or_len p xs) 0 ≤ length (x ∷ xs)) [ true ↦ omega arith | false ↦ omega arith ]
+place_within p = prefix_len-le-length (λ x. not (p x))
 
 -- what a search gives, from the place of the first
 pub placed : (p : ℕ → Bool) (xs : List ℕ) (at : ℕ) → at < length xs → position_or_len p xs ≡ at → position p xs ≡ Some at

@@ -1,19 +1,23 @@
 -- The parts of a name that was made of a unique name and flags, and the one spelling of a set.
-use Rattle.std.proofs.Common.{◌≡◌, ◌≢◌, ◌⊎◌, inl, inr, ℕ, zero, suc, ◌+◌, Bool, true, false, not, cond, ◌||◌, ◌&&◌, List, [], ◌∷◌, ◌++◌, length, take, drop, None, Some, refl, sym, ap, subst, ◌∙◌, ◌≤◌, arith, append_assoc, length-append}
+use Rattle.std.proofs.Common.{◌≡◌, ℕ, zero, suc, ◌+◌, Bool, true, false, not, cond, ◌||◌, ◌&&◌, List, [], ◌∷◌, ◌++◌, length, take, drop, None, Some, refl, sym, ap, ◌∙◌, ◌≤◌, arith, append_assoc, length-append}
 use Rattle.std.specs.Prelude.{nat_lt, nat_eq, codes, filter}
-use Rattle.std.specs.List.{list_any, list_all, position_or_len, before_first, after_first}
+use Rattle.std.specs.List.{All, list_any, list_all, position_or_len, before_first, after_first}
 use Rattle.std.specs.Cmp.{nat_cmp_total}
 use Rattle.std.specs.FinSet as set
-use Rattle.std.proofs.lemmas.Bool.{or_parts, or_from}
-use Rattle.std.proofs.lemmas.Bool.Decides.{nat_tests, eqb_tells}
+use Rattle.std.proofs.lemmas.Bool.{not-true, eqb-true, and_parts, or_parts, or_from}
+use Rattle.std.proofs.lemmas.Bool.Decides.{nat_tests}
 use Rattle.std.proofs.lemmas.List.{take_all, take_at, drop_at, drop-drop}
-use Rattle.std.proofs.lemmas.List.Folds.{list_any-append}
+use Rattle.std.proofs.lemmas.Grind.{common_steps}
+use Rattle.std.proofs.lemmas.List.Folds.{list_any-append, list_any_none}
+use Rattle.std.proofs.lemmas.List.Sums.{length-filter, count_by-le-length, fails_before_first}
+use Rattle.std.proofs.lemmas.Map.Views.{any-filter_same}
+use Rattle.std.proofs.Math.Bool.{or-false}
 use Rattle.md_name.specs.declared.info.Info.TheVariants.{Bare, Two, Opaque}
 use Rattle.md_name.specs.Letters.{is_letter, letters, Set, IsOfLetters, spelling}
 use Rattle.md_name.specs.WordSets.{list_any-letters}
 use Rattle.md_name.specs.Names.{is_colon, is_terminator, is_slash, begins_with_dot, unique_of, info_text, info_by, info_of, is_message_name, split_of, flagged, is_maildir_unique}
 use Rattle.md_name.proofs.Digits.{and_first, and_second}
-use Rattle.md_name.proofs.Made.{not_true}
+use Rattle.md_name.proofs.Firsts.{any_by_place}
 
 -- ---- the spelling of a set
 
@@ -34,26 +38,8 @@ pub list_all-spelling : (s : Set) → list_all is_letter (spelling s) ≡ true
 unfolding spelling
 list_all-spelling s = all_of_filter is_letter (λ c. set.contains s c) letters all_letters
 
--- one element more, which is c or isn't
-one_more : (q : ℕ → Bool) (x c : ℕ) (before kept : Bool) → ((nat_eq x c ≡ true) × (x ≡ c)) ⊎ ((nat_eq x c ≡ false) × (x ≢ c)) → kept ≡ (q c && before)
-    → cond (q x) (nat_eq x c || kept) kept ≡ (q c && (nat_eq x c || before))
-one_more q x c before kept (inl h) rest =
-    let is : q x ≡ q c = ap q h.1 in
-    let eq : nat_eq x c ≡ true = h.0 in
-    grind (arith, nat_tests)
-one_more q x c before kept (inr h) rest =
-    let ne : nat_eq x c ≡ false = h.0 in
-    grind (arith, nat_tests)
-
 any_of_filter : (q : ℕ → Bool) (c : ℕ) (xs : List ℕ) → list_any (λ y. nat_eq y c) (filter q xs) ≡ (q c && list_any (λ y. nat_eq y c) xs)
-any_of_filter q c [] = elim (q c) as (λ b. false ≡ (b && false)) [ true ↦ refl | false ↦ refl ]
-any_of_filter q c (x ∷ xs) =
-    let step = one_more q x c (list_any (λ y. nat_eq y c) xs) (list_any (λ y. nat_eq y c) (filter q xs)) (eqb_tells x c) (any_of_filter q c xs) in
-    let out : list_any (λ y. nat_eq y c) (cond (q x) (x ∷ filter q xs) (filter q xs)) ≡ cond (q x)
-    (nat_eq x c || list_any (λ y. nat_eq y c) (filter q xs)) (list_any (λ y. nat_eq y c) (filter q xs)) =
-    elim (q x) as (λ b. list_any (λ y. nat_eq y c) (cond b (x ∷ filter q xs) (filter q xs)) ≡ cond b
-    (nat_eq x c || list_any (λ y. nat_eq y c) (filter q xs)) (list_any (λ y. nat_eq y c) (filter q xs))) [ true ↦ refl | false ↦ refl ] in
-    out ∙ step
+any_of_filter q c = any-filter_same (λ y. nat_eq y c) q (q c) (λ k is. ap q (eqb-true k c is))
 
 kept : (a b : Bool) → (a ≡ true → b ≡ true) → (a && b) ≡ a
 kept true b h = h refl
@@ -134,20 +120,13 @@ unfolding is_maildir_unique
 IsUniquePart-maildir u h =
     let clean = and_first _ _ h in
     let shown = and_first _ _ clean in
-    record { some = and_first _ _ shown; dotless = not_true _ (and_second _ _ shown); colonless = not_true _ (and_second _ _ clean) }
-
-one_of : (n : ℕ) → 1 + n ≡ suc n
-one_of n = omega arith
+    record { some = and_first _ _ shown; dotless = not-true _ (and_second _ _ shown); colonless = not-true _ (and_second _ _ clean) }
 
 colonless_before : (name : List ℕ) → list_any is_colon (before_first is_colon name) ≡ false
-colonless_before [] = refl
-colonless_before (b ∷ name) =
-    elim (is_colon b) as (λ t. is_colon b ≡ t → list_any is_colon (take (cond (not t) (1 + position_or_len is_colon name) 0) (b ∷ name)) ≡ false) [
-      | true ↦ λ is. refl
-      | false ↦ λ is.
-          ap (λ n. list_any is_colon (take n (b ∷ name))) (one_of (position_or_len is_colon name))
-          ∙ ap (λ t. t || list_any is_colon (before_first is_colon name)) is ∙ colonless_before name
-    ] refl
+colonless_before name =
+    let front : All (λ b. is_colon b ≡ false) (before_first is_colon name) = λ k d within.
+    let before = fails_before_first is_colon name k d (grind (arith, common_steps)) in grind (arith, common_steps) in
+    list_any_none is_colon (before_first is_colon name) front
 
 -- a unique part has no colon
 pub colonless-unique_of : (name : List ℕ) → list_any is_colon (unique_of name) ≡ false
@@ -164,7 +143,7 @@ pub IsUniquePart-unique_of : (name : List ℕ) → is_message_name name ≡ true
 unfolding is_message_name unique_of
 IsUniquePart-unique_of name h = record {
   some = and_second _ _ h;
-  dotless = dotless_front _ name (not_true _ (and_first _ _ h));
+  dotless = dotless_front _ name (not-true _ (and_first _ _ h));
   colonless = colonless_before name;
 }
 
@@ -183,14 +162,7 @@ split_of-flagged u s h of_letters =
 
 unique_of-bare : (u : List ℕ) → list_any is_colon u ≡ false → unique_of u ≡ u
 unfolding unique_of
-unique_of-bare u h = take_all (position_or_len is_colon u) u (past u h)
-  where
-    past : (u : List ℕ) → list_any is_colon u ≡ false → length u ≤ position_or_len is_colon u
-    past [] h = omega arith
-    past (b ∷ u) h =
-        let parts = or_parts (is_colon b) (list_any is_colon u) h in
-        let rest : length u ≤ position_or_len is_colon u = past u parts.1 in
-        subst (λ t. length (b ∷ u) ≤ cond (not t) (1 + position_or_len is_colon u) 0) (sym parts.0) (omega arith)
+unique_of-bare u h = take_all (position_or_len is_colon u) u (let place = any_by_place is_colon u in grind (arith, nat_tests))
 
 info_of-bare : (u : List ℕ) → list_any is_colon u ≡ false → info_of u ≡ Bare
 unfolding info_text info_by
@@ -205,19 +177,15 @@ split_of-bare u h =
 
 -- ---- how long a name is
 
-length-filter-le : (p : ℕ → Bool) (xs : List ℕ) → length (filter p xs) ≤ length xs
-length-filter-le p [] = omega arith
-length-filter-le p (x ∷ xs) =
-    let rest = length-filter-le p xs in
-    elim (p x) as (λ b. length (cond b (x ∷ filter p xs) (filter p xs)) ≤ length (x ∷ xs)) [ true ↦ omega arith | false ↦ omega arith ]
-
 length-letters : length letters ≡ 52
 unfolding letters
 length-letters = refl
 
 pub length-spelling-le : (s : Set) → length (spelling s) ≤ 52
 unfolding spelling
-length-spelling-le s = omega (arith, length-filter-le (λ c. set.contains s c) letters, length-letters)
+length-spelling-le s =
+    let among : ℕ → Bool = λ c. set.contains s c in
+    omega (arith, length-filter among letters, count_by-le-length among letters, length-letters)
 
 pub length-flagged-le : (u : List ℕ) (s : Set) → length (flagged u s) ≤ length u + 55
 length-flagged-le u s =
@@ -225,15 +193,10 @@ length-flagged-le u s =
 
 -- ---- which bytes a name has
 
-none_of_letters : (p : ℕ → Bool) → ((c : ℕ) → is_letter c ≡ true → p c ≡ false) → (xs : List ℕ) → list_all is_letter xs ≡ true → list_any p xs ≡ false
+pub none_of_letters : (p : ℕ → Bool) → ((c : ℕ) → is_letter c ≡ true → p c ≡ false) → (xs : List ℕ) → list_all is_letter xs ≡ true → list_any p xs ≡ false
 none_of_letters p none [] h = refl
 none_of_letters p none (x ∷ xs) h =
-    ap (λ b. b || list_any p xs) (none x (and_first (is_letter x) (list_all is_letter xs) h))
-    ∙ none_of_letters p none xs (and_second (is_letter x) (list_all is_letter xs) h)
-
-or-false : (b : Bool) → (b || false) ≡ b
-or-false true = refl
-or-false false = refl
+    let parts = and_parts (is_letter x) (list_all is_letter xs) h in or_from _ _ (none x parts.0) (none_of_letters p none xs parts.1)
 
 -- a byte that flags never bring is in the name just where it's in the unique name
 pub list_any-flagged : (p : ℕ → Bool) → ((c : ℕ) → is_letter c ≡ true → p c ≡ false) → (p 58 || (p 50 || p 44)) ≡ false

@@ -1,5 +1,5 @@
 -- A host, escaped.
-use Rattle.std.proofs.Common.{◌≡◌, ℕ, ◌+◌, ◌<◌, ◌≤◌, true, false, cond, ◌||◌, List, [], ◌∷◌, ◌++◌, length, take, get_or, refl, sym, ap, ◌∙◌, arith, length-append}
+use Rattle.std.proofs.Common.{◌≡◌, ℕ, ◌+◌, ◌<◌, ◌≤◌, cond, ◌||◌, List, [], ◌∷◌, ◌++◌, length, take, get_or, refl, sym, ap, ◌∙◌, arith, length-append}
 use Rattle.std.proofs.lemmas.Bool.Decides.{nat_tests}
 use Rattle.std.proofs.lemmas.List.{take_more, append-nil, append_assoc}
 use Rattle.std.proofs.lemmas.List.Concat.{flat_map-append}
@@ -13,11 +13,7 @@ escaped_more host i h =
     ∙ ap (λ t. escaped (take i host) ++ t) (append-nil (escape (get_or host i 0)))
 
 pub length-escape : (b : ℕ) → length (escape b) ≡ cond (is_slash b || is_colon b) 4 1
-length-escape b = elim (is_slash b) as
-    (λ s. length (cond s (92 ∷ 48 ∷ 53 ∷ 55 ∷ []) (cond (is_colon b) (92 ∷ 48 ∷ 55 ∷ 50 ∷ []) (b ∷ []))) ≡ cond (s || is_colon b) 4 1) [
-      | true ↦ refl
-      | false ↦ elim (is_colon b) as (λ c. length (cond c (92 ∷ 48 ∷ 55 ∷ 50 ∷ []) (b ∷ [])) ≡ cond c 4 1) [ true ↦ refl | false ↦ refl ]
-    ]
+length-escape b = grind (arith, nat_tests)
 
 pub length-escape-le : (b : ℕ) → 1 ≤ length (escape b)
 length-escape-le b = let e = length-escape b in grind (arith, nat_tests)

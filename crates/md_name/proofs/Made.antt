@@ -1,11 +1,11 @@
 -- Made unique names: they are short, may be delivered under, and tell their parts.
-use Rattle.std.proofs.Common.{◌≡◌, ◌≢◌, ℕ, ◌^◌, ◌<◌, ◌≤◌, Bool, true, false, not, cond, ◌||◌, ◌&&◌, ◌⊎◌, inl, inr, ⊎_elim, List, [], ◌∷◌, ◌++◌, length, refl, sym, ap, ◌∙◌, arith, append_assoc, length-append}
-use Rattle.std.specs.Prelude.{nat_lt, nat_le}
+use Rattle.std.proofs.Common.{◌≡◌, ℕ, ◌^◌, ◌<◌, ◌≤◌, Bool, true, false, not, cond, ◌||◌, ◌&&◌, Option, None, Some, List, [], ◌∷◌, ◌++◌, length, get_or, drop, refl, sym, ap, ◌∙◌, arith, append_assoc, length-append}
+use Rattle.std.specs.Prelude.{◌==◌, nat_lt, nat_le, codes}
 use Rattle.std.specs.Char.{is_ascii_digit}
 use Rattle.std.specs.List.{list_any}
 use Rattle.std.specs.Fmt.{decimal}
-use Rattle.std.proofs.lemmas.Bool.{or_parts, or_from}
-use Rattle.std.proofs.lemmas.Bool.Decides.{nat_tests, eqb_tells}
+use Rattle.std.proofs.lemmas.Bool.{not-true, eqb-true, or_parts, or_from}
+use Rattle.std.proofs.lemmas.Bool.Decides.{nat_tests}
 use Rattle.std.proofs.lemmas.Fmt.{decimal_injective, decimal_nonempty, length-decimal-le}
 use Rattle.std.proofs.lemmas.List.Folds.{list_any-append}
 use Rattle.md_name.specs.Names.{is_colon, is_slash, is_terminator, begins_with_dot, is_maildir_unique, is_unique_name}
@@ -62,25 +62,16 @@ no_slash_escaped b = grind (arith, nat_tests)
 terminator_escaped : (b : ℕ) → list_any is_terminator (escape b) ≡ is_terminator b
 terminator_escaped b = grind (arith, nat_tests)
 
-no_colon : (host : List ℕ) → list_any is_colon (escaped host) ≡ false
+none_escaped : (p : ℕ → Bool) → ((b : ℕ) → list_any p (escape b) ≡ false) → (host : List ℕ) → list_any p (escaped host) ≡ false
 unfolding escaped
-no_colon [] = refl
-no_colon (b ∷ host) = list_any-append is_colon (escape b) (escaped host) ∙ or_from _ _ (no_colon_escaped b) (no_colon host)
-
-no_slash : (host : List ℕ) → list_any is_slash (escaped host) ≡ false
-unfolding escaped
-no_slash [] = refl
-no_slash (b ∷ host) = list_any-append is_slash (escape b) (escaped host) ∙ or_from _ _ (no_slash_escaped b) (no_slash host)
+none_escaped p none [] = refl
+none_escaped p none (b ∷ host) = list_any-append p (escape b) (escaped host) ∙ or_from _ _ (none b) (none_escaped p none host)
 
 terminators : (host : List ℕ) → list_any is_terminator (escaped host) ≡ list_any is_terminator host
 unfolding escaped
 terminators [] = refl
 terminators (b ∷ host) =
     list_any-append is_terminator (escape b) (escaped host) ∙ (λ i. terminator_escaped b i || terminators host i)
-
-pub not_true : (b : Bool) → not b ≡ true → b ≡ false
-not_true true h = sym h
-not_true false h = refl
 
 all_hold : (a b c d e f : Bool) → a ≡ true → b ≡ false → c ≡ false → d ≡ false → e ≡ true → f ≡ false
     → (((((a && not b) && not c) && not d) && e) && not f) ≡ true
@@ -95,14 +86,14 @@ is_unique_name-made_unique sec micro pid count host s m p c h =
     let short : length name ≤ 171 = length-made_unique-le sec micro pid count host s m p c h in
     let first : 0 < length (decimal sec) = decimal_nonempty sec s in
     let some : 0 < length name = rw grouped (omega (arith, length-append {A = ℕ})) in
-    let clean : list_any is_terminator host ≡ false = not_true (list_any is_terminator host)
+    let clean : list_any is_terminator host ≡ false = not-true (list_any is_terminator host)
     (and_second (nat_lt 0 (length host) && nat_le (length (escaped host)) 100) (not (list_any is_terminator host)) h) in
     all_hold (nat_lt 0 (length name)) (begins_with_dot name) (list_any is_colon name) (list_any is_slash name) (nat_le (length name) 200)
     (list_any is_terminator name)
     (grind (arith, nat_tests))
     (ap begins_with_dot (grouped sec micro pid count host) ∙ no_dot_first (decimal sec) _ (digits-decimal sec s) first)
-    (any_made is_colon (λ d is. grind (arith, nat_tests)) refl sec micro pid count host s wide p c (no_colon host))
-    (any_made is_slash (λ d is. grind (arith, nat_tests)) refl sec micro pid count host s wide p c (no_slash host))
+    (any_made is_colon (λ d is. grind (arith, nat_tests)) refl sec micro pid count host s wide p c (none_escaped is_colon no_colon_escaped host))
+    (any_made is_slash (λ d is. grind (arith, nat_tests)) refl sec micro pid count host s wide p c (none_escaped is_slash no_slash_escaped host))
     (grind (arith, nat_tests))
     (any_made is_terminator (λ d is. grind (arith, nat_tests)) refl sec micro pid count host s wide p c (terminators host ∙ clean))
 
@@ -136,77 +127,33 @@ made_unique_tells sec micro pid count host sec' micro' pid' count' host' s m p c
 
 -- ---- two escaped hosts
 
--- a byte is written as itself, or it's one of the two that aren't
-abbrev Written : ℕ → Type 0
-Written b = ((b ≡ 47) × (escape b ≡ 92 ∷ 48 ∷ 53 ∷ 55 ∷ [])) ⊎ (((b ≡ 58) × (escape b ≡ 92 ∷ 48 ∷ 55 ∷ 50 ∷ [])) ⊎ (escape b ≡ b ∷ []))
+-- the first byte of a text that was escaped, and the text behind it
+first_of : List ℕ → Option (ℕ × List ℕ)
+first_of [] = None
+first_of (b ∷ text) = cond (is_backslash b) (Some (cond (get_or text 1 0 == 53) 47 58, drop 3 text)) (Some (b, text))
 
-written : (b : ℕ) → Written b
-written b =
-    ⊎_elim
-    (λ h. inl (h.1, ap (λ t. cond t (92 ∷ 48 ∷ 53 ∷ 55 ∷ []) (cond (is_colon b) (92 ∷ 48 ∷ 55 ∷ 50 ∷ []) (b ∷ []))) h.0))
-    (λ h. inr (⊎_elim
-    (λ k. inl (
-      k.1,
-      ap (λ t. cond t (92 ∷ 48 ∷ 53 ∷ 55 ∷ []) (cond (is_colon b) (92 ∷ 48 ∷ 55 ∷ 50 ∷ []) (b ∷ []))) h.0 ∙
-          ap (λ t. cond t (92 ∷ 48 ∷ 55 ∷ 50 ∷ []) (b ∷ [])) k.0,
-    ))
-    (λ k. inr (ap (λ t. cond t (92 ∷ 48 ∷ 53 ∷ 55 ∷ []) (cond (is_colon b) (92 ∷ 48 ∷ 55 ∷ 50 ∷ []) (b ∷ []))) h.0 ∙
-    ap (λ t. cond t (92 ∷ 48 ∷ 55 ∷ 50 ∷ []) (b ∷ [])) k.0))
-    (eqb_tells b 58)))
-    (eqb_tells b 47)
+first_by : (slash colon : Bool) (b : ℕ) (text : List ℕ) → (slash ≡ true → b ≡ 47) → (colon ≡ true → b ≡ 58) → is_backslash b ≡ false
+    → first_of (cond slash (92 ∷ codes "057") (cond colon (92 ∷ codes "072") (b ∷ [])) ++ text) ≡ Some (b, text)
+unfolding first_of
+first_by true colon b text is other plain = ap (λ c. Some (c, text)) (sym (is refl))
+first_by false true b text is other plain = ap (λ c. Some (c, text)) (sym (other refl))
+first_by false false b text is other plain = ap (λ t. cond t (Some (cond (get_or text 1 0 == 53) 47 58, drop 3 text)) (Some (b, text))) plain
 
-no_backslash : (b : ℕ) → is_backslash b ≡ false → b ≢ 92
-no_backslash b h is = grind (arith, nat_tests)
-
-abbrev SameFirst : ℕ → ℕ → List ℕ → List ℕ → Type 0
-SameFirst x y rs ss = (x ≡ y) × (rs ≡ ss)
-
-same_first : (x y : ℕ) (rs ss : List ℕ) → x ≢ 92 → y ≢ 92 → Written x → Written y → escape x ++ rs ≡ escape y ++ ss → SameFirst x y rs ss
-same_first x y rs ss nx ny (inl h) (inl k) same =
-    let e : 92 ∷ 48 ∷ 53 ∷ 55 ∷ rs ≡ 92 ∷ 48 ∷ 53 ∷ 55 ∷ ss = ap (λ t. t ++ rs) (sym h.1) ∙ same ∙ ap (λ t. t ++ ss) k.1 in
-    (cc, cc)
-same_first x y rs ss nx ny (inl h) (inr (inl k)) same =
-    let e : 92 ∷ 48 ∷ 53 ∷ 55 ∷ rs ≡ 92 ∷ 48 ∷ 55 ∷ 50 ∷ ss = ap (λ t. t ++ rs) (sym h.1) ∙ same ∙ ap (λ t. t ++ ss) k.1 in
-    let n : ◌≡◌ {A = ℕ} 53 55 = cc in
-    absurd (omega (arith, n))
-same_first x y rs ss nx ny (inl h) (inr (inr k)) same =
-    let e : 92 ∷ 48 ∷ 53 ∷ 55 ∷ rs ≡ y ∷ ss = ap (λ t. t ++ rs) (sym h.1) ∙ same ∙ ap (λ t. t ++ ss) k in
-    absurd (ny cc)
-same_first x y rs ss nx ny (inr (inl h)) (inl k) same =
-    let e : 92 ∷ 48 ∷ 55 ∷ 50 ∷ rs ≡ 92 ∷ 48 ∷ 53 ∷ 55 ∷ ss = ap (λ t. t ++ rs) (sym h.1) ∙ same ∙ ap (λ t. t ++ ss) k.1 in
-    let n : ◌≡◌ {A = ℕ} 55 53 = cc in
-    absurd (omega (arith, n))
-same_first x y rs ss nx ny (inr (inl h)) (inr (inl k)) same =
-    let e : 92 ∷ 48 ∷ 55 ∷ 50 ∷ rs ≡ 92 ∷ 48 ∷ 55 ∷ 50 ∷ ss = ap (λ t. t ++ rs) (sym h.1) ∙ same ∙ ap (λ t. t ++ ss) k.1 in
-    (cc, cc)
-same_first x y rs ss nx ny (inr (inl h)) (inr (inr k)) same =
-    let e : 92 ∷ 48 ∷ 55 ∷ 50 ∷ rs ≡ y ∷ ss = ap (λ t. t ++ rs) (sym h.1) ∙ same ∙ ap (λ t. t ++ ss) k in
-    absurd (ny cc)
-same_first x y rs ss nx ny (inr (inr h)) (inl k) same =
-    let e : x ∷ rs ≡ 92 ∷ 48 ∷ 53 ∷ 55 ∷ ss = ap (λ t. t ++ rs) (sym h) ∙ same ∙ ap (λ t. t ++ ss) k.1 in
-    absurd (nx cc)
-same_first x y rs ss nx ny (inr (inr h)) (inr (inl k)) same =
-    let e : x ∷ rs ≡ 92 ∷ 48 ∷ 55 ∷ 50 ∷ ss = ap (λ t. t ++ rs) (sym h) ∙ same ∙ ap (λ t. t ++ ss) k.1 in
-    absurd (nx cc)
-same_first x y rs ss nx ny (inr (inr h)) (inr (inr k)) same =
-    let e : x ∷ rs ≡ y ∷ ss = ap (λ t. t ++ rs) (sym h) ∙ same ∙ ap (λ t. t ++ ss) k in
-    (cc, cc)
-
--- what is escaped is never nothing
-some_first : (b : ℕ) (rs : List ℕ) → Written b → [] ≡ escape b ++ rs → ⊥
-some_first b rs (inl h) e = let f : [] ≡ 92 ∷ 48 ∷ 53 ∷ 55 ∷ rs = e ∙ ap (λ t. t ++ rs) h.1 in cc
-some_first b rs (inr (inl h)) e = let f : [] ≡ 92 ∷ 48 ∷ 55 ∷ 50 ∷ rs = e ∙ ap (λ t. t ++ rs) h.1 in cc
-some_first b rs (inr (inr h)) e = let f : [] ≡ b ∷ rs = e ∙ ap (λ t. t ++ rs) h in cc
+first_of-escape : (b : ℕ) (text : List ℕ) → is_backslash b ≡ false → first_of (escape b ++ text) ≡ Some (b, text)
+first_of-escape b text = first_by (is_slash b) (is_colon b) b text (eqb-true b 47) (eqb-true b 58)
 
 pub escaped_tells : (a b : List ℕ) → list_any is_backslash a ≡ false → list_any is_backslash b ≡ false → escaped a ≡ escaped b → a ≡ b
-unfolding escaped
+unfolding escaped first_of
 escaped_tells [] [] ha hb same = refl
-escaped_tells [] (y ∷ b) ha hb same = absurd (some_first y (escaped b) (written y) same)
-escaped_tells (x ∷ a) [] ha hb same = absurd (some_first x (escaped a) (written x) (sym same))
+escaped_tells [] (y ∷ b) ha hb same =
+    let none = ap first_of same ∙ first_of-escape y (escaped b) (or_parts _ _ hb).0 in cc
+escaped_tells (x ∷ a) [] ha hb same =
+    let none = sym (first_of-escape x (escaped a) (or_parts _ _ ha).0) ∙ ap first_of same in cc
 escaped_tells (x ∷ a) (y ∷ b) ha hb same =
     let of_a = or_parts (is_backslash x) (list_any is_backslash a) ha in
     let of_b = or_parts (is_backslash y) (list_any is_backslash b) hb in
-    let first = same_first x y (escaped a) (escaped b) (no_backslash x of_a.0) (no_backslash y of_b.0) (written x) (written y) same in
-    let head : x ≡ y = first.0 in
-    let rest : a ≡ b = escaped_tells a b of_a.1 of_b.1 first.1 in
+    let first = sym (first_of-escape x (escaped a) of_a.0) ∙ ap first_of same ∙ first_of-escape y (escaped b) of_b.0 in
+    let pair : (x, escaped a) ≡ (y, escaped b) = cc in
+    let head : x ≡ y = ap (λ (p : ℕ × List ℕ). p.0) pair in
+    let rest : a ≡ b = escaped_tells a b of_a.1 of_b.1 (ap (λ (p : ℕ × List ℕ). p.1) pair) in
     cc

@@ -1,6 +1,6 @@
 -- From the marks of a block to the places of the bytes that are looked for.
 use Rattle.std.proofs.Common.{◌≡◌, ◌∙◌, ℕ, ◌+◌, ◌*◌, ◌%◌, ◌^◌, ◌<◌, ◌≤◌, Bool, true, false, not, cond, List, [], ◌∷◌, map, length, Option, None, Some, refl, sym, ap, ap₂, inl, inr, arith, w8, Fits}
-use Rattle.std.proofs.lemmas.Bool.{agree_below, agree_below_at, cases_lt}
+use Rattle.std.proofs.lemmas.Bool.{false_from_ne_true, agree_below, agree_below_at, cases_lt}
 use Rattle.std.proofs.lemmas.List.{length-map}
 use Rattle.std.proofs.lemmas.List.Elements.{All-from_get_or}
 use Rattle.std.proofs.lemmas.List.Folds.{list_any_none, list_any_at}
@@ -11,7 +11,6 @@ use Rattle.std.specs.Option.{is_some}
 use lib.Count.{count_trailing_zeros}
 use lib.Lanes.{Each1, chunk, mask_l, top}
 use Rattle.memchr.specs.Find.{IsFirstByte, Nowhere, NoneBefore, Passes}
-use Rattle.md_name.proofs.Firsts.{refuted}
 
 -- a mask that is computed lane by lane, held to a test at each of the 256 bytes
 module _ (f : ℕ → ℕ) (p : ℕ → Bool) (all : agree_below (λ x. top 7 (f x)) p 256 ≡ true) where
@@ -62,5 +61,5 @@ module _ (p : ℕ → Bool) where
 -- whether there is a first
 pub told : (p : ℕ → Bool) (bytes : List ℕ) (place : Option ℕ) → IsFirstByte p bytes place → is_some place ≡ list_any p bytes
 told p bytes None none =
-    sym (list_any_none p bytes (All-from_get_or (λ x. p x ≡ false) bytes 0 (λ k within. refuted _ (none k (omega arith) within))))
+    sym (list_any_none p bytes (All-from_get_or (λ x. p x ≡ false) bytes 0 (λ k within. false_from_ne_true _ (none k (omega arith) within))))
 told p bytes (Some at) found = sym (list_any_at p bytes at 0 found.0.high found.1)

@@ -10,7 +10,7 @@ use crate::info::COLON;
 use crate::unique::SLASH;
 use std::simd::prelude::*;
 
-/// How many bytes are looked at at once.
+// How many bytes are looked at at once.
 const BLOCK: usize = 16;
 
 /// What is looked for.
@@ -127,7 +127,7 @@ pub fn first<W: Wanted>(bytes: &[u8]) -> Option<usize>
     first_in_block::<W>(bytes, bytes.len() - BLOCK)
 }
 
-/// The same among the bytes of the block from a place on.
+// The same among the bytes of the block from a place on.
 #[inline(always)]
 fn first_in_block<W: Wanted>(bytes: &[u8], at: usize) -> Option<usize>
     requires { at + BLOCK ≤ length bytes.now }
@@ -148,7 +148,7 @@ fn marks_at<W: Wanted>(bytes: &[u8], at: usize) -> u64
     W::marks(u8x16::from_slice(&bytes[at..]))
 }
 
-/// The same of fewer bytes than a block has.
+// The same of fewer bytes than a block has.
 fn first_of_few<W: Wanted>(bytes: &[u8]) -> Option<usize>
     ensures { IsFirstByte W.wanted bytes.now result }
 {

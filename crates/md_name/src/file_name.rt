@@ -1,4 +1,4 @@
-// The name of a file, in place where it is short.
+//! The name of a file, in place where it is short.
 ghost use Rattle.std.specs.Prelude.{◌≡◌, ◌≤◌, IfOk, IsOk, length};
 
 use crate::bytes::Bytes;

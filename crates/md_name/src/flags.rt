@@ -10,7 +10,7 @@ use crate::error::NameError;
 use std::alloc::{AllocError, Global};
 use std::marker::Model;
 
-/// The letters in ASCII order. The place of a letter here is the place of its bit in a set's word.
+// The letters in ASCII order. The place of a letter here is the place of its bit in a set's word.
 const LETTERS: &[u8; 52] = b"ABCDEFGHIJKLMNOPQRSTUVWXYZabcdefghijklmnopqrstuvwxyz";
 
 /// A set of ASCII letters, each the flag of a message.
@@ -50,7 +50,7 @@ fn is_letter(byte: u8) -> bool
     byte.is_ascii_alphabetic()
 }
 
-/// The place of a letter among `LETTERS`.
+// The place of a letter among `LETTERS`.
 fn place(letter: u8) -> u8
     requires { is_letter letter ≡ true }
     ensures place { result ≡ place_of letter }
@@ -158,7 +158,7 @@ impl Flags {
         self.word.count_ones() as usize
     }
 
-    /// The set with one letter more.
+    // The set with one letter more.
     fn with_letter(self, letter: u8) -> Flags
         requires { is_letter letter ≡ true }
         ensures { result ≡ set.insert self letter }

@@ -11,7 +11,7 @@ use std::alloc::Global;
 /// The byte that ends the unique part of a name.
 pub(crate) const COLON: u8 = b':';
 
-/// What info begins with that has flags.
+// What info begins with that has flags.
 const FLAGS_FOLLOW: &[u8; 2] = b"2,";
 
 /// What a message's name says after its unique part.
@@ -71,7 +71,7 @@ pub fn unique_part(name: &[u8]) -> &[u8]
     }
 }
 
-/// The parts of any name.
+// The parts of any name.
 fn parts(name: &[u8]) -> (&[u8], Info)
     ensures unique { result.0.now ≡ unique_of name.now }
     ensures info { result.1 ≡ info_of name.now }
@@ -102,7 +102,7 @@ pub fn colon_after(name: &[u8], unique: &[u8]) -> Option<usize>
     if at < name.len() { Some(at) } else { None }
 }
 
-/// The info that the text after a colon says.
+// The info that the text after a colon says.
 #[tactic(auto, unfolding(crate::specs::Names::info_by))]
 fn read_info(text: &[u8]) -> Info
     ensures { result ≡ info_by (Some text.now) }

@@ -1,9 +1,9 @@
-// A few bytes, in place.
+//! A few bytes, in place.
 ghost use Rattle.std.specs.Prelude.{◌≡◌, ◌≤◌, ◌↔◌, length, IsSome, IfSome};
 
 use std::marker::Model;
 
-/// How many bytes lie in place at most. The names of usual deliverers have fewer, with three flags too.
+// How many bytes lie in place at most. The names of usual deliverers have fewer, with three flags too.
 const SHORT: usize = 53;
 
 /// A few bytes, in place.

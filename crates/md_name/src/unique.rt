@@ -12,19 +12,19 @@ use std::alloc::{AllocError, Global};
 /// The byte that parts a path.
 pub(crate) const SLASH: u8 = b'/';
 
-/// A slash as an escaped host has it.
+// A slash as an escaped host has it.
 const ESCAPED_SLASH: &[u8; 4] = b"\\057";
 
-/// A colon as an escaped host has it.
+// A colon as an escaped host has it.
 const ESCAPED_COLON: &[u8; 4] = b"\\072";
 
-/// The microseconds of a second.
+// The microseconds of a second.
 const MICROS: u64 = 1_000_000;
 
-/// The most bytes of an escaped host.
+// The most bytes of an escaped host.
 const MAX_HOST: usize = 100;
 
-/// The most bytes of a unique name. With `:2,` and 52 letters that's a file name of 255 bytes.
+// The most bytes of a unique name. With `:2,` and 52 letters that's a file name of 255 bytes.
 const MAX_UNIQUE: usize = 200;
 
 /// What a unique name is made of.
@@ -89,7 +89,7 @@ pub fn holds_separator(bytes: &[u8]) -> bool
     holds::<Separator>(bytes)
 }
 
-/// Whether a made name may have the host. Once escaped it's no shorter, so a longer one is out at once.
+// Whether a made name may have the host. Once escaped it's no shorter, so a longer one is out at once.
 #[tactic(auto, using(crate::proofs::Hosts::lengths), unfolding(crate::specs::Made::is_host))]
 fn is_host(host: &[u8]) -> bool
     ensures { result ≡ is_host host.now }
@@ -100,7 +100,7 @@ fn is_host(host: &[u8]) -> bool
     escaped_len(host) <= MAX_HOST
 }
 
-/// How many bytes the host has once escaped.
+// How many bytes the host has once escaped.
 #[tactic(auto, using(crate::proofs::Hosts::lengths))]
 fn escaped_len(host: &[u8]) -> usize
     requires { length host.now ≤ MAX_HOST }
@@ -117,7 +117,7 @@ fn escaped_len(host: &[u8]) -> usize
     len
 }
 
-/// The name that is made of sound parts.
+// The name that is made of sound parts.
 fn made_name(alloc: Global, parts: UniqueParts<'_>) -> Result<Vec<u8>, AllocError>
     requires micro { parts.micro < MICROS }
     requires host { is_host parts.host.now ≡ true }
@@ -137,7 +137,7 @@ fn made_name(alloc: Global, parts: UniqueParts<'_>) -> Result<Vec<u8>, AllocErro
     Ok(name)
 }
 
-/// Writes the host after the text, escaped.
+// Writes the host after the text, escaped.
 #[tactic(auto, using(crate::proofs::Hosts::pushes))]
 fn push_escaped(host: &[u8], text: &mut Vec<u8>) -> Result<(), AllocError>
     ensures { OnOk result (text.new.items ≡ text.old.items ++ escaped host.now) }

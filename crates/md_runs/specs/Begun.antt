@@ -13,7 +13,7 @@ use Rattle.md_script.specs.Sessions.{run_over, unless_refused}
 use Rattle.md_script.specs.Setups.{Setting, setting_of}
 use Rattle.md_script.specs.Transcript.{Transcript}
 use Rattle.md_runs.specs.declared.threads.setting_up.Made.{Made}
-use Rattle.md_indexing.specs.Indexing.{at_line}
+use Rattle.md_script.specs.Indexing.{at_line}
 
 -- a run to which calls were submitted in their order, or the refusal of the first that is refused
 unfoldable pub submitted_all : Run → List Call → Result Run PlayKind

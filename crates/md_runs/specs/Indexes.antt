@@ -9,7 +9,7 @@ use Rattle.md_script.specs.Play.{Stops}
 use Rattle.md_script.specs.Reading.{IsReadWhole}
 use Rattle.md_script.specs.Sinks.{Sink, Took, Untouched}
 use Rattle.md_script.specs.Sources.{Source}
-use Rattle.md_indexing.specs.Indexing.{bytes_in, index_of_script, indexed_text}
+use Rattle.md_script.specs.Indexing.{bytes_in, index_of_script, indexed_text}
 
 -- a message of a listing, with the one summary of its bytes
 abbrev pub indexed_in : Mailbox → Entry → Indexed

@@ -16,7 +16,7 @@ use Rattle.md_script.specs.Texts.{line_end, answer_line, entries_text}
 use Rattle.md_runs.specs.declared.fault.RunFault.{RunFault}
 use Rattle.md_runs.specs.declared.fault.RunFault.TheVariants.{Play, NoReader, Closed}
 use Rattle.md_runs.specs.Begun.{begun_of, folders_of}
-use Rattle.md_indexing.specs.Indexing.{listing_in}
+use Rattle.md_script.specs.Indexing.{listing_in}
 
 -- `J answer A` for each of the first jobs, in their order
 unfoldable pub answers_text : List Standing → ℕ → List ℕ

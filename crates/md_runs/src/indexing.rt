@@ -1,21 +1,20 @@
 //! The index of a script's messages: a line for each, with the summary of its header.
-ghost use Rattle.std.specs.Prelude.{◌≡◌, ◌≢◌, ◌≤◌, ◌⊎◌, ℕ, false, List, Ok, Err, IfOk, MatchResult};
-ghost use Rattle.md_core.specs.Mailbox.{mailbox_of};
-ghost use Rattle.md_core.specs.Runs.{dirs_of};
+ghost use Rattle.std.specs.Prelude.{◌≡◌, ◌≢◌, ◌≤◌, ◌⊎◌, ℕ, false, List, Ok, Err, MatchResult};
 ghost use Rattle.md_script.specs.Folders.{names_of};
 ghost use Rattle.md_script.specs.Kinds.{at_no_line};
 ghost use Rattle.md_script.specs.ReadSetups.{SetsUp};
 ghost use Rattle.md_script.specs.declared.error.PlayKind.TheVariants.{NoMemory};
-ghost use Rattle.md_indexing.specs.Indexing.{index_from, index_of_script, index_over};
+ghost use Rattle.md_script.specs.Indexing.{index_of_script, index_over};
 ghost use Rattle.md_runs.specs.Indexes.{Indexes};
 
 mod workers;
 
-use md_core::World;
-use md_dirs::{Dirs, HashSeed, ImageFile};
-use md_indexing::{load, refused};
-use md_script::{PlayError, PlayKind, ReadSetup, Setup, Sink, Source, read_image, write_whole};
-use std::alloc::{AllocError, Global};
+use md_dirs::{HashSeed, ImageFile};
+use md_script::{
+    PlayError, PlayKind, ReadSetup, Setup, Sink, Source, folders_text, load, read_image, refused,
+    write_whole,
+};
+use std::alloc::Global;
 use std::mem::forget;
 use std::sync::Wait;
 use std::thread::Threads;
@@ -48,7 +47,7 @@ pub fn run_index<R: Threads + Wait + Sync, S: Source, T: Sink>(
     Ok(())
 }
 
-/// The index of a script that was read.
+// The index of a script that was read.
 fn index_text<R: Threads + Wait + Sync>(
     rt: &R,
     alloc: Global,
@@ -72,8 +71,8 @@ fn index_text<R: Threads + Wait + Sync>(
     }
 }
 
-/// The index of the store over folders and files.
-#[tactic(auto, unfolding(md_indexing::specs::Indexing::index_over))]
+// The index of the store over folders and files.
+#[tactic(auto, unfolding(md_script::specs::Indexing::index_over))]
 fn text_over<R: Threads + Wait + Sync>(
     rt: &R,
     alloc: Global,
@@ -87,34 +86,11 @@ fn text_over<R: Threads + Wait + Sync>(
         (λ kind. kind ≢ NoMemory → index_over (names_of names.now) files.items ≡ Err kind) }
 {
     let world = load(alloc, seed, names, files)?;
-    let text = folders_text(rt, alloc, workers, &world, names);
+    let push = |folder: u32, name: &[u8], out: &mut Vec<u8>| push_folder(
+        rt, alloc, workers, &world, folder, name, out,
+    );
+    let text = folders_text(alloc, names, &push);
     // The process ends soon, and the system takes its memory at once.
     forget(world);
     Ok(text?)
-}
-
-/// The index of folders of these names, of which the first has the number 0.
-#[tactic(auto, unfolding(md_indexing::specs::Indexing::index_from))]
-fn folders_text<R: Threads + Wait + Sync, D: Dirs>(
-    rt: &R,
-    alloc: Global,
-    workers: usize,
-    world: &World<D>,
-    names: &[Vec<u8>],
-) -> Result<Vec<u8>, AllocError>
-    ensures { IfOk result (λ text. text.items ≡ index_from (mailbox_of (dirs_of world.now)) 0 (names_of names.now)) }
-{
-    let mut text = Vec::new(alloc);
-    let mut folder = 0u32;
-    let mut left = names;
-    while let [name, others @ ..] = left {
-        push_folder(rt, alloc, workers, world, folder, name, &mut text)?;
-        // No memory holds so many folders.
-        let Some(next) = folder.checked_add(1) else {
-            return Err(AllocError);
-        };
-        folder = next;
-        left = others;
-    }
-    Ok(text)
 }

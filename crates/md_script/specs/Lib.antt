@@ -15,6 +15,7 @@ pub mod Progress
 pub mod Texts
 pub mod Sessions
 pub mod Setups
+pub mod Indexing
 pub mod Sources
 pub mod Sinks
 pub mod Reading

@@ -3,13 +3,13 @@ ghost use Rattle.std.specs.Prelude.{◌≡◌, ◌++◌, IfOk, OnOk, flat_map, m
 ghost use Rattle.md_core.specs.Mailbox.{mailbox_of};
 ghost use Rattle.md_core.specs.Runs.{dirs_of};
 ghost use Rattle.md_index.specs.Index.{indexed_of};
-ghost use Rattle.md_indexing.specs.Indexing.{folder_text};
+ghost use Rattle.md_script.specs.Indexing.{folder_text};
 ghost use Rattle.md_runs.specs.Indexes.{indexed_in, made_text};
 
 use md_core::World;
 use md_dirs::Dirs;
 use md_index::{Indexed, Message, OpenGate, index};
-use md_indexing::{bytes_of, listing, push_indexed};
+use md_script::{bytes_of, list_folder, push_indexed};
 use md_view::EntryRef;
 use std::alloc::{AllocError, Global};
 use std::sync::Wait;
@@ -29,7 +29,7 @@ pub(super) fn push_folder<R: Threads + Wait + Sync, D: Dirs>(
 ) -> Result<(), AllocError>
     ensures { OnOk result (out.new.items ≡ out.old.items ++ folder_text (mailbox_of (dirs_of world.now)) folder name.now) }
 {
-    let Ok(entries) = listing(alloc, world, folder) else {
+    let Ok(entries) = list_folder(alloc, world, folder) else {
         return Err(AllocError);
     };
     let messages = messages(alloc, world, &entries)?;
@@ -39,7 +39,7 @@ pub(super) fn push_folder<R: Threads + Wait + Sync, D: Dirs>(
     push_all(out, name, &all)
 }
 
-/// Appends messages of a folder of this name.
+// Appends messages of a folder of this name.
 fn push_all(out: &mut Vec<u8>, name: &[u8], all: &[Indexed]) -> Result<(), AllocError>
     ensures { OnOk result (out.new.items ≡ out.old.items ++ flat_map (made_text name.now) all.now) }
 {
@@ -49,7 +49,7 @@ fn push_all(out: &mut Vec<u8>, name: &[u8], all: &[Indexed]) -> Result<(), Alloc
     Ok(())
 }
 
-/// The messages of a listing, lent: their bytes are the world's.
+// The messages of a listing, lent: their bytes are the world's.
 fn messages<'a, D: Dirs>(
     alloc: Global,
     world: &'a World<D>,

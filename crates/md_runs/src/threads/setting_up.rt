@@ -10,8 +10,7 @@ ghost use Rattle.md_runs.specs.Begun.{submitted_all, begun_over, begun_of, IsBeg
 
 use md_core::{Call, World};
 use md_dirs::{Dirs, HashSeed, ImageFile, IndexDirs};
-use md_indexing::{load, refused};
-use md_script::{PlayError, PlayKind, ReadSetup, Setup};
+use md_script::{PlayError, PlayKind, ReadSetup, Setup, load, refused};
 use std::alloc::Global;
 
 /// The names of a script's folders, and a store over its files with its jobs, of which none was stepped.
@@ -42,7 +41,7 @@ pub(super) fn set_up(alloc: Global, seed: HashSeed, read: ReadSetup) -> Result<M
     }
 }
 
-/// The store over folders and files, with jobs.
+// The store over folders and files, with jobs.
 #[tactic(auto, unfolding(crate::specs::Begun::begun_over), using(crate::proofs::Submitting::opened_fresh))]
 fn world_of(
     alloc: Global,
@@ -61,7 +60,7 @@ fn world_of(
     Ok(world)
 }
 
-/// Submits calls in their order, up to the first that is refused.
+// Submits calls in their order, up to the first that is refused.
 fn submit_all<D: Dirs>(world: &mut World<D>, calls: Vec<Call>) -> Result<(), PlayKind>
     ensures all { MatchResult result
         (λ _. submitted_all world.old calls.items ≡ Ok world.new)

@@ -12,7 +12,7 @@ use std::thread::Threads;
 
 const ROUNDS: usize = 10;
 
-/// The items that passed one side of the gate.
+// The items that passed one side of the gate.
 #[derive(Drop)]
 struct Passed {
     calls: AtomicU64,
@@ -39,19 +39,19 @@ impl Passed {
         self.calls.load(Ordering::SeqCst)
     }
 
-    /// How many items passed, however often.
+    // How many items passed, however often.
     fn items(&self) -> u32 {
         let low = self.items[0].load(Ordering::SeqCst).count_ones();
         low + self.items[1].load(Ordering::SeqCst).count_ones()
     }
 
-    /// Whether so many items passed, each once.
+    // Whether so many items passed, each once.
     fn is_each_once(&self, count: usize) -> bool {
         self.calls() == count as u64 && self.items() as usize == count
     }
 }
 
-/// Which items wait before their entries are made.
+// Which items wait before their entries are made.
 #[derive(Clone, Copy)]
 enum Waits {
     /// The first two, each until the other has come.
@@ -88,7 +88,7 @@ impl Watched {
         }
     }
 
-    /// Whether so many items passed, each once, and none waited in vain.
+    // Whether so many items passed, each once, and none waited in vain.
     fn is_right(&self, count: usize) -> bool {
         self.before.is_each_once(count)
             && self.after.is_each_once(count)
@@ -113,7 +113,7 @@ impl Gate for Watched {
     }
 }
 
-/// Makes an index at a gate where items wait. None where the round is spoiled.
+// Makes an index at a gate where items wait. None where the round is spoiled.
 fn play<R: Threads + Wait + Sync>(
     rt: &R,
     alloc: Global,
@@ -128,7 +128,7 @@ fn play<R: Threads + Wait + Sync>(
     }
 }
 
-/// Whether each round is right, but for one that may be spoiled.
+// Whether each round is right, but for one that may be spoiled.
 fn are_right<R: Threads + Wait + Sync>(
     rt: &R,
     alloc: Global,
@@ -162,7 +162,7 @@ fn each_item_passes_the_gate_once(rt: HostRuntime) {
     assert!(rt; are_right(&rt, rt.alloc(), Waits::None, MOST, 7));
 }
 
-/// Whether so many workers are refused.
+// Whether so many workers are refused.
 fn is_refused<R: Threads + Wait + Sync>(rt: &R, alloc: Global, workers: usize) -> bool {
     match is_plain(rt, alloc, 1, workers, &OpenGate) {
         Ok(_) => false,

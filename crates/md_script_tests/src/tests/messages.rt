@@ -8,14 +8,14 @@ use std::thread::Threads;
 /// The most messages.
 pub(super) const MOST: usize = 100;
 
-/// Where the subject begins.
+// Where the subject begins.
 const SUBJECT: usize = 9;
 
-/// The header of the last message. Each has one letter less of the subject than the next. Its unique name is its subject.
+// The header of the last message. Each has one letter less of the subject than the next. Its unique name is its subject.
 static HEADER: &[u8] =
     b"Subject: abcdefghijklmnopqrstuvwxyzabcdefghijklmnopqrstuvwxyzabcdefghijklmnopqrstuvwxyzabcdefghijklmnopqrstuv";
 
-/// All messages.
+// All messages.
 fn messages() -> [Message<'static>; MOST] {
     let header = HEADER;
     let mut all = [Message {
@@ -32,7 +32,7 @@ fn messages() -> [Message<'static>; MOST] {
     all
 }
 
-/// Whether the entry shows the message's unique name and its subject, and nothing else.
+// Whether the entry shows the message's unique name and its subject, and nothing else.
 fn shows(made: &Indexed, message: &Message<'_>) -> bool {
     let Some(subject) = &made.summary.subject else {
         return false;
@@ -45,7 +45,7 @@ fn shows(made: &Indexed, message: &Message<'_>) -> bool {
         && made.summary.seconds.is_none()
 }
 
-/// Whether each entry shows its message, and there is no other.
+// Whether each entry shows its message, and there is no other.
 fn are_shown(made: &[Indexed], messages: &[Message<'_>]) -> bool {
     for (made, message) in made.iter().zip(messages) {
         if !shows(made, message) {

@@ -3,7 +3,7 @@
 use md_name::{Bytes, Flags, Info, NameError, UniqueParts, first_colon, laws};
 use std::alloc::{AllocError, Global};
 
-/// Letters as flags. What is no flag gives none.
+// Letters as flags. What is no flag gives none.
 fn flags(letters: &[u8]) -> Flags {
     match Flags::parse(letters) {
         Ok(flags) => flags,
@@ -11,7 +11,7 @@ fn flags(letters: &[u8]) -> Flags {
     }
 }
 
-/// Whether all letters are among the flags, and no other byte.
+// Whether all letters are among the flags, and no other byte.
 fn are_letters(all: Flags) -> bool {
     for byte in 0..=255u8 {
         if all.has(byte) != byte.is_ascii_alphabetic() {
@@ -21,7 +21,7 @@ fn are_letters(all: Flags) -> bool {
     true
 }
 
-/// Whether these are the letters of flags. So they may be, too, where memory was wanting.
+// Whether these are the letters of flags. So they may be, too, where memory was wanting.
 fn are_written(alloc: Global, flags: Flags, letters: &[u8]) -> bool {
     match flags.write(alloc) {
         Ok(text) => text.as_slice() == letters,
@@ -29,7 +29,7 @@ fn are_written(alloc: Global, flags: Flags, letters: &[u8]) -> bool {
     }
 }
 
-/// Whether each info has its flags.
+// Whether each info has its flags.
 fn are_of_infos(flags: Flags) -> bool {
     Info::Bare.flags() == Some(Flags::empty())
         && Info::Opaque.flags().is_none()
@@ -47,14 +47,14 @@ fn flags_are_sets_of_letters(rt: HostRuntime) {
     );
 }
 
-/// Whether a copy is as it was, when the bytes that it was made of have become longer.
+// Whether a copy is as it was, when the bytes that it was made of have become longer.
 fn is_kept(alloc: Global, bytes: &mut Bytes) -> Result<bool, AllocError> {
     let copy = bytes.again(alloc)?;
     bytes.extend(b"\0")?;
     Ok(bytes.len() == 4 && *bytes != copy && copy.as_slice() == b"a b".as_slice())
 }
 
-/// Whether bytes are kept. So they may be, too, where memory was wanting.
+// Whether bytes are kept. So they may be, too, where memory was wanting.
 fn are_kept(alloc: Global) -> bool {
     match Bytes::copied(alloc, b"a b") {
         Ok(mut bytes) => match is_kept(alloc, &mut bytes) {

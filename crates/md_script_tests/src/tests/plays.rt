@@ -8,7 +8,7 @@ use std::io::Write;
 
 const PRINTS: &[u8] = b"unique 1.M2P3Q4.a\n";
 
-/// Takes all, and fails to pass it on.
+// Takes all, and fails to pass it on.
 #[derive(Drop)]
 struct Unflushed {
     taken: usize,
@@ -25,7 +25,7 @@ impl Write for Unflushed {
     }
 }
 
-/// Whether a script prints one line, up to its end.
+// Whether a script prints one line, up to its end.
 fn is_played(alloc: Global, script: &[u8]) -> bool {
     let mut out = InMemory::new(alloc);
     match play(alloc, &mut Reader::new(script), &mut out) {
@@ -34,7 +34,7 @@ fn is_played(alloc: Global, script: &[u8]) -> bool {
     }
 }
 
-/// Whether a script is refused since its line was taken and not passed on.
+// Whether a script is refused since its line was taken and not passed on.
 fn is_not_passed_on(alloc: Global, script: &[u8]) -> bool {
     let mut out = Writer::new(Unflushed { taken: 0 });
     match play(alloc, &mut Reader::new(script), &mut out) {

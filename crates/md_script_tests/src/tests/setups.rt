@@ -3,7 +3,7 @@
 use md_script::image;
 use std::alloc::Global;
 
-/// Whether a script sets this up.
+// Whether a script sets this up.
 fn is_set_up(alloc: Global, script: &[u8], text: &[u8]) -> bool {
     match image(alloc, script, true) {
         Ok(setup) => match format!(in alloc; "{setup:?}") {

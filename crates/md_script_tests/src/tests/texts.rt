@@ -66,7 +66,7 @@ fn is_told<T: Display>(alloc: Global, value: &T, text: &str) -> bool {
     }
 }
 
-/// Whether the store's error, or a name's, is told as the refusal that it causes.
+// Whether the store's error, or a name's, is told as the refusal that it causes.
 fn is_cause_told(alloc: Global, kind: PlayKind) -> bool {
     match kind {
         PlayKind::Core(error) => is_told(alloc, &error, kind.text()),
@@ -75,7 +75,7 @@ fn is_cause_told(alloc: Global, kind: PlayKind) -> bool {
     }
 }
 
-/// How many texts are right up to the first that is not.
+// How many texts are right up to the first that is not.
 fn right_texts(alloc: Global) -> usize {
     let mut right = 0usize;
     for (text, kind) in TEXTS.split('\n').zip(KINDS.iter()) {

@@ -1,9 +1,10 @@
-use Rattle.std.proofs.Common.{rules, arith, ◌≡◌, ◌<◌, ◌+◌, ◌-◌, inl, inr, List, length, take, refl, sym, ap, subst, ◌∙◌}
+use Rattle.std.proofs.Common.{arith, ◌<◌, ◌+◌, ◌-◌, inl, inr, List, length, take, refl, sym, ap, subst, ◌∙◌}
 use Rattle.std.proofs.lemmas.List.{take_more_set, drop-set-lt}
 use Rattle.md_ffi.specs.Numbers.{refusal_number}
 use Rattle.md_ffi.specs.Records.{recorded, Answered}
 use Rattle.md_ffi.specs.declared.shown.AnswerShown.{AnswerShown}
-use Rattle.md_ffi.proofs.Records.{answered-more, empty, ends-alike, not-empty}
+use Rattle.md_ffi.proofs.Listed.{ends_alike_after}
+use Rattle.md_ffi.proofs.Records.{answered-more, empty, not-empty}
 use Rattle.md_ffi.proofs.calls.run.Goals as goal
 
 pub loop-left-init : goal.loop-left-init
@@ -64,7 +65,7 @@ loop-left-preserved c =
       answered = subst (λ (shown : List AnswerShown). Answered c.args.now shown c.args.records.now c.args.world.now r.rest.now c.call.new.world)
           (sym (take_more_set c.loop-left.answers c.loop-left.done c.of.result bound)) more;
       kept = drop-set-lt (c.loop-left.done + 1) c.loop-left.answers c.loop-left.done c.of.result (omega arith)
-          ∙ ends-alike c.loop-left.done c.loop-left.answers c.args.answers.now before.kept;
+          ∙ ends_alike_after c.loop-left.done 1 c.loop-left.answers c.args.answers.now before.kept;
       within = omega (arith, bound, c.loop-left.auto.answers);
     }
 

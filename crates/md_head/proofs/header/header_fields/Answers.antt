@@ -1,5 +1,5 @@
 use Rattle.std.proofs.Common.{◌≡◌, ℕ, true, false, List, [], get_or, take, Option, None, ap, sym, ◌∙◌, refl}
-use Rattle.std.proofs.lemmas.Bool.{false≢true}
+use Rattle.std.proofs.lemmas.Bool.{not-true, false≢true}
 use Rattle.std.specs.Prelude.{codes, is_some}
 use Rattle.std.specs.Str.{str_eq_ignore_ascii_case}
 use Rattle.md_head.specs.Header.{header_section}
@@ -9,7 +9,7 @@ use Rattle.md_head.specs.Computed.{field_of}
 use Rattle.md_head.specs.declared.body.FieldBody.{FieldBody}
 use Rattle.md_head.proofs.Cuts.{rest_whole}
 use Rattle.md_head.proofs.GroupValues.{value_in}
-use Rattle.md_head.proofs.Initials.{not_true, no_subject, no_from, no_message_id, no_date}
+use Rattle.md_head.proofs.Initials.{no_subject, no_from, no_message_id, no_date}
 use Rattle.md_head.proofs.Sections.{some_section}
 use Rattle.md_head.proofs.Places.{Knows, all_four, knows_nothing, knows_kept, knows_passed, knows_other, knows_found, knows_all}
 use Rattle.md_head.proofs.header.header_fields.Goals as goal
@@ -59,25 +59,16 @@ all_kept c =
     all_four (is_some kept.subject) (is_some kept.from) (is_some kept.message_id) (is_some kept.date)
     (sym c.is_complete.ensures ∙ c.if-is_complete.true)
 
-pub returns-then-is_complete-clause-subject : goal.returns-then-is_complete-clause-subject
-returns-then-is_complete-clause-subject c =
-    knows_found _ _ (codes "subject") _ (all_kept c).0
-    (kept_last c (codes "subject") _ _ c.keep_first.ensures.subject c.loop-left.invariant.subject)
-
-pub returns-then-is_complete-clause-from : goal.returns-then-is_complete-clause-from
-returns-then-is_complete-clause-from c =
-    knows_found _ _ (codes "from") _ (all_kept c).1
-    (kept_last c (codes "from") _ _ c.keep_first.ensures.from c.loop-left.invariant.from)
-
-pub returns-then-is_complete-clause-message_id : goal.returns-then-is_complete-clause-message_id
-returns-then-is_complete-clause-message_id c =
-    knows_found _ _ (codes "message-id") _ (all_kept c).2
-    (kept_last c (codes "message-id") _ _ c.keep_first.ensures.message_id c.loop-left.invariant.message_id)
-
-pub returns-then-is_complete-clause-date : goal.returns-then-is_complete-clause-date
-returns-then-is_complete-clause-date c =
-    knows_found _ _ (codes "date") _ (all_kept c).3
-    (kept_last c (codes "date") _ _ c.keep_first.ensures.date c.loop-left.invariant.date)
+pub returns-then-is_complete : goal.returns-then-is_complete
+returns-then-is_complete c =
+    let all = all_kept c in
+    let keeps = c.keep_first.ensures in
+    let before = c.loop-left.invariant in record {
+      subject = knows_found _ _ (codes "subject") _ all.0 (kept_last c (codes "subject") _ _ keeps.subject before.subject);
+      from = knows_found _ _ (codes "from") _ all.1 (kept_last c (codes "from") _ _ keeps.from before.from);
+      message_id = knows_found _ _ (codes "message-id") _ all.2 (kept_last c (codes "message-id") _ _ keeps.message_id before.message_id);
+      date = knows_found _ _ (codes "date") _ all.3 (kept_last c (codes "date") _ _ keeps.date before.date);
+    }
 
 -- and after a group that is none, by its first letter
 pub loop-left-preserved-then-begins_other : goal.loop-left-preserved-then-begins_other
@@ -85,7 +76,7 @@ loop-left-preserved-then-begins_other c =
     let message = c.args.message.now in
     let left = c.loop-left.left.now in
     let not_over = λ (over : header_section left ≡ []). false≢true (c.loop-left-test.ensures.1 over) in
-    let plain : is_initial (get_or left 0 0) ≡ false = not_true _ (sym c.begins_other.ensures ∙ c.if-begins_other.true) in
+    let plain : is_initial (get_or left 0 0) ≡ false = not-true _ (sym c.begins_other.ensures ∙ c.if-begins_other.true) in
     let ends = c.group_end.ensures in
     let past = λ (name : List ℕ) (found : Option FieldBody) (none : value_in name (field_of (take c.group_end.result left)) ≡ None).
     knows_passed message left _ name c.group_end.result found not_over ends (rest_whole left c.group_end.result) none in record {
@@ -111,22 +102,12 @@ loop-left-preserved c = record {
   date = after_other c (codes "date") c.loop-left.fields.date c.loop-left.invariant.date;
 }
 
-pub returns-clause-subject : goal.returns-clause-subject
-returns-clause-subject c =
-    knows_all c.args.message.now c.loop-left.left.now (codes "subject") c.loop-left.fields.subject
-    (c.loop-left-test.ensures.0 refl) c.loop-left.invariant.subject
-
-pub returns-clause-from : goal.returns-clause-from
-returns-clause-from c =
-    knows_all c.args.message.now c.loop-left.left.now (codes "from") c.loop-left.fields.from
-    (c.loop-left-test.ensures.0 refl) c.loop-left.invariant.from
-
-pub returns-clause-message_id : goal.returns-clause-message_id
-returns-clause-message_id c =
-    knows_all c.args.message.now c.loop-left.left.now (codes "message-id") c.loop-left.fields.message_id
-    (c.loop-left-test.ensures.0 refl) c.loop-left.invariant.message_id
-
-pub returns-clause-date : goal.returns-clause-date
-returns-clause-date c =
-    knows_all c.args.message.now c.loop-left.left.now (codes "date") c.loop-left.fields.date
-    (c.loop-left-test.ensures.0 refl) c.loop-left.invariant.date
+pub returns : goal.returns
+returns c =
+    let all = λ (name : List ℕ) (found : Option FieldBody). knows_all c.args.message.now c.loop-left.left.now name found (c.loop-left-test.ensures.0 refl) in
+    record {
+      subject = all (codes "subject") _ c.loop-left.invariant.subject;
+      from = all (codes "from") _ c.loop-left.invariant.from;
+      message_id = all (codes "message-id") _ c.loop-left.invariant.message_id;
+      date = all (codes "date") _ c.loop-left.invariant.date;
+    }

@@ -1,4 +1,4 @@
-// Runs of events, and a call that comes back.
+//! Runs of events, and a call that comes back.
 use super::scene::{Failing, Scene, plays};
 use super::{NOW, has_names, letter, submitted};
 use md_core::{Answer, Call, CallError, Change, CoreError, Effect, Event, RunStop};

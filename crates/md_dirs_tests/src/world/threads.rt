@@ -1,4 +1,4 @@
-// A world that crosses threads, alone and inside a lock.
+//! A world that crosses threads, alone and inside a lock.
 use super::{NOW, are_right, has_names, letter, load, submitted};
 use md_core::{Call, CoreError, Effect, JobId, World};
 use md_dirs::{FailAt, Place, PlainDirs};

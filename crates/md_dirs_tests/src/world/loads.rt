@@ -1,4 +1,4 @@
-// Directories that a world is given, and that come back where it refuses them.
+//! Directories that a world is given, and that come back where it refuses them.
 use super::BODY;
 use super::scene::{Scene, plays};
 use md_core::{CoreError, LoadRefused, World};

@@ -1,4 +1,4 @@
-// Calls over directories of which one call fails, by their steps and in one.
+//! Calls over directories of which one call fails, by their steps and in one.
 use super::scene::{Failing, Scene, plays};
 use super::{NOW, called, has_names, letter, submitted};
 use DirCall::{Append, Create, Link, List, Rename, Unlink};

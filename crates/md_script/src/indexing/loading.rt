@@ -6,9 +6,10 @@ ghost use Rattle.md_script.specs.Sessions.{run_over};
 ghost use Rattle.md_script.specs.Words.{Gives};
 ghost use Rattle.md_script.specs.declared.error.PlayKind.TheVariants.{NoMemory};
 
+use crate::error::{PlayError, PlayKind};
+use crate::store::open_store;
 use md_core::World;
 use md_dirs::{HashSeed, ImageFile, IndexDirs};
-use md_script::{PlayError, PlayKind, open_store};
 use std::alloc::Global;
 
 /// The store over folders, as many as there are names, and files, whose names are hashed by a seed. Refused as `open_store` is.

@@ -1,4 +1,4 @@
-// Names that a world refuses to deliveries, over directories that tell at a quick look that no name has a fault.
+//! Names that a world refuses to deliveries, over directories that tell at a quick look that no name has a fault.
 use super::scene::{Scene, plays};
 use super::{BODY, letter, load, submitted};
 use md_core::{CoreError, World};

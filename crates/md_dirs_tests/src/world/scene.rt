@@ -1,4 +1,4 @@
-// Makes a world for a scene, and lends it. So it is let go in one place alone.
+//! Makes a world for a scene, and lends it. So it is let go in one place alone.
 use super::ends::{Next, begins_again};
 use super::faults::{Act, acts};
 use super::loads::{Faulty, directories, is_first, is_refused};

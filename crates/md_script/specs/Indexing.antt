@@ -40,14 +40,14 @@ message_text m name e = indexed_text name e.unique (summary_of (bytes_in m e.uni
 abbrev pub folder_text : Mailbox → ℕ → List ℕ → List ℕ
 folder_text m folder name = flat_map (message_text m name) (listing_in m folder)
 
--- the messages of folders, of which the first has this number
-unfoldable pub index_from : Mailbox → ℕ → List (List ℕ) → List ℕ
-index_from m folder [] = []
-index_from m folder (name ∷ names) = folder_text m folder name ++ index_from m (folder + 1) names
+-- the texts of folders of these names, of which the first has this number
+unfoldable pub of_folders : (ℕ → List ℕ → List ℕ) → ℕ → List (List ℕ) → List ℕ
+of_folders text folder [] = []
+of_folders text folder (name ∷ names) = text folder name ++ of_folders text (folder + 1) names
 
 -- the index of the messages of a store
 abbrev pub index_of_run : List (List ℕ) → Run → List ℕ
-index_of_run names r = index_from (mailbox_of (dirs_of r)) 0 names
+index_of_run names r = of_folders (folder_text (mailbox_of (dirs_of r))) 0 names
 
 -- the index over a store of folders and files, or why it can't be opened
 unfoldable pub index_over : List (List ℕ) → List ImageFile → Result (List ℕ) PlayKind

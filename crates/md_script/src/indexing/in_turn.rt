@@ -3,9 +3,9 @@ ghost use Rattle.std.specs.Prelude.{◌≡◌, ◌++◌, OnOk};
 ghost use Rattle.std.specs.List.{flat_map};
 ghost use Rattle.md_core.specs.Mailbox.{mailbox_of};
 ghost use Rattle.md_core.specs.Runs.{dirs_of};
-ghost use Rattle.md_indexing.specs.Indexing.{folder_text, message_text};
+ghost use Rattle.md_script.specs.Indexing.{folder_text, message_text};
 
-use crate::folder::{bytes_of, listing, push_indexed};
+use crate::indexing::folder::{bytes_of, list_folder, push_indexed};
 use md_core::World;
 use md_dirs::Dirs;
 use md_head::{HeadError, summary};
@@ -14,7 +14,7 @@ use std::alloc::{AllocError, Global};
 
 /// Appends the index of the folder of this number under this name. No summary is kept: each is appended as soon as it is made. Where it is
 /// refused, memory was, and some of it may have been appended.
-pub(crate) fn push_folder<D: Dirs>(
+pub(super) fn push_folder<D: Dirs>(
     alloc: Global,
     world: &World<D>,
     folder: u32,
@@ -23,13 +23,13 @@ pub(crate) fn push_folder<D: Dirs>(
 ) -> Result<(), AllocError>
     ensures { OnOk result (out.new.items ≡ out.old.items ++ folder_text (mailbox_of (dirs_of world.now)) folder name.now) }
 {
-    let Ok(entries) = listing(alloc, world, folder) else {
+    let Ok(entries) = list_folder(alloc, world, folder) else {
         return Err(AllocError);
     };
     push_messages(alloc, world, name, &entries, out)
 }
 
-/// Appends messages of a folder of this name.
+// Appends messages of a folder of this name.
 fn push_messages<D: Dirs>(
     alloc: Global,
     world: &World<D>,
@@ -45,7 +45,7 @@ fn push_messages<D: Dirs>(
     Ok(())
 }
 
-/// Appends a message of a folder of this name.
+// Appends a message of a folder of this name.
 fn push_message<D: Dirs>(
     alloc: Global,
     world: &World<D>,

@@ -3,17 +3,17 @@ ghost use Rattle.std.specs.Prelude.{◌≡◌, ◌<◌, ◌++◌, IfOk, IfErr, O
 ghost use Rattle.md_core.specs.Mailbox.{mailbox_of};
 ghost use Rattle.md_core.specs.Runs.{dirs_of};
 ghost use Rattle.md_view.specs.Readings.{reading_refusal};
-ghost use Rattle.md_indexing.specs.Indexing.{bytes_in, indexed_text, listing_in};
+ghost use Rattle.md_script.specs.Indexing.{bytes_in, indexed_text, listing_in};
 
+use crate::summary::push_summary;
 use md_core::World;
 use md_dirs::Dirs;
 use md_head::Summary;
-use md_script::push_summary;
 use md_view::{EntryRef, ViewError, list_lent};
 use std::alloc::{AllocError, Global};
 
 /// The listing of a folder now, each entry lent by the world. It is refused as `md_view::list_lent` is.
-pub fn listing<'a, D: Dirs>(
+pub fn list_folder<'a, D: Dirs>(
     alloc: Global,
     world: &'a World<D>,
     folder: u32,

@@ -1,7 +1,7 @@
-// What no clause says, and neither a built program nor a call of the library for C shows: faults of the directories, what comes back with a
-// refusal, the texts of errors, and what may cross threads. Each scene is played twice, of which one refused allocation anywhere ends one at
-// most. What else it leaves, and worked values of loads, submits, steps and settles, is tested of the library for C, by tools/tests/ffi.
-// Worked runs of all seven calls are scripts, in crates/examples/data/.
+//! What no clause says, and neither a built program nor a call of the library for C shows: faults of the directories, what comes back with a
+//! refusal, the texts of errors, and what may cross threads. Each scene is played twice, of which one refused allocation anywhere ends one at
+//! most. What else it leaves, and worked values of loads, submits, steps and settles, is tested of the library for C, by tools/tests/ffi.
+//! Worked runs of all seven calls are scripts, in crates/examples/data/.
 mod ends;
 mod faults;
 mod loads;

@@ -1,5 +1,5 @@
-// Directories whose world ends, and which go on in another: a settled one keeps its clock, and a loaded one begins with their stamps. That 10,000
-// calls may be made again, which job is named that has no answer, and to which second the clock is kept, is tested by tools/tests/ffi.
+//! Directories whose world ends, and which go on in another: a settled one keeps its clock, and a loaded one begins with their stamps. That 10,000
+//! calls may be made again, which job is named that has no answer, and to which second the clock is kept, is tested by tools/tests/ffi.
 use super::loads::directories;
 use super::scene::{Failing, Scene, plays};
 use super::{NOW, called, has_names, letter, load};

@@ -1,4 +1,4 @@
-// What errors print.
+//! What errors print.
 use super::scene::{Scene, plays};
 use CoreError::{
     Answered, BadChunk, BadName, BadTries, BadUnique, BodyTooLong, DuplicateUnique, LongUnique,

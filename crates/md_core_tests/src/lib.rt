@@ -1,5 +1,0 @@
-//! Tests of `md_core`.
-#![tactic(auto)]
-
-#[cfg(test)]
-mod tests;
