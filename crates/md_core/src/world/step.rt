@@ -4,6 +4,7 @@ ghost use Rattle.md_jobs.specs.Asked.{is_fault};
 ghost use Rattle.md_core.specs.Machine.{occurrence, job_at};
 ghost use Rattle.md_core.specs.Standing.{standings};
 ghost use Rattle.md_core.specs.Runs.{jobs_of, and_event, step_refusal, steps_left, IsRefusal};
+ghost use Rattle.md_core.specs.Interleaving.{Interleaves};
 ghost use Rattle.md_core.specs.Tracing.{trace_of, GrowsByStep};
 ghost use Rattle.md_core.specs.Stepping.{ShowsStep, Succeeds};
 
@@ -56,6 +57,7 @@ impl<D: Dirs> World<D> {
         // Each step leaves its job fewer steps, and the other jobs as they were.
         ensures nearer { OnOk result (steps_left self.new job < steps_left self.old job) }
         ensures others { OnOk result ((n : _) → n ≢ job → job_at (jobs_of self.new) n ≡ job_at (jobs_of self.old) n) }
+        ensures theorem { OnOk result (Interleaves (trace_of self.new)) }
     {
         let at = unanswered(&self.jobs, job)?;
         self.log.reserve()?;

@@ -5,6 +5,7 @@ use Rattle.md_core.specs.Runs.{Run, machine_of, jobs_of, and_event, step_refusal
 use Rattle.md_core.proofs.Machines.EachTurn.{each-turn}
 use Rattle.md_core.proofs.Theorem.Bounds.{steps_left-less, jobs-same}
 use Rattle.md_core.proofs.Theorem.LawHolds.{run-law}
+use Rattle.md_core.proofs.Traces.All.{interleaves}
 use Rattle.md_core.proofs.Traces.Grown.{grows-by-step}
 use Rattle.md_core.proofs.Worlds.Steps.{shows, succeeds}
 use Rattle.md_core.proofs.Worlds.Stepping.{working-at, moment-is, Stepped, steps}
@@ -110,3 +111,6 @@ returns-clause-others g c =
     let what = occurrence c.args.job c.args.now c.args.own (is_fault c.in_ok-turned.turned.out.reply) in
     let old = before g (goal.at.returns-clause-others g c).After-push in
     λ k differ. ap (λ (a : Run). job_at (jobs_of a) k) (returns-clause-event g c) ∙ jobs-same c.args.self.now old.0 each-turn what old.1.0 k differ
+
+pub returns-clause-theorem : goal.returns-clause-theorem
+returns-clause-theorem g c = interleaves _ (invariant_of-self-2 g c).run
