@@ -17,6 +17,8 @@ use Rattle.std.specs.FinMap as finmap
 use Rattle.std.specs.Ordering.{eq_by_cmp}
 use Rattle.std.specs.FinMap.{from_entries, same_map, get-insert, get-remove}
 use Rattle.md_name.specs.Names.{unique_of}
+use Rattle.std.proofs.lemmas.Bool.{false_from_ne_true, not-true, not-false}
+use Rattle.lists.proofs.Options.{or-none}
 use Rattle.md_dirs.specs.Named.{Row, is_alike, alike_equiv}
 use Rattle.md_dirs.specs.Index.{name_cmp, get_name}
 use Rattle.md_dirs.proofs.NameRows.{same, name_total, name_exact, get-loose, put-loose, taken-loose, turned-test, get-within}
@@ -31,16 +33,12 @@ tested x y h = (bytes_decides x y).1 h
 pub turned : (x y : List ℕ) → same x y ≡ same y x
 turned x y = nat_list_eq_equiv.symm x y
 
-pub untrue : (b : Bool) → (b ≡ true → ⊥) → b ≡ false
-untrue true h = absurd (h refl)
-untrue false h = refl
-
 -- names that are one are alike
 pub alike-name : (x e : Row) → same x.0 e.0 ≡ true → is_alike x e ≡ true
 alike-name x e h = tested (unique_of x.0) (unique_of e.0) (ap unique_of (equal x.0 e.0 h))
 
 pub unlike-name : (x e : Row) → is_alike x e ≡ false → same x.0 e.0 ≡ false
-unlike-name x e h = untrue _ (λ is. let both = alike-name x e is in cc)
+unlike-name x e h = false_from_ne_true _ (λ is. let both = alike-name x e is in cc)
 
 -- look-ups in two lists
 pub lookup-two : (test : List ℕ → Bool) (xs ys : List Row) → lookup test (xs ++ ys) ≡ option_or (lookup test xs) (lookup test ys)
@@ -211,12 +209,8 @@ pushed rows x none q =
     ∙ elim (same x.0 q) as (λ b. same x.0 q ≡ b → option_or (get_name rows q) (cond (same q x.0) (Some x.1) None) ≡ cond b (Some x.1) (get_name rows q)) [
       | true ↦ λ t.
           (λ i. option_or ((ap (get_name rows) (sym (equal x.0 q t)) ∙ none) i) (cond ((turned q x.0 ∙ t) i) (Some x.1) None))
-      | false ↦ λ t. ap (λ b. option_or (get_name rows q) (cond b (Some x.1) None)) (turned q x.0 ∙ t) ∙ none-right (get_name rows q)
+      | false ↦ λ t. ap (λ b. option_or (get_name rows q) (cond b (Some x.1) None)) (turned q x.0 ∙ t) ∙ or-none (get_name rows q)
     ] refl
-  where
-    none-right : (a : Option ℕ) → option_or a None ≡ a
-    none-right None = refl
-    none-right (Some y) = refl
 
 -- a row goes, and the last takes its place
 permuted : (es fs : List Row) → IsPermutation es fs → IsDistinct same (keys_of fs) → (q : List ℕ) → get_name fs q ≡ get_name es q
@@ -275,7 +269,7 @@ swap-is x (e ∷ rows) row d h = elim (is_alike x e) as (λ b. is_alike x e ≡ 
           let name = ap (λ (r : Row). r.0) here in
           (λ i. cond (sym (tested row.0 e.0 (sym name)) i) x e ∷ sym (unmoved row.0 x rows (unnamed row.0 e rows name d.0)) i)
       | false ↦ λ t is.
-          let other : same row.0 e.0 ≡ false = untrue _ (λ named.
+          let other : same row.0 e.0 ≡ false = false_from_ne_true _ (λ named.
           let is_like : is_alike x e ≡ true = ap (λ w. same (unique_of x.0) (unique_of w)) (sym (equal row.0 e.0 named)) ∙ found-alike x rows row is in cc) in
           (λ i. cond (sym other i) x e ∷ swap-is x rows row d.1 is i)
     ] refl h
@@ -335,7 +329,7 @@ moved-names o k v es w some none q =
     elim (same k q) as (λ b. same k q ≡ b → get_name (map (moved o (k, v)) es) q ≡ cond (same o q) None (cond b (Some v) (get_name es q))) [
       | true ↦ λ t.
           let name = equal k q t in
-          let other : same o q ≡ false = untrue _ (λ is. let one : get_name es o ≡ None = ap (get_name es) (equal o q is ∙ sym name) ∙ none in cc) in
+          let other : same o q ≡ false = false_from_ne_true _ (λ is. let one : get_name es o ≡ None = ap (get_name es) (equal o q is ∙ sym name) ∙ none in cc) in
           ap (get_name (map (moved o (k, v)) es)) (sym name) ∙ moved-new o k v es w some none ∙ (λ i. cond (sym other i) None (Some v))
       | false ↦ λ t. moved-else o k v es q (turned q k ∙ t)
     ] refl
@@ -398,7 +392,7 @@ found-row x (e ∷ rows) o w d like some = elim (is_alike x e) as (λ b. is_alik
         ] some)),
       )
       | false ↦ λ t.
-          let other : same o e.0 ≡ false = untrue _ (λ is.
+          let other : same o e.0 ≡ false = false_from_ne_true _ (λ is.
           let is_like : is_alike x e ≡ true = ap (λ u. same (unique_of x.0) (unique_of u)) (sym (equal o e.0 is)) ∙ like in cc) in
           found-row x rows o w d.1 like (ap (λ b. cond b (Some e.1) (get_name rows o)) (sym other) ∙ some)
     ] refl
@@ -499,25 +493,12 @@ insert-there x rows new at is_new told old made place =
       made ∙ ap (λ b. cond b rows (rows ++ x ∷ [])) any,
       (e.0, ap (slice_get rows) place ∙ sym (find_at (is_alike x) rows) ∙ e.1, e.1),
     )
-  where
-    not-false : (b : Bool) → not b ≡ false → b ≡ true
-    not-false true h = refl
-    not-false false h = cc
 
 pub insert-new : (x : Row) (rows new : List Row) (at : ℕ) (is_new : Bool) → is_new ≡ not (list_any (is_alike x) rows) → is_new ≡ true → new ≡ inserted rows x
     → at ≡ position_or_len (is_alike x) rows → (new ≡ rows ++ x ∷ []) × (at ≡ length rows)
 insert-new x rows new at is_new told old made place =
     let none : list_any (is_alike x) rows ≡ false = not-true (list_any (is_alike x) rows) (sym told ∙ old) in
     (made ∙ ap (λ b. cond b rows (rows ++ x ∷ [])) none, place ∙ all-passed x rows none)
-  where
-    not-true : (b : Bool) → not b ≡ true → b ≡ false
-    not-true true h = cc
-    not-true false h = refl
-
--- neither has what both together lack
-pub neither : (a b : Option ℕ) → option_or a b ≡ None → (a ≡ None) × (b ≡ None)
-neither None b h = (refl, h)
-neither (Some x) b h = cc
 
 -- a row that gets another name of its unique part
 pub renamed-row : (rows new : List Row) (o k : List ℕ) (v w : ℕ) → IsDistinct is_alike rows → same (unique_of o) (unique_of k) ≡ true

@@ -1,7 +1,8 @@
 -- Files of an image that are made in turn: what stays to be made, and what is refused.
-use Rattle.std.proofs.Common.{◌≡◌, ◌⊎◌, inl, inr, ◌+◌, ◌<◌, ◌++◌, List, [], ◌∷◌, Option, Some, None, refl, sym, ap, ◌∙◌, length, take, drop, map, get_or}
+use Rattle.std.proofs.Common.{◌≡◌, ◌⊎◌, inl, inr, ◌+◌, ◌<◌, ◌++◌, List, [], ◌∷◌, Some, None, refl, sym, ap, ◌∙◌, length, take, drop, map, get_or}
 use Rattle.std.specs.Option.{option_or}
 use Rattle.std.proofs.lemmas.List.{take-append-drop, drop_more}
+use Rattle.lists.proofs.Options.{neither}
 use Rattle.md_dirs.specs.State.{State}
 use Rattle.md_dirs.specs.Image.{put, state_with, refusal_with}
 use Rattle.md_dirs.specs.declared.image.ImageFile.{ImageFile}
@@ -11,10 +12,6 @@ use Rattle.md_dirs.specs.declared.calls.DirError.TheVariants.{NoMemory}
 pub state_with-append : (s : State) (xs ys : List ImageFile) → state_with s (xs ++ ys) ≡ state_with (state_with s xs) ys
 state_with-append s [] ys = refl
 state_with-append s (x ∷ xs) ys = state_with-append ((put x).after s) xs ys
-
-pub neither : (a b : Option DirError) → option_or a b ≡ None → (a ≡ None) × (b ≡ None)
-neither None b is = (refl, is)
-neither (Some e) b is = cc
 
 -- where the first files are made, the first refusal is that of the others
 pub refusal_with-append : (s : State) (xs ys : List ImageFile) → refusal_with s xs ≡ None → refusal_with s (xs ++ ys) ≡ refusal_with (state_with s xs) ys

@@ -13,7 +13,7 @@ use Rattle.md_dirs.specs.declared.calls.DirError.TheVariants.{Exists, NotFound}
 use Rattle.md_dirs.proofs.PathOrder.{path_total, path_exact}
 use Rattle.lists.proofs.Maps as maps
 use Rattle.md_dirs.proofs.Sound.{sound-placed, sound-named, sound-moved, file_by-last}
-use Rattle.md_dirs.proofs.Filled.{neither}
+use Rattle.lists.proofs.Options.{neither}
 
 free-of : (b : Bool) (o : Option ℕ) → cond b (cond (is_some o) (Some Exists) None) (Some NotFound) ≡ None → o ≡ None
 free-of true None is = refl

@@ -1,5 +1,5 @@
 -- A table without names beside it holds each unique part once.
-use Rattle.std.proofs.Common.{ℕ, ◌≡◌, ◌++◌, ◌∙◌, List, [], Option, Some, None, IsSome, refl, sym, ap, subst}
+use Rattle.std.proofs.Common.{ℕ, ◌≡◌, ◌++◌, ◌∙◌, List, [], IsSome, refl, sym, ap, subst}
 use Rattle.std.specs.List.{IsDistinct}
 use Rattle.std.specs.Option.{option_or}
 use Rattle.std.specs.FinMap as finmap
@@ -8,12 +8,8 @@ use Rattle.md_name.specs.Names.{unique_of}
 use Rattle.md_dirs.specs.Index.{name_cmp, get_name}
 use Rattle.md_dirs.specs.Named.{Row, is_alike}
 use Rattle.md_dirs.specs.Once.{EachOnce}
-use Rattle.lists.proofs.Options.{value}
+use Rattle.lists.proofs.Options.{value, or-none}
 use Rattle.md_dirs.proofs.Alike.{get-both, found-row, tested}
-
-or-none : (o : Option ℕ) → option_or o None ≡ o
-or-none None = refl
-or-none (Some n) = refl
 
 in-table : (rows others : List Row) → others ≡ [] → (q : List ℕ) → finmap.get (from_entries {R = name_cmp} (rows ++ others)) q ≡ get_name rows q
 in-table rows others none q =

@@ -6,6 +6,7 @@ use Rattle.std.specs.Option.{option_flatten}
 use Rattle.std.specs.FinMap as finmap
 use Rattle.std.specs.FinMap.{get-empty, entries}
 use Rattle.lists.proofs.Options.{value, is-there}
+use Rattle.lists.proofs.Pushed.{last-is}
 use Rattle.md_dirs.specs.Path.{path_cmp}
 use Rattle.md_dirs.specs.State.{State, IsSound, bare, file_at, file_by}
 use Rattle.md_dirs.specs.Calls.{with_new_file, after_create, empty_file, after_append, file_with_more, with_path, without_path, after_unlink, after_rename, with_files_still_named, has_path_to, is_one_file}
@@ -44,10 +45,6 @@ get-push [] x i within = absurd (omega arith)
 get-push (y ∷ ys) x zero within = refl
 get-push (y ∷ ys) x (suc i) within = get-push ys x i (omega arith)
 
-get-last : {X : Type 0} (xs : List X) (x : X) → slice_get (xs ++ x ∷ []) (length xs) ≡ Some x
-get-last [] x = refl
-get-last (y ∷ ys) x = get-last ys x
-
 get-early : {X : Type 0} (xs : List X) (x y : X) (i : ℕ) → slice_get (xs ++ x ∷ []) i ≡ Some y → i ≢ length xs → slice_get xs i ≡ Some y
 get-early [] x y zero is not = absurd (not refl)
 get-early [] x y (suc i) is not = cc
@@ -58,6 +55,9 @@ get-early (z ∷ zs) x y (suc i) is not = get-early zs x y i is (λ same. not (a
 flat : (o : Option (Option File)) (file : File) → option_flatten o ≡ Some file → o ≡ Some (Some file)
 flat None file is = cc
 flat (Some o) file is = ap Some is
+
+pub some_file : (o : Option File) → IsSome o → (file : File) × (o ≡ Some file)
+some_file = value
 
 pub file-within : (files : List (Option File)) (n : ℕ) → IsSome (file_by files n) → n < length files
 file-within files n is =
@@ -74,7 +74,7 @@ pub file_by-push : (files : List (Option File)) (o : Option File) (n : ℕ) → 
 file_by-push files o n within = ap option_flatten (get-push files o n within)
 
 pub file_by-last : (files : List (Option File)) (o : Option File) → file_by (files ++ o ∷ []) (length files) ≡ o
-file_by-last files o = ap option_flatten (get-last files o)
+file_by-last files o = ap option_flatten (last-is files o)
 
 -- whether a path names a file
 named-among : (q : Path) (n : ℕ) (rows : List (Path × ℕ)) → Has rows (q, n) → has_path_to rows n ≡ true
