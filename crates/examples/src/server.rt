@@ -1,7 +1,7 @@
 //! The heart of a server. In a round, threads share a store: each delivers messages, marks them seen and lists. Between two rounds the store
 //! is closed, its world settles, and it is opened again: so there is no end of calls.
 ghost use Rattle.std.specs.Prelude.{◌≡◌};
-ghost use Rattle.md_replica.specs.Named.{named_of};
+ghost use Rattle.md_view.specs.Named.{named_of};
 ghost use Rattle.md_store.specs.Locks.{IsFresh};
 
 use crate::call::go_on;

@@ -2,7 +2,7 @@
 use Rattle.std.proofs.Common.{◌≡◌, [], sym, ap, ◌∙◌}
 use Rattle.md_core.specs.Machine.{Machine}
 use Rattle.md_core.specs.Runs.{Run, beginning, run_from, machine_of, dirs_of, effects_of}
-use Rattle.md_replica.specs.Named.{Named}
+use Rattle.md_view.specs.Named.{Named}
 use Rattle.md_store.specs.declared.rule.Knowledge.{Knowledge}
 use Rattle.md_store.specs.Pages.{Page}
 use Rattle.md_store.specs.Histories.{named_after}

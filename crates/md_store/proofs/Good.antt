@@ -11,7 +11,7 @@ use Rattle.md_core.specs.Mailbox.{is_tmp}
 use Rattle.md_jobs.specs.declared.effect.Effect.{Effect}
 use Rattle.md_view.specs.declared.entry.Entry.{Entry}
 use Rattle.md_view.specs.Law.{names_after_first}
-use Rattle.md_replica.specs.Named.{Named, AreMessages}
+use Rattle.md_view.specs.Named.{Named, AreMessages}
 use Rattle.md_view.specs.Readings.{reading_of, join_of, IsInOrder}
 use Rattle.md_view.proofs.Keyed.{in-order}
 use Rattle.md_view.proofs.LawHolds.{good-listing, LegalKeepPlaces}

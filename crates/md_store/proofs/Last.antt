@@ -7,7 +7,7 @@ use Rattle.md_core.specs.Interleaving.{Interleaves}
 use Rattle.md_core.specs.Tracing.{trace_of, IsShown}
 use Rattle.md_core.specs.Mailbox.{mailbox_of}
 use Rattle.md_core.specs.Runs.{Run, dirs_of, effects_of}
-use Rattle.md_replica.specs.Named.{Named, named_of}
+use Rattle.md_view.specs.Named.{Named, named_of}
 use Rattle.md_view.specs.Readings.{reading_of, join_of}
 use Rattle.md_store.specs.Histories.{listing}
 use Rattle.md_store.specs.Listing.{ShowsLast}

@@ -14,8 +14,8 @@ use Rattle.md_core.specs.Mailbox.{is_tmp}
 use Rattle.md_jobs.specs.declared.effect.Change.{Change}
 use Rattle.md_jobs.specs.declared.effect.Change.TheVariants as change
 use Rattle.md_jobs.specs.declared.effect.Effect.{Effect}
-use Rattle.md_replica.specs.Named.{Named, IsMessage, AreMessages, is_listed, is_free, fits, after_change}
-use Rattle.md_replica.proofs.Fitting.{allowed-applied, nowhere}
+use Rattle.md_view.specs.Named.{Named, IsMessage, AreMessages, is_listed, is_free, fits, after_change}
+use Rattle.md_view.proofs.Held.Fitting.{allowed-applied, nowhere}
 use Rattle.md_view.proofs.Rows.{and-first, and-second}
 use Rattle.md_store.specs.Histories.{named_after, IsLegalFrom}
 

@@ -3,7 +3,7 @@ use Rattle.std.proofs.Common.{ℕ, ◌≡◌, ◌<◌, true, List, Option, sym, 
 use mathlib.Core.List.{IsPrefix}
 use Rattle.md_jobs.specs.declared.effect.Effect.{Effect}
 use Rattle.md_view.specs.declared.entry.Entry.{Entry}
-use Rattle.md_replica.specs.Named.{Named, AreMessages}
+use Rattle.md_view.specs.Named.{Named, AreMessages}
 use Rattle.md_store.specs.declared.error.ListError.{ListError}
 use Rattle.md_store.specs.declared.rule.Knowledge.{Knowledge}
 use Rattle.md_store.specs.Histories.{named_after, IsLegalFrom}

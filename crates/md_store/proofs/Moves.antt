@@ -16,7 +16,7 @@ use Rattle.md_core.specs.Machine.{Machine, Occurrence, occurrence, step_by, task
 use Rattle.md_core.specs.Trace.{Step}
 use Rattle.md_core.specs.Runs.{Run, machine_of, and_event, and_call, effects_of}
 use Rattle.md_core.specs.Stepping.{ShowsStep}
-use Rattle.md_replica.specs.Named.{Named, named_of}
+use Rattle.md_view.specs.Named.{Named, named_of}
 use Rattle.md_store.specs.declared.rule.Knowledge.{Knowledge}
 use Rattle.md_store.specs.Ongoing.{IsSince, GoesOn}
 use Rattle.md_store.specs.Pages.{Course, Page, Note}

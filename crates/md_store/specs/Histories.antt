@@ -5,7 +5,7 @@ use Rattle.md_dirs.specs.declared.paths.Place.TheVariants.{New, Cur}
 use Rattle.md_core.specs.History.{names_after, IsLegal}
 use Rattle.md_jobs.specs.declared.effect.Effect.{Effect}
 use Rattle.md_view.specs.declared.entry.Entry.{Entry}
-use Rattle.md_replica.specs.Named.{Named}
+use Rattle.md_view.specs.Named.{Named}
 use Rattle.md_view.specs.Readings.{reading_of, join_of}
 
 -- the names at the end of a history

@@ -8,7 +8,7 @@ use Rattle.md_core.specs.Mailbox.{mailbox_of}
 use Rattle.md_core.specs.Runs.{Run, dirs_of}
 use Rattle.md_view.specs.declared.entry.Entry.{Entry}
 use Rattle.md_view.specs.Law.{names_after_first, IsGoodListing}
-use Rattle.md_replica.specs.Named.{Named, AreMessages}
+use Rattle.md_view.specs.Named.{Named, AreMessages}
 use Rattle.md_view.specs.Readings.{reading_of, join_of}
 use Rattle.md_store.specs.Histories.{named_after, IsLegalFrom, read_at, listing}
 use Rattle.md_store.specs.Pages.{Log, Page}

@@ -15,7 +15,7 @@ use Rattle.md_jobs.specs.declared.error.CoreError.{CoreError}
 use Rattle.md_core.specs.Runs.{Run, dirs_of, jobs_of, effects_of, and_event, step_refusal, IsRefusal}
 use Rattle.md_core.specs.Submitting.{submit_refusal}
 use Rattle.md_jobs.specs.Asked.{is_fault}
-use Rattle.md_replica.specs.Named.{Named, named_of}
+use Rattle.md_view.specs.Named.{Named, named_of}
 use Rattle.md_store.specs.Ongoing.{IsSince, GoesOn}
 use Rattle.md_store.specs.Pages.{Course, Held, Page, Note}
 use Rattle.md_store.specs.Publishing.{knower, WaitsFor}

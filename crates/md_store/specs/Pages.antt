@@ -3,7 +3,7 @@ use Rattle.std.specs.Prelude.{List, []}
 use Rattle.logbook.specs.Pages.{Book}
 use Rattle.md_jobs.specs.declared.effect.Effect.{Effect}
 use Rattle.md_core.specs.Runs.{Run}
-use Rattle.md_replica.specs.Named.{Named}
+use Rattle.md_view.specs.Named.{Named}
 
 -- a beginning of the history of a book
 pub record Log : Type 0 where

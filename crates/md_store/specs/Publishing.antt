@@ -6,7 +6,7 @@ use mathlib.Core.List.{IsPrefix}
 use lib.ListN.{get_elem?}
 use Rattle.logbook.specs.Pages.{Book}
 use Rattle.md_jobs.specs.declared.effect.Effect.{Effect}
-use Rattle.md_replica.specs.Named.{Named, AreMessages, after_change}
+use Rattle.md_view.specs.Named.{Named, AreMessages, after_change}
 use Rattle.md_store.specs.Histories.{named_after, IsLegalFrom}
 use Rattle.md_store.specs.Pages.{Page, Note}
 use Rattle.md_store.specs.declared.rule.Knowledge.{Knowledge}

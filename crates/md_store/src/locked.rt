@@ -11,7 +11,7 @@ ghost use Rattle.md_core.specs.Submitting.{submit_refusal};
 ghost use Rattle.md_core.specs.Interleaving.{Interleaves};
 ghost use Rattle.md_core.specs.Tracing.{trace_of, GrowsByStep};
 ghost use Rattle.md_core.specs.Stepping.{IsRun, ShowsStep, Succeeds};
-ghost use Rattle.md_replica.specs.Named.{named_of};
+ghost use Rattle.md_view.specs.Named.{named_of};
 ghost use Rattle.md_store.specs.Histories.{IsLegalFrom};
 ghost use Rattle.md_store.specs.Publishing.{knower};
 ghost use Rattle.md_store.specs.Locks.{Lags};

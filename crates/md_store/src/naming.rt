@@ -5,7 +5,7 @@ use std::marker::Brand;
 pub trait Naming {
     ghost use Rattle.logbook.specs.Pages.{Book};
     ghost use Rattle.md_core.specs.Runs.{Run};
-    ghost use Rattle.md_replica.specs.Named.{Named};
+    ghost use Rattle.md_view.specs.Named.{Named};
 
     ghost begun: { Run };
 

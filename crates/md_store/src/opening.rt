@@ -1,7 +1,7 @@
 // How a store is opened: its passes, and the writer of what is published.
 ghost use Rattle.std.specs.Prelude.{◌≡◌, ◌<◌, ◌≤◌, ◌⊎◌, [], length, drop, All, IfOk, IfErr, MatchResult};
 ghost use Rattle.left_right.specs.Sides.{view};
-ghost use Rattle.md_replica.specs.Named.{named_of, AreMessages};
+ghost use Rattle.md_view.specs.Named.{named_of, AreMessages};
 ghost use Rattle.md_store.specs.declared.error.OpenError.TheVariants as refusal;
 ghost use Rattle.md_store.specs.Locks.{IsFresh};
 ghost use Rattle.md_core.specs.Stepping.{IsRun};
@@ -19,7 +19,7 @@ use crate::store::Store;
 use crate::writing::publish;
 use md_core::World;
 use md_dirs::Dirs;
-use md_replica::TreeNames;
+use md_view::TreeNames;
 use std::alloc::{AllocError, Global};
 use std::marker::Model;
 use std::sync::{Mutex, Wait};

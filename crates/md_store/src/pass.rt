@@ -2,7 +2,7 @@
 ghost use Rattle.std.specs.Prelude.{◌≡◌, ◌<◌, ◌≤◌, ◌⊎◌, true, false, length, IsTrue, IfOk, IfErr, IfSome, OnOk, OnErr, option_map};
 ghost use mathlib.Core.List.{IsPrefix};
 ghost use Rattle.left_right.specs.Sides.{view};
-ghost use Rattle.md_replica.specs.Named.{AreMessages};
+ghost use Rattle.md_view.specs.Named.{AreMessages};
 ghost use Rattle.md_view.specs.Readings.{IsInOrder};
 ghost use Rattle.md_store.specs.declared.error.ListError.TheVariants as refusal;
 ghost use Rattle.md_store.specs.Histories.{named_after, IsLegalFrom};
@@ -18,8 +18,7 @@ use crate::rule::{Learning, StoreReader};
 use crate::shown::Shown;
 use core::mem::replace_with;
 use md_dirs::Place;
-use md_replica::TreeNames;
-use md_view::Entry;
+use md_view::{Entry, TreeNames};
 use std::alloc::{AllocError, Global};
 use std::marker::{Model, PhantomData};
 

@@ -5,7 +5,7 @@ use atomic_table::{Join, Split};
 use crossbeam_utils::rule::{Outcome, Protocol};
 use left_right::reader::Reader;
 use left_right::writer::Writer;
-use md_replica::TreeNames;
+use md_view::TreeNames;
 
 /// What a seat knows. No value of it is made.
 pub struct Knowledge {

@@ -5,7 +5,7 @@ ghost use Rattle.md_store.specs.Publishing.{page_after};
 use crate::book::Front;
 use left_right::Absorb;
 use md_core::Effect;
-use md_replica::TreeNames;
+use md_view::TreeNames;
 use std::alloc::AllocError;
 use std::marker::Model;
 
@@ -46,7 +46,7 @@ pub struct Shown {
 impl Model for Shown {
     ghost use Rattle.std.specs.Coded.{codes};
     ghost use Rattle.md_name.specs.contracts.flags.Flags as flags;
-    ghost use Rattle.md_replica.specs.Named.{named_code};
+    ghost use Rattle.md_view.specs.Named.{named_code};
     ghost use Rattle.md_store.specs.Pages.{Page};
 
     ghost Value = { Page };

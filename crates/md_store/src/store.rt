@@ -4,7 +4,7 @@ ghost use mathlib.Core.List.{IsPrefix};
 ghost use Rattle.md_dirs.specs.declared.paths.Place.TheVariants.{New};
 ghost use Rattle.md_jobs.specs.declared.error.CoreError.TheVariants as core;
 ghost use Rattle.md_core.specs.Runs.{effects_of};
-ghost use Rattle.md_replica.specs.Named.{named_of};
+ghost use Rattle.md_view.specs.Named.{named_of};
 ghost use Rattle.md_store.specs.declared.error.ListError.TheVariants as refusal;
 ghost use Rattle.md_store.specs.Calling.{RefusesSince};
 ghost use Rattle.md_store.specs.Histories.{IsLegalFrom, read_at};

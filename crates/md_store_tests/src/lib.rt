@@ -1,4 +1,4 @@
-//! Tests of `md_store`.
+//! Tests of `md_view` and `md_store`.
 #![tactic(auto)]
 
 #[cfg(test)]

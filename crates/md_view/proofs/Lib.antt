@@ -13,3 +13,4 @@ pub mod LawHolds
 pub mod Made
 pub mod Owning
 pub mod Waiting
+pub mod Held

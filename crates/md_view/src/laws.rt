@@ -1,11 +1,14 @@
-//! What a listing is good for. The law is a function that does nothing: its contract is the law, and a caller that calls it may rely on it.
-ghost use Rattle.std.specs.Prelude.{◌≤◌};
-ghost use Rattle.md_core.specs.History.{names_of, IsLegal};
+//! What a listing is good for, and which changes fit the names of a store. A law is a function that does nothing: its contract is the law, and
+//! a caller that calls it may rely on it.
+ghost use Rattle.std.specs.Prelude.{◌≡◌, ◌≤◌, List, true};
+ghost use Rattle.md_core.specs.History.{names_of, names_after, IsAllowedAfter, IsLegal};
 ghost use Rattle.md_core.specs.Mailbox.{mailbox_of};
 ghost use Rattle.md_core.specs.Runs.{Run, dirs_of};
 ghost use Rattle.md_core.specs.Stepping.{IsRun};
+ghost use Rattle.md_jobs.specs.declared.effect.Effect.{Effect as EffectSeen};
 ghost use Rattle.md_view.specs.declared.listing.BegunListing.{BegunListing};
 ghost use Rattle.md_view.specs.Law.{names_at, names_after_first, listing_of, IsGoodListing, HasBegun, Continues};
+ghost use Rattle.md_view.specs.Named.{Named, AreMessages, fits};
 
 use md_core::{Effect, World};
 use md_dirs::Dirs;
@@ -47,3 +50,10 @@ pub fn a_listing_may_wait()
     md_core::laws::steps_keep_moments();
     md_core::laws::calls_keep_moments();
 }
+
+/// What a legal history allows fits: where a history led to names of messages, the change of every effect that is allowed next fits
+/// them, so `Names::apply` makes it.
+pub fn what_is_allowed_fits()
+    ensures { (opening : Named) (history : List EffectSeen) (next : EffectSeen) → AreMessages (record opening { names = names_after opening.names history })
+        → IsAllowedAfter opening.folders opening.names history next → fits (record opening { names = names_after opening.names history }) next.change ≡ true }
+{}

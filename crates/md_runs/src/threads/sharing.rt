@@ -5,7 +5,7 @@ ghost use Rattle.md_core.specs.Mailbox.{mailbox_of};
 ghost use Rattle.md_core.specs.Runs.{dirs_of};
 ghost use Rattle.md_store.specs.Locks.{IsFresh};
 ghost use Rattle.md_store.specs.Ongoing.{IsSince};
-ghost use Rattle.md_replica.specs.Named.{named_of};
+ghost use Rattle.md_view.specs.Named.{named_of};
 ghost use Rattle.md_script.specs.Folders.{names_of};
 ghost use Rattle.md_runs.specs.Threading.{folders_text, IsStop};
 

@@ -251,7 +251,7 @@ fn look<J: Naming, R: Wait>(
     match verb {
         "lists" => lists(on.alloc, on.store, pass, folder, more) == Ok(true),
         "lists-again" => lists_again(on, pass, rest),
-        "no-folder" => { lists(on.alloc, on.store, pass, folder, "") == Err(ListError::NoFolder) }
+        "no-folder" => { lists(on.alloc, on.store, pass, 2, "") == Err(ListError::NoFolder) }
         "second" => ends_listing(on, pass, rest),
         "holds" => pass.len() == number(word),
         "reads" => reads(rt, on, word, more),

@@ -12,10 +12,8 @@ fn is_run<R: Threads + Wait + Abort + Sync>(rt: &R, alloc: Global) -> bool {
             let stampede = Stampede::new(alloc, &image, 0, 128);
             let plan = Plan {
                 scene: Scene::Stampede(&stampede),
-                folders: 2,
-                passes: THREADS,
-                files: "",
                 calls: "",
+                passes: THREADS,
                 wanted: (0, 0, 0),
             };
             stage(rt, alloc, &plan, image) == Some(None)

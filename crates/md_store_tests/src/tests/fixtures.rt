@@ -120,11 +120,16 @@ pub fn file(alloc: Global, folder: u32, row: &str) -> Result<ImageFile, AllocErr
     })
 }
 
-// The messages of folder 0 of these rows, between bars.
+// Whether a row is of a file.
+pub fn is_file(row: &str) -> bool {
+    row.starts_with("new ") || row.starts_with("cur ")
+}
+
+// The messages of folder 0 among these rows, between bars.
 pub fn files(alloc: Global, rows: &str) -> Result<Vec<ImageFile>, AllocError> {
     let mut image = Vec::new(alloc);
     for row in rows.split('|') {
-        if !row.is_empty() {
+        if is_file(row) {
             image.push(file(alloc, 0, row)?)?;
         }
     }

@@ -1,10 +1,10 @@
 // Opens a store for a test, plays a scene there, and looks at its world. The store and its passes are lent to the scene, so that each is
 // let go in one place alone.
 ghost use Rattle.std.specs.Prelude.{◌≡◌, IfSome};
-ghost use Rattle.md_replica.specs.Named.{named_of};
+ghost use Rattle.md_view.specs.Named.{named_of};
 ghost use Rattle.md_store.specs.Locks.{IsFresh};
 
-use super::fixtures::{call, files};
+use super::fixtures::{call, files, is_file};
 use super::gated::{Gate, Gated};
 use super::stages::play_stages;
 use super::stampede::{Stampede, are_beginnings, run_all};
@@ -18,39 +18,53 @@ use std::sync::atomic::AtomicBool;
 use std::sync::{Arc, Wait};
 use std::thread::Threads;
 
-// What a test does with an open store: stages of acts, after which calls were given so many answers, or a stampede.
+// What a test does with an open store: stages of acts, or a stampede.
 #[derive(Drop)]
 pub enum Scene<'a> {
-    Acts(&'a str, u64),
+    Acts(&'a str),
     Stampede(&'a Stampede),
 }
 
-// A scene, the folders of its world, the passes of its store, the files and the calls of its world, as rows of fixtures, and how many
-// jobs, steps and effects the world has after it.
+// A scene, the calls of its world, as rows of fixtures, the passes of its store, and how many jobs, steps and effects the world has after it.
 #[derive(Drop)]
 pub struct Plan<'a> {
     pub scene: Scene<'a>,
-    pub folders: u32,
-    pub passes: usize,
-    pub files: &'a str,
     pub calls: &'a str,
+    pub passes: usize,
     pub wanted: (u64, usize, usize),
 }
 
-// Plays a plan, whose store has to be opened.
-pub fn plays<R: Threads + Wait + Abort + Sync>(rt: &R, alloc: Global, plan: &Plan<'_>) {
-    assert!(rt; is_staged(rt, alloc, plan, None));
-}
-
-// Whether a plan ends so: its store is opened, or refused.
-pub fn is_staged<R: Threads + Wait + Abort + Sync>(
+// Plays acts over a world of the files and calls of these rows, with so many passes. The store has to be opened, and its world to have so many
+// jobs, steps and effects in the end.
+pub fn plays<R: Threads + Wait + Abort + Sync>(
     rt: &R,
     alloc: Global,
-    plan: &Plan<'_>,
+    rows: &str,
+    passes: usize,
+    acts: &str,
+    wanted: (u64, usize, usize),
+) {
+    assert!(rt; is_played(rt, alloc, rows, passes, acts, wanted, None));
+}
+
+// Whether the same ends so: the store is opened, or refused.
+pub fn is_played<R: Threads + Wait + Abort + Sync>(
+    rt: &R,
+    alloc: Global,
+    rows: &str,
+    passes: usize,
+    acts: &str,
+    wanted: (u64, usize, usize),
     refusal: Option<OpenError>,
 ) -> bool {
-    match files(alloc, plan.files) {
-        Ok(image) => stage(rt, alloc, plan, image) == Some(refusal),
+    let plan = Plan {
+        scene: Scene::Acts(acts),
+        calls: rows,
+        passes,
+        wanted,
+    };
+    match files(alloc, rows) {
+        Ok(image) => stage(rt, alloc, &plan, image) == Some(refusal),
         Err(_) => false,
     }
 }
@@ -75,7 +89,7 @@ pub fn stage<R: Threads + Wait + Abort + Sync>(
     }
 }
 
-// A world of these files, in which the calls of a plan are submitted.
+// A world of two folders and these files, in which the calls of a plan are submitted.
 fn world(
     alloc: Global,
     plan: &Plan<'_>,
@@ -84,7 +98,7 @@ fn world(
 ) -> Option<World<Gated>>
     ensures { IfSome result (λ w. IsFresh w) }
 {
-    let mut world = loaded(alloc, plan.folders, image, gate)?;
+    let mut world = loaded(alloc, image, gate)?;
     if are_submitted(alloc, &mut world, plan.calls) {
         Some(world)
     } else {
@@ -92,15 +106,10 @@ fn world(
     }
 }
 
-fn loaded(
-    alloc: Global,
-    folders: u32,
-    image: Vec<ImageFile>,
-    gate: &Arc<Gate>,
-) -> Option<World<Gated>>
+fn loaded(alloc: Global, image: Vec<ImageFile>, gate: &Arc<Gate>) -> Option<World<Gated>>
     ensures { IfSome result (λ w. IsFresh w) }
 {
-    match PlainDirs::from_image(alloc, folders, image) {
+    match PlainDirs::from_image(alloc, 2, image) {
         Ok(dirs) => {
             let gate = Arc::try_clone(gate).ok()?;
             World::load(alloc, Gated { dirs, gate }).ok()
@@ -109,13 +118,13 @@ fn loaded(
     }
 }
 
-// Whether the calls of these rows, between bars, are submitted.
+// Whether the calls of these rows, between bars, are submitted; the other rows are files.
 fn are_submitted(alloc: Global, world: &mut World<Gated>, rows: &str) -> bool
     requires { IsFresh world.old }
     ensures { IsFresh world.new }
 {
     for row in rows.split('|') {
-        if !row.is_empty() && !is_submitted(alloc, world, row) {
+        if !row.is_empty() && !is_file(row) && !is_submitted(alloc, world, row) {
             return false;
         }
     }
@@ -179,9 +188,7 @@ fn play_scene<J: Naming + Send + Sync, R: Threads + Wait + Abort + Sync>(
 ) {
     assert!(rt; passes.len() == plan.passes);
     match plan.scene {
-        Scene::Acts(stages, given) => {
-            assert!(rt; play_stages(rt, alloc, store, passes, gate, stages) == given)
-        }
+        Scene::Acts(stages) => play_stages(rt, alloc, store, passes, gate, stages),
         Scene::Stampede(stampede) => {
             assert!(rt; run_all(rt, alloc, stampede, store, passes) > 500)
         }
@@ -201,7 +208,7 @@ fn refuse<R: Wait + Abort>(
 // Looks whether a world after a scene has the jobs, steps and effects that are wanted, or that of a stampede is as its passes saw it.
 fn look_at<R: Wait + Abort>(rt: &R, alloc: Global, world: &World<Gated>, plan: &Plan<'_>) {
     match plan.scene {
-        Scene::Acts(_, _) => {
+        Scene::Acts(_) => {
             assert!(rt; (world.jobs(), world.log().len(), world.effects().len()) == plan.wanted)
         }
         Scene::Stampede(stampede) => assert!(rt; are_beginnings(rt, alloc, stampede, world)),

@@ -87,8 +87,8 @@ fn first<J: Naming>(
     }
 }
 
-// Plays the stages. How many answers of calls their threads were given. A stage is `both` and what two passes are to each other; `first` and
-// the pass that reads, for all stages after it; `drop`, which drops the last pass; or acts.
+// Plays the stages. A stage is `both` and what two passes are to each other; `first` and the pass that reads, for all stages after it; `given`
+// and how many answers of calls the threads were given; `drop`, which drops the last pass; or acts.
 pub fn play_stages<J: Naming + Send + Sync, R: Threads + Wait + Abort + Sync>(
     rt: &R,
     alloc: Global,
@@ -96,13 +96,17 @@ pub fn play_stages<J: Naming + Send + Sync, R: Threads + Wait + Abort + Sync>(
     passes: &mut Vec<Pass<J>>,
     gate: &Gate,
     stages: &str,
-) -> u64 {
+) {
     let given = AtomicU64::new(0);
     let mut half = None;
     for stage in stages.split('%') {
         match cut(stage) {
             ("both", words) => assert!(rt; compare(passes, words), "{stage}"),
             ("first", player) => half = first(alloc, store, passes, player),
+            ("given", count) => assert!(rt;
+                given.load(Ordering::SeqCst) == number(count),
+                "{stage}"
+            ),
             ("drop", _) => drop(passes.pop()),
             _ => play_at_once(
                 rt,
@@ -116,5 +120,4 @@ pub fn play_stages<J: Naming + Send + Sync, R: Threads + Wait + Abort + Sync>(
             ),
         }
     }
-    given.load(Ordering::SeqCst)
 }

@@ -1,4 +1,4 @@
-use Rattle.md_replica.specs.Named.{named_of}
+use Rattle.md_view.specs.Named.{named_of}
 use Rattle.examples.proofs.server.round.Given as goal
 
 -- the store that was just prepared

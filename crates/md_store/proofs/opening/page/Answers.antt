@@ -1,5 +1,5 @@
 use Rattle.std.proofs.Common.{ap, sym, subst, ◌∙◌}
-use Rattle.md_replica.specs.Named.{AreMessages, named_of}
+use Rattle.md_view.specs.Named.{AreMessages, named_of}
 use Rattle.md_store.proofs.Fresh.{fresh-dirs}
 use Rattle.md_store.proofs.opening.page.Goals as goal
 

@@ -1,7 +1,7 @@
 use Rattle.std.proofs.Common.{◌≡◌, ◌≤◌, ap, ◌∙◌, sym, subst, inr, drop, length, rules}
 use Rattle.left_right.specs.Sides.{view}
 use Rattle.md_core.specs.Runs.{effects_of}
-use Rattle.md_replica.specs.Named.{Named}
+use Rattle.md_view.specs.Named.{Named}
 use Rattle.md_store.specs.declared.rule.Knowledge.{Knowledge}
 use Rattle.md_store.specs.Pages.{Page}
 use Rattle.md_store.specs.Locks.{Both, Lags}

@@ -1,5 +1,5 @@
 use Rattle.std.proofs.Common.{subst}
-use Rattle.md_replica.specs.Named.{AreMessages}
+use Rattle.md_view.specs.Named.{AreMessages}
 use Rattle.md_store.proofs.pass.Pass.read.Goals as goal
 
 pub returns-clause-messages : goal.returns-clause-messages

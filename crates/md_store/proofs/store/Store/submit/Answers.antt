@@ -1,6 +1,6 @@
 use Rattle.std.proofs.Common.{◌≡◌, ap, ◌∙◌, sym, subst, rules}
 use Rattle.md_core.specs.Stepping.{IsRun}
-use Rattle.md_replica.specs.Named.{Named}
+use Rattle.md_view.specs.Named.{Named}
 use Rattle.md_store.specs.Locks.{Both}
 use Rattle.md_store.specs.Ongoing.{IsSince}
 use Rattle.md_store.proofs.Since.{submits-since, refuses-call}

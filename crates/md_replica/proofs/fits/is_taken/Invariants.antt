@@ -1,7 +1,0 @@
-use Rattle.std.proofs.Common.{◌≡◌, false, take}
-use Rattle.std.specs.List.{list_any}
-use Rattle.md_replica.specs.Held.{has_unique}
-use Rattle.md_replica.proofs.fits.is_taken.Given as goal
-
-abbrev pub invariant-loop-lists : goal.invariant-loop-lists
-invariant-loop-lists g l = list_any (has_unique l.unique) (take l.lists-index l.folders) ≡ false

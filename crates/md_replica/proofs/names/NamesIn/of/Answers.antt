@@ -1,8 +1,0 @@
-use Rattle.md_replica.proofs.Holding.{held-is, holds}
-use Rattle.md_replica.proofs.names.NamesIn.of.Goals as goal
-
-pub invariant_of-result : goal.invariant_of-result
-invariant_of-result g c = holds _ c.in_ok-folders.folders.items c.in_ok-folders.ensures.names
-
-pub returns-clause-names : goal.returns-clause-names
-returns-clause-names g c = held-is _ c.in_ok-folders.folders.items c.in_ok-folders.ensures.names
