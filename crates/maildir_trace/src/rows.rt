@@ -1,7 +1,8 @@
 //! The rows of directories, as the beginning of a log, a listing and a comment have them.
 use crate::log::Log;
-use crate::text::{place_text, push_message, push_path_of};
+use crate::text::{push_message, push_path_of};
 use md_dirs::{Dirs, Place, RowRef};
+use md_text::place_text;
 
 const PLACES: [Place; 3] = [Place::Tmp, Place::New, Place::Cur];
 

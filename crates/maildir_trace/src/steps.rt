@@ -2,10 +2,11 @@
 use crate::log::Log;
 use crate::noted::{Asked, NotedDirs};
 use crate::rows::push_names;
-use crate::text::{place_text, push_folder, push_path};
+use crate::text::{push_folder, push_path};
 use md_core::{DirReply, Event};
 use md_dirs::{Dirs, Path, Place};
 use md_script::PlayKind;
+use md_text::place_text;
 
 /// `MOMENT jobN`, the beginning of a line. The moment is the step's own: the clock of a log is the greatest so far, as that of a store.
 pub(crate) fn push_begin(log: &mut Log, event: Event) {

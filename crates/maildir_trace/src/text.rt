@@ -1,6 +1,7 @@
 //! The words of a log.
 use crate::log::Log;
 use md_dirs::{Path, Place};
+use md_text::place_text;
 
 /// Appends the name of a folder by its number.
 pub(crate) fn push_folder(log: &mut Log, names: &[Vec<u8>], folder: u32) {
@@ -36,13 +37,4 @@ pub(crate) fn push_path_of(
     log.push(place_text(place));
     log.push(b"/");
     log.push_name(name);
-}
-
-/// The name of a directory of a maildir.
-pub(crate) fn place_text(place: Place) -> &'static [u8] {
-    match place {
-        Place::Tmp => b"tmp",
-        Place::New => b"new",
-        Place::Cur => b"cur",
-    }
 }

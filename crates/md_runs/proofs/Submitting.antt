@@ -13,7 +13,7 @@ use Rattle.md_core.specs.Runs.{Run, new_run, and_call, IsRefusal}
 use Rattle.md_core.specs.Submitting.{submit_refusal}
 use Rattle.md_script.specs.declared.error.PlayKind.{PlayKind}
 use Rattle.md_script.specs.declared.error.PlayKind.TheVariants.{Core, NoMemory}
-use Rattle.md_script.specs.Bind.{◌>>=◌}
+use Rattle.md_text.specs.Bind.{◌>>=◌}
 use Rattle.md_script.specs.Kinds.{core_kind}
 use Rattle.md_script.specs.Sessions.{unless_refused, image_of, run_over}
 use Rattle.md_runs.specs.Begun.{submitted_all}

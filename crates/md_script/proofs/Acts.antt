@@ -18,7 +18,7 @@ use Rattle.md_script.specs.declared.error.PlayKind.TheVariants.{Core}
 use Rattle.md_script.specs.declared.verb.Mode.TheVariants.{Playing, SettingUp}
 use Rattle.md_dirs.specs.declared.image.ImageFile.{ImageFile}
 use Rattle.md_script.specs.Setups.{Setting, setting_line, set_up}
-use Rattle.md_script.specs.Bind.{◌>>=◌}
+use Rattle.md_text.specs.Bind.{◌>>=◌}
 use Rattle.md_script.specs.Commands.{Command, command_at}
 use Rattle.md_script.specs.Words.{Gives}
 use Rattle.md_script.specs.Step.{Steps}

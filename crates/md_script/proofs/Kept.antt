@@ -11,7 +11,7 @@ use Rattle.md_view.specs.declared.listing.BegunListing.{BegunListing}
 use Rattle.md_view.specs.Law.{names_at, listing_of, HasBegun}
 use Rattle.md_script.specs.declared.error.PlayKind.{PlayKind}
 use Rattle.md_script.specs.declared.error.PlayKind.TheVariants.{NoFirst}
-use Rattle.md_script.specs.Bind.{◌>>=◌}
+use Rattle.md_text.specs.Bind.{◌>>=◌}
 use Rattle.md_script.specs.Held.{first_by}
 use Rattle.md_script.specs.Sessions.{ScriptStore, First, first_of, others, read_first, read_second}
 use Rattle.md_script.specs.Texts.{entries_text}

@@ -1,9 +1,5 @@
-pub mod Firsts
-pub mod Cuts
 pub mod Chunks
 pub mod Places
-pub mod Marks
-pub mod Escaping
 pub mod Numbers
 pub mod Decimals
 pub mod Runs
@@ -11,12 +7,10 @@ pub mod Underway
 pub mod Acts
 pub mod Opening
 pub mod Finishing
-pub mod Growing
 pub mod GoingOn
 pub mod ScriptRuns
 pub mod Spelled
 pub mod Written
 pub mod Made
-pub mod Printing
 pub mod Kept
 pub mod Waits

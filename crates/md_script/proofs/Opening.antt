@@ -9,7 +9,7 @@ use Rattle.md_script.specs.declared.verb.Verb.TheVariants.{File}
 use Rattle.md_script.specs.Verb.{admitted}
 use Rattle.md_script.specs.Held.{files_beside, TakesFiles}
 use Rattle.md_script.specs.Sessions.{Session, ScriptStore, new_store, store_of, with_store, run_over}
-use Rattle.md_script.specs.Bind.{◌>>=◌}
+use Rattle.md_text.specs.Bind.{◌>>=◌}
 use Rattle.md_script.specs.declared.error.PlayKind.{PlayKind}
 
 -- the session that the parts of a store are

@@ -15,7 +15,7 @@ use Rattle.md_core.specs.Submitting.{submit_refusal}
 use Rattle.md_core.proofs.Runs.Extended.{is_run-begun, is_run-and_event, is_run-and_call}
 use Rattle.md_script.specs.declared.error.PlayKind.{PlayKind}
 use Rattle.md_script.specs.declared.error.PlayKind.TheVariants.{NoFirst}
-use Rattle.md_script.specs.Bind.{◌>>=◌}
+use Rattle.md_text.specs.Bind.{◌>>=◌, require}
 use Rattle.md_script.specs.Commands.{Command, make_folder, make_file, submit, step, finish, list, first, second, read, make_name, summarize, command_at}
 use Rattle.md_script.specs.declared.verb.Mode.TheVariants.{Playing}
 use Rattle.md_script.specs.Sessions.{Session, ScriptStore, unless_refused, image_of, run_over, new_store, store_of, without_fault, event_refusal}
@@ -24,7 +24,6 @@ use Rattle.md_head.specs.Summaries.{summary_of}
 use Rattle.md_script.specs.Texts.{summary_text}
 use Rattle.md_script.specs.Step.{line_step, is_passed_over}
 use Rattle.md_script.specs.Transcript.{go_on, run_from}
-use Rattle.md_script.specs.Words.{require}
 use Rattle.md_head.specs.Header.{lines_of}
 use Rattle.md_script.proofs.Acts.{was_done}
 

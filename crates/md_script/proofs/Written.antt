@@ -1,5 +1,6 @@
 -- Flags that stand in a name as they print.
 use Rattle.std.proofs.Common.{ℕ, zero, suc, ◌≡◌, ◌+◌, ◌-◌, ◌<◌, ◌≤◌, Bool, true, false, cond, T, not, ◌&&◌, List, [], ◌∷◌, Option, Some, None, is_some, map, filter, length, get_or, take, drop, refl, sym, ap, subst, ◌∙◌, arith, lt-ltb, below_more, length-take-le}
+use Rattle.std.proofs.lemmas.List.{take_rest}
 use Rattle.std.specs.Prelude.{nat_eq, codes, position}
 use Rattle.std.specs.List.{list_any, list_all, starts_with}
 use Rattle.std.specs.Ordering.{nat_cmp, eq_by_cmp}
@@ -16,7 +17,6 @@ use Rattle.md_name.proofs.Flagged.{from_list-spelling}
 use Rattle.md_name.proofs.Sets.{IsOfLetters-from_list}
 use Rattle.md_view.proofs.Keyed.{both, first, second, less, is_less}
 use Rattle.md_script.specs.Texts.{letters_text, flags_text, flags_by}
-use Rattle.md_script.proofs.Firsts.{rest_whole}
 use Rattle.md_script.proofs.Spelled.{spelled_none}
 
 -- each number is above the one before it
@@ -133,4 +133,4 @@ after_colon name at some dotless within is =
     let front : 0 < length (take at name) = omega (arith, long, some) in
     by_parts name (message name dotless (subst (λ (u : List ℕ). 0 < length u) (unique_of-found name at (sym is)) front))
     ∙ ap (λ (x : Info). flags_text (flags_of x)) (sym (info_of-found name at (sym is)))
-    ∙ ap (λ (t : List ℕ). flags_text (flags_of (info_by (Some t)))) (sym (rest_whole name (at + 1)))
+    ∙ ap (λ (t : List ℕ). flags_text (flags_of (info_by (Some t)))) (sym (take_rest name (at + 1)))

@@ -1,8 +1,6 @@
 -- The commands of a script, and how a line spells one.
-use Rattle.std.specs.Prelude.{ℕ, List, Option, Some, None, Result, Ok, if◌then◌else◌, codes, ok_or}
-use Rattle.std.specs.Str.{bytes_eq}
+use Rattle.std.specs.Prelude.{ℕ, List, Option, Some, None, Result, Ok, ok_or}
 use Rattle.md_dirs.specs.declared.paths.Place.{Place}
-use Rattle.md_dirs.specs.declared.paths.Place.TheVariants.{Tmp, New, Cur}
 use Rattle.md_dirs.specs.declared.image.ImageFile.{ImageFile}
 use Rattle.md_jobs.specs.declared.call.Call.{Call}
 use Rattle.md_jobs.specs.declared.step.Event.{Event}
@@ -11,8 +9,10 @@ use Rattle.md_script.specs.declared.error.PlayKind.TheVariants.{BadCommand, BadF
 use Rattle.md_script.specs.declared.verb.Verb.{Verb}
 use Rattle.md_script.specs.declared.verb.Verb.TheVariants as verb
 use Rattle.md_script.specs.declared.verb.Mode.{Mode}
-use Rattle.md_script.specs.Bind.{◌>>=◌}
-use Rattle.md_script.specs.Words.{Rest, word_at, end_at, number_at, body_at, require}
+use Rattle.md_text.specs.Bind.{◌>>=◌, require}
+use Rattle.md_text.specs.Words.{Rest}
+use Rattle.md_text.specs.Places.{place_named}
+use Rattle.md_script.specs.Words.{word_at, end_at, number_at, body_at}
 use Rattle.md_script.specs.Folders.{can_add}
 use Rattle.md_script.specs.Verb.{verb_of, admitted}
 use Rattle.md_script.specs.Jobs.{folder_at, job_line}
@@ -38,13 +38,6 @@ folder_line folders rest = do
   _ ← require (can_add folders name.0) BadFolder
   _ ← end_at name.1
   Ok (make_folder name.0)
-
--- the directory of the words tmp, new and cur
-unfoldable pub place_named : List ℕ → Option Place
-place_named word =
-    if bytes_eq word (codes "tmp") then Some Tmp
-    else (if bytes_eq word (codes "new") then Some New
-    else (if bytes_eq word (codes "cur") then Some Cur else None))
 
 -- the next word as a directory of a maildir
 unfoldable pub place_at : Rest → Result (Place × Rest) PlayKind

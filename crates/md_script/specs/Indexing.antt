@@ -14,7 +14,7 @@ use Rattle.md_view.specs.declared.entry.Entry.{Entry}
 use Rattle.md_view.specs.Readings.{reading_of, join_of}
 use Rattle.md_script.specs.declared.error.PlayKind.{PlayKind}
 use Rattle.md_script.specs.declared.error.PlayError.{PlayError}
-use Rattle.md_script.specs.Bind.{◌>>=◌}
+use Rattle.md_text.specs.Bind.{◌>>=◌}
 use Rattle.md_script.specs.Sessions.{run_over}
 use Rattle.md_script.specs.Setups.{Setting, setting_of}
 use Rattle.md_script.specs.Texts.{line_end, summary_text}

@@ -1,18 +1,18 @@
 -- The calls that a script submits, and how a line spells one.
 use Rattle.std.specs.Prelude.{ℕ, List, Option, Some, None, Result, Ok, Err, if◌then◌else◌, codes, ok_or}
-use Rattle.std.specs.List.{list_all}
 use Rattle.std.specs.Str.{bytes_eq}
-use Rattle.std.specs.FinSet as set
 use Rattle.md_name.specs.declared.error.NameError.TheVariants.{BadFlag}
-use Rattle.md_name.specs.Letters.{Set, is_letter}
+use Rattle.md_name.specs.Letters.{Set}
 use Rattle.md_jobs.specs.declared.call.Call.{Call}
 use Rattle.md_jobs.specs.declared.call.Call.TheVariants as call
 use Rattle.md_script.specs.declared.error.PlayKind.{PlayKind}
 use Rattle.md_script.specs.declared.error.PlayKind.TheVariants.{BadCommand, UnknownFolder, Name}
 use Rattle.md_script.specs.declared.verb.JobVerb.{JobVerb}
 use Rattle.md_script.specs.declared.verb.JobVerb.TheVariants.{Deliver, Seen, Flag, Move, Expunge, Copy, Clean}
-use Rattle.md_script.specs.Bind.{◌>>=◌}
-use Rattle.md_script.specs.Words.{Rest, word_at, end_at, number_at, body_at}
+use Rattle.md_text.specs.Bind.{◌>>=◌}
+use Rattle.md_text.specs.Words.{Rest}
+use Rattle.md_text.specs.Flags.{flags_in}
+use Rattle.md_script.specs.Words.{word_at, end_at, number_at, body_at}
 use Rattle.md_script.specs.Folders.{place_of}
 
 -- the next word as the number of a folder
@@ -22,17 +22,11 @@ folder_at folders rest = do
   place ← ok_or (place_of folders name.0) UnknownFolder
   Ok (place, name.1)
 
--- a hyphen is no flags; other words are letters, in any order and perhaps repeated
-unfoldable pub flags_of : List ℕ → Result Set PlayKind
-flags_of word =
-    if bytes_eq word (codes "-") then Ok set.empty
-    else (if list_all is_letter word then Ok (set.from_list word) else Err (Name BadFlag))
-
 -- the next word as flags
 unfoldable pub flags_at : Rest → Result (Set × Rest) PlayKind
 flags_at rest = do
   word ← word_at rest
-  flags ← flags_of word.0
+  flags ← ok_or (flags_in word.0) (Name BadFlag)
   Ok (flags, word.1)
 
 -- the last word, a number of tries

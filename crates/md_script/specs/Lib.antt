@@ -1,7 +1,5 @@
-pub mod Bind
 pub mod Kinds
 pub mod Refusals
-pub mod Escapes
 pub mod Words
 pub mod Verb
 pub mod Folders

@@ -24,8 +24,7 @@ use Rattle.md_view.specs.Law.{names_at, listing_of}
 use Rattle.md_script.specs.declared.error.PlayKind.{PlayKind}
 use Rattle.md_script.specs.declared.error.PlayKind.TheVariants.{SamePath, Core, Name, NoFirst}
 use Rattle.md_script.specs.declared.verb.Mode.TheVariants.{Playing}
-use Rattle.md_script.specs.Bind.{◌>>=◌}
-use Rattle.md_script.specs.Words.{require}
+use Rattle.md_text.specs.Bind.{◌>>=◌, require}
 use Rattle.md_script.specs.Commands.{Command, make_folder, make_file, submit, step, finish, list, first, second, read, make_name, summarize, command_at}
 use Rattle.md_script.specs.Texts.{job_text, shown_text, entries_text, bytes_text, unique_text, summary_text}
 use Rattle.md_script.specs.Transcript.{Transcript, transcript_of}

@@ -1,8 +1,6 @@
 -- What is printed. Each line ends with a line feed.
 use Rattle.std.specs.Prelude.{ℕ, ℤ, List, [], ◌∷◌, ◌++◌, Option, Some, None, flat_map, codes}
 use Rattle.std.specs.Fmt.{decimal, signed_decimal}
-use Rattle.md_dirs.specs.declared.paths.Place.{Place}
-use Rattle.md_dirs.specs.declared.paths.Place.TheVariants.{Tmp, New, Cur}
 use Rattle.md_name.specs.Letters.{Set, spelling}
 use Rattle.md_name.specs.declared.info.Info.{Info}
 use Rattle.md_name.specs.Names.{split_of, flags_of}
@@ -16,17 +14,12 @@ use Rattle.md_jobs.specs.declared.step.DirReply.{DirReply}
 use Rattle.md_jobs.specs.declared.step.DirReply.TheVariants as reply
 use Rattle.md_jobs.specs.declared.step.StepOut.{StepOut}
 use Rattle.md_view.specs.declared.entry.Entry.{Entry}
-use Rattle.md_script.specs.Escapes.{escape_all}
+use Rattle.md_text.specs.Escapes.{escape_all}
+use Rattle.md_text.specs.Places.{place_text}
 
 -- LF
 abbrev pub line_end : List ℕ
 line_end = 10 ∷ []
-
--- the word of a directory of a maildir
-abbrev pub place_text : Place → List ℕ
-place_text Tmp = codes "tmp"
-place_text New = codes "new"
-place_text Cur = codes "cur"
 
 -- the words of a directory call
 abbrev pub call_text : DirCall → List ℕ

@@ -7,7 +7,7 @@ use Rattle.md_script.specs.declared.verb.Verb.{Verb}
 use Rattle.md_script.specs.declared.verb.Verb.TheVariants as verb
 use Rattle.md_script.specs.declared.verb.Mode.{Mode}
 use Rattle.md_script.specs.declared.verb.Mode.TheVariants.{Playing, SettingUp}
-use Rattle.md_script.specs.Words.{require}
+use Rattle.md_text.specs.Bind.{require}
 
 -- the first word of a line, as a command
 unfoldable pub verb_of : List ℕ → Option Verb

@@ -25,7 +25,7 @@ pub(crate) fn push_number(out: &mut Vec<u8>, number: u64) -> Result<(), AllocErr
 }
 
 /// Appends a number in decimal and one byte behind it, at once.
-#[tactic(auto, using(crate::proofs::Decimals::short_decimal, crate::proofs::Growing::grown, crate::proofs::Growing::grown_if, crate::proofs::Growing::grown_on))]
+#[tactic(auto, using(crate::proofs::Decimals::short_decimal, md_text::proofs::Growing::grown, md_text::proofs::Growing::grown_if, md_text::proofs::Growing::grown_on))]
 pub(crate) fn push_number_and(out: &mut Vec<u8>, number: u64, behind: u8) -> Result<(), AllocError>
     ensures text { OnOk result (out.new.items ≡ out.old.items ++ decimal number ++ behind ∷ []) }
     ensures kept { IsPrefix out.old.items out.new.items }
@@ -42,7 +42,7 @@ pub(crate) fn push_number_and(out: &mut Vec<u8>, number: u64, behind: u8) -> Res
 
 /// Appends a number in decimal and, at once, a text that stands behind room for its digits.
 #[inline(always)]
-#[tactic(auto, using(crate::proofs::Decimals::short_decimal, crate::proofs::Growing::grown, crate::proofs::Growing::grown_if, crate::proofs::Growing::grown_on))]
+#[tactic(auto, using(crate::proofs::Decimals::short_decimal, md_text::proofs::Growing::grown, md_text::proofs::Growing::grown_if, md_text::proofs::Growing::grown_on))]
 pub(crate) fn push_line<const N: usize>(
     out: &mut Vec<u8>,
     number: u64,
@@ -59,7 +59,7 @@ pub(crate) fn push_line<const N: usize>(
 }
 
 /// Appends a number in decimal, with a minus sign where it is negative.
-#[tactic(auto, using(crate::proofs::Growing::grown, crate::proofs::Growing::grown_if, crate::proofs::Growing::grown_on))]
+#[tactic(auto, using(md_text::proofs::Growing::grown, md_text::proofs::Growing::grown_if, md_text::proofs::Growing::grown_on))]
 pub(crate) fn push_signed(out: &mut Vec<u8>, number: i64) -> Result<(), AllocError>
     ensures text { OnOk result (out.new.items ≡ out.old.items ++ signed_decimal number) }
     ensures kept { IsPrefix out.old.items out.new.items }

@@ -1,7 +1,8 @@
 //! The line of an entry, laid in a buffer.
 ghost use Rattle.std.specs.Prelude.{◌≡◌, ◌≤◌, ◌+◌, ◌++◌, ◌∷◌, [], IfSome, IfNone, take, length, codes};
 ghost use Rattle.std.specs.Fmt.{decimal};
-ghost use Rattle.md_script.specs.Texts.{place_text, letters_text, line_end, entry_line};
+ghost use Rattle.md_text.specs.Places.{place_text};
+ghost use Rattle.md_script.specs.Texts.{letters_text, line_end, entry_line};
 
 use crate::flags::written_flags;
 use itoa::write_digits;

@@ -5,7 +5,7 @@ ghost use mathlib.Core.List.{IsPrefix};
 use std::alloc::AllocError;
 
 /// Appends bytes one by one. Where they are few, this costs less than to copy them at once.
-#[tactic(auto, using(crate::proofs::Growing::grown, crate::proofs::Growing::grown_if, crate::proofs::Growing::grown_on))]
+#[tactic(auto, using(md_text::proofs::Growing::grown, md_text::proofs::Growing::grown_if, md_text::proofs::Growing::grown_on))]
 pub(crate) fn push_few(out: &mut Vec<u8>, bytes: &[u8]) -> Result<(), AllocError>
     ensures text { OnOk result (out.new.items ≡ out.old.items ++ bytes.now) }
     ensures kept { IsPrefix out.old.items out.new.items }
@@ -17,7 +17,7 @@ pub(crate) fn push_few(out: &mut Vec<u8>, bytes: &[u8]) -> Result<(), AllocError
 }
 
 /// Appends two bytes, with one look for room.
-#[tactic(auto, using(crate::proofs::Growing::grown, crate::proofs::Growing::grown_if, crate::proofs::Growing::grown_on))]
+#[tactic(auto, using(md_text::proofs::Growing::grown, md_text::proofs::Growing::grown_if, md_text::proofs::Growing::grown_on))]
 pub(crate) fn push_two(out: &mut Vec<u8>, first: u8, second: u8) -> Result<(), AllocError>
     ensures text { OnOk result (out.new.items ≡ out.old.items ++ first ∷ second ∷ []) }
     ensures kept { IsPrefix out.old.items out.new.items }
@@ -29,7 +29,7 @@ pub(crate) fn push_two(out: &mut Vec<u8>, first: u8, second: u8) -> Result<(), A
 }
 
 /// Appends a byte between two spaces, with one look for room.
-#[tactic(auto, using(crate::proofs::Growing::grown, crate::proofs::Growing::grown_if, crate::proofs::Growing::grown_on))]
+#[tactic(auto, using(md_text::proofs::Growing::grown, md_text::proofs::Growing::grown_if, md_text::proofs::Growing::grown_on))]
 pub(crate) fn push_spaced_byte(out: &mut Vec<u8>, byte: u8) -> Result<(), AllocError>
     ensures text { OnOk result (out.new.items ≡ out.old.items ++ codes " " ++ byte ∷ codes " ") }
     ensures kept { IsPrefix out.old.items out.new.items }
@@ -42,7 +42,7 @@ pub(crate) fn push_spaced_byte(out: &mut Vec<u8>, byte: u8) -> Result<(), AllocE
 }
 
 /// Appends a word of three letters and a space, with one look for room.
-#[tactic(auto, using(crate::proofs::Growing::grown, crate::proofs::Growing::grown_if, crate::proofs::Growing::grown_on))]
+#[tactic(auto, using(md_text::proofs::Growing::grown, md_text::proofs::Growing::grown_if, md_text::proofs::Growing::grown_on))]
 pub(crate) fn push_word(
     out: &mut Vec<u8>,
     first: u8,

@@ -18,7 +18,7 @@ const OTHER_INFO: u8 = b'?';
 
 /// Appends the flags of a message by its name, whose first colon is there, or that its info is other than flags: between two spaces, which
 /// are appended with them at once where there is one flag or none.
-#[tactic(auto, using(crate::proofs::Growing::grown, crate::proofs::Growing::grown_if, crate::proofs::Growing::grown_on))]
+#[tactic(auto, using(md_text::proofs::Growing::grown, md_text::proofs::Growing::grown_if, md_text::proofs::Growing::grown_on))]
 pub(crate) fn push_spaced_flags(
     out: &mut Vec<u8>,
     name: &[u8],
@@ -40,7 +40,7 @@ pub(crate) fn push_spaced_flags(
 }
 
 /// The same of any name, whatever its flags are written like.
-#[tactic(auto, using(crate::proofs::Spelled::spelled_none, crate::proofs::Growing::grown, crate::proofs::Growing::grown_if, crate::proofs::Growing::grown_on))]
+#[tactic(auto, using(crate::proofs::Spelled::spelled_none, md_text::proofs::Growing::grown, md_text::proofs::Growing::grown_if, md_text::proofs::Growing::grown_on))]
 fn push_read_flags(out: &mut Vec<u8>, name: &[u8]) -> Result<(), AllocError>
     ensures text { OnOk result (out.new.items ≡ out.old.items ++ flags_text (flags_by (split_of name.now))) }
     ensures kept { IsPrefix out.old.items out.new.items }
@@ -57,7 +57,7 @@ fn push_read_flags(out: &mut Vec<u8>, name: &[u8]) -> Result<(), AllocError>
 }
 
 /// Appends the letters of flags in ASCII order, and a hyphen where there are none.
-#[tactic(auto, using(crate::proofs::Growing::grown, crate::proofs::Growing::grown_if, crate::proofs::Growing::grown_on))]
+#[tactic(auto, using(md_text::proofs::Growing::grown, md_text::proofs::Growing::grown_if, md_text::proofs::Growing::grown_on))]
 pub(crate) fn push_letters(out: &mut Vec<u8>, flags: Flags) -> Result<(), AllocError>
     ensures text { OnOk result (out.new.items ≡ out.old.items ++ letters_text (spelling flags)) }
     ensures kept { IsPrefix out.old.items out.new.items }
@@ -71,7 +71,7 @@ pub(crate) fn push_letters(out: &mut Vec<u8>, flags: Flags) -> Result<(), AllocE
 }
 
 /// Appends letters, and a hyphen where there are none, between two spaces.
-#[tactic(auto, using(crate::proofs::Growing::grown, crate::proofs::Growing::grown_if, crate::proofs::Growing::grown_on))]
+#[tactic(auto, using(md_text::proofs::Growing::grown, md_text::proofs::Growing::grown_if, md_text::proofs::Growing::grown_on))]
 fn push_spaced(out: &mut Vec<u8>, letters: &[u8]) -> Result<(), AllocError>
     ensures text { OnOk result (out.new.items ≡ out.old.items ++ codes " " ++ letters_text letters.now ++ codes " ") }
     ensures kept { IsPrefix out.old.items out.new.items }

@@ -1,6 +1,6 @@
 //! What holds of scripts by their definitions alone. Each law is a function that does nothing: its contract is the law, and a caller
 //! that calls it may rely on it.
-ghost use Rattle.std.specs.Prelude.{◌≡◌, ℕ, ◌++◌, List, Ok, None, Some, true, is_some};
+ghost use Rattle.std.specs.Prelude.{◌≡◌, ℕ, ◌++◌, List, Ok, None, Some, true, false, is_some};
 ghost use mathlib.Core.List.{IsPrefix};
 ghost use Rattle.md_head.specs.Header.{IsWholeLines};
 ghost use Rattle.md_jobs.specs.declared.step.Event.{Event as ScriptEvent};
@@ -10,11 +10,11 @@ ghost use Rattle.md_core.specs.Stepping.{IsRun};
 ghost use Rattle.md_core.specs.Tracing.{HasOneClock};
 ghost use Rattle.md_script.specs.Sessions.{ScriptStore, event_refusal, finish_in, transcript};
 ghost use Rattle.md_script.specs.OneClock.{KeepsOneClock};
-ghost use Rattle.md_script.specs.Escapes.{escape_all, unescaped};
+ghost use Rattle.md_text.specs.Escapes.{escape_all, unescaped};
 
 /// Bytes that are written with escapes read back as they were.
 pub fn escapes_read_back(bytes: &[u8])
-    ensures { unescaped (escape_all bytes.now) ≡ Ok bytes.now }
+    ensures { unescaped false (escape_all bytes.now) ≡ Some bytes.now }
 {}
 
 /// The cleaner's theorem, for scripts whose `step` and `finish` lines give no moment of the job's own: no step of theirs prints `tmpgone`,

@@ -1,7 +1,8 @@
 //! The lines of listings.
 ghost use Rattle.std.specs.Prelude.{◌≡◌, ◌≤◌, ◌++◌, IfOk, OnOk, take, length, codes};
 ghost use mathlib.Core.List.{IsPrefix};
-ghost use Rattle.md_script.specs.Texts.{place_text, entry_line, entries_text};
+ghost use Rattle.md_text.specs.Places.{place_text};
+ghost use Rattle.md_script.specs.Texts.{entry_line, entries_text};
 
 use crate::digits::push_number_and;
 use crate::entry_line::{LONGEST_USUAL, lay_line};
@@ -21,7 +22,7 @@ const BUFFER: usize = 2048;
 ///
 /// The flags are letters in ASCII order, `-` where there are none, and `?` where the info of the name is no list of flags. The size is in
 /// bytes. Where memory runs out, some of the lines may have been appended.
-#[tactic(auto, using(crate::proofs::Growing::grown, crate::proofs::Growing::grown_if, crate::proofs::Growing::grown_on))]
+#[tactic(auto, using(md_text::proofs::Growing::grown, md_text::proofs::Growing::grown_if, md_text::proofs::Growing::grown_on))]
 pub fn push_entries(out: &mut Vec<u8>, entries: &[Entry]) -> Result<(), AllocError>
     ensures text { OnOk result (out.new.items ≡ out.old.items ++ entries_text entries.now) }
     ensures kept { IsPrefix out.old.items out.new.items }
@@ -77,7 +78,7 @@ fn put_entry(
 }
 
 /// Appends the line of an entry.
-#[tactic(auto, using(crate::proofs::Growing::grown, crate::proofs::Growing::grown_if, crate::proofs::Growing::grown_on))]
+#[tactic(auto, using(md_text::proofs::Growing::grown, md_text::proofs::Growing::grown_if, md_text::proofs::Growing::grown_on))]
 fn push_entry(out: &mut Vec<u8>, entry: &EntryRef<'_>) -> Result<(), AllocError>
     ensures text { OnOk result (out.new.items ≡ out.old.items ++ entry_line entry.now) }
     ensures kept { IsPrefix out.old.items out.new.items }
@@ -89,7 +90,7 @@ fn push_entry(out: &mut Vec<u8>, entry: &EntryRef<'_>) -> Result<(), AllocError>
 }
 
 /// Appends the name of a directory of a maildir, and a space.
-#[tactic(auto, using(crate::proofs::Growing::grown, crate::proofs::Growing::grown_if, crate::proofs::Growing::grown_on))]
+#[tactic(auto, using(md_text::proofs::Growing::grown, md_text::proofs::Growing::grown_if, md_text::proofs::Growing::grown_on))]
 fn push_place(out: &mut Vec<u8>, place: Place) -> Result<(), AllocError>
     ensures text { OnOk result (out.new.items ≡ out.old.items ++ place_text place ++ codes " ") }
     ensures kept { IsPrefix out.old.items out.new.items }
@@ -98,16 +99,5 @@ fn push_place(out: &mut Vec<u8>, place: Place) -> Result<(), AllocError>
         Place::Tmp => push_word(out, b't', b'm', b'p'),
         Place::New => push_word(out, b'n', b'e', b'w'),
         Place::Cur => push_word(out, b'c', b'u', b'r'),
-    }
-}
-
-/// The name of a directory of a maildir.
-pub(crate) fn place_text(place: Place) -> &'static [u8]
-    ensures { result.now ≡ place_text place }
-{
-    match place {
-        Place::Tmp => b"tmp",
-        Place::New => b"new",
-        Place::Cur => b"cur",
     }
 }

@@ -5,9 +5,9 @@ ghost use Rattle.std.specs.Option.{option_copied};
 ghost use Rattle.md_script.specs.Texts.{line_end, value_line, seconds_line, values_text, summary_text};
 
 use crate::digits::push_signed;
-use crate::escapes::push_escaped;
 use md_head::Summary;
 use md_name::Bytes;
+use md_text::push_escaped;
 use std::alloc::AllocError;
 
 /// Appends `unique` and a name.
@@ -21,7 +21,7 @@ pub(crate) fn push_unique(out: &mut Vec<u8>, name: &[u8]) -> Result<(), AllocErr
 }
 
 /// Appends the lines of a header summary, a line for each value that is there, and `end`.
-#[tactic(auto, using(crate::proofs::Growing::grown, crate::proofs::Growing::grown_if, crate::proofs::Growing::grown_on))]
+#[tactic(auto, using(md_text::proofs::Growing::grown, md_text::proofs::Growing::grown_if, md_text::proofs::Growing::grown_on))]
 pub fn push_summary(out: &mut Vec<u8>, summary: &Summary) -> Result<(), AllocError>
     ensures text { OnOk result (out.new.items ≡ out.old.items ++ summary_text summary.now) }
     ensures kept { IsPrefix out.old.items out.new.items }
@@ -33,7 +33,7 @@ pub fn push_summary(out: &mut Vec<u8>, summary: &Summary) -> Result<(), AllocErr
     Ok(())
 }
 
-#[tactic(auto, using(crate::proofs::Growing::grown, crate::proofs::Growing::grown_if, crate::proofs::Growing::grown_on))]
+#[tactic(auto, using(md_text::proofs::Growing::grown, md_text::proofs::Growing::grown_if, md_text::proofs::Growing::grown_on))]
 fn push_values(out: &mut Vec<u8>, summary: &Summary) -> Result<(), AllocError>
     ensures text { OnOk result (out.new.items ≡ out.old.items ++ values_text summary.now) }
     ensures kept { IsPrefix out.old.items out.new.items }
@@ -44,7 +44,7 @@ fn push_values(out: &mut Vec<u8>, summary: &Summary) -> Result<(), AllocError>
     push_value(out, b"date", summary.date.as_ref())
 }
 
-#[tactic(auto, using(crate::proofs::Growing::grown, crate::proofs::Growing::grown_if, crate::proofs::Growing::grown_on))]
+#[tactic(auto, using(md_text::proofs::Growing::grown, md_text::proofs::Growing::grown_if, md_text::proofs::Growing::grown_on))]
 fn push_value(out: &mut Vec<u8>, name: &[u8], value: Option<&Bytes>) -> Result<(), AllocError>
     ensures text { OnOk result (out.new.items ≡ out.old.items ++ value_line name.now (option_copied value.entry)) }
     ensures kept { IsPrefix out.old.items out.new.items }
@@ -59,7 +59,7 @@ fn push_value(out: &mut Vec<u8>, name: &[u8], value: Option<&Bytes>) -> Result<(
     Ok(())
 }
 
-#[tactic(auto, using(crate::proofs::Growing::grown, crate::proofs::Growing::grown_if, crate::proofs::Growing::grown_on))]
+#[tactic(auto, using(md_text::proofs::Growing::grown, md_text::proofs::Growing::grown_if, md_text::proofs::Growing::grown_on))]
 fn push_seconds(out: &mut Vec<u8>, seconds: Option<i64>) -> Result<(), AllocError>
     ensures text { OnOk result (out.new.items ≡ out.old.items ++ seconds_line seconds) }
     ensures kept { IsPrefix out.old.items out.new.items }

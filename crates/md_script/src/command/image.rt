@@ -1,16 +1,18 @@
 //! The words of what a store begins with: folders and files.
 ghost use Rattle.std.specs.Prelude.{◌≡◌, ◌<◌, length, IfOk};
 ghost use Rattle.std.specs.Option.{option_copied};
-ghost use Rattle.md_script.specs.Words.{Gives, Reads};
+ghost use Rattle.md_text.specs.Bind.{Reads};
+ghost use Rattle.md_script.specs.Words.{Gives};
 ghost use Rattle.md_script.specs.Held.{Spells, IsFit, TakesFiles, command_of};
-ghost use Rattle.md_script.specs.Commands.{folder_line, file_line, file_of, place_named, place_at};
+ghost use Rattle.md_script.specs.Commands.{folder_line, file_line, file_of, place_at};
 ghost use Rattle.md_script.specs.Jobs.{folder_at};
 
 use crate::command::Command;
 use crate::error::PlayKind;
 use crate::folders::Folders;
-use crate::words::{Rest, body, end, number_word, word};
+use crate::words::{body, end, number_word, word};
 use md_dirs::{Bytes, FileName, ImageFile, Path, Place};
+use md_text::{Rest, place_from};
 use std::alloc::Global;
 
 /// The words of `folder` after the first.
@@ -61,7 +63,7 @@ fn file_of(alloc: Global, folders: &Folders, rest: Rest<'_>) -> Result<ImageFile
 /// The next word as the number of a folder.
 #[tactic(auto, unfolding(crate::specs::Jobs::folder_at))]
 pub(super) fn folder<'a>(folders: &Folders, rest: Rest<'a>) -> Result<(u32, Rest<'a>), PlayKind>
-    ensures { Reads (λ n. n) result (folder_at folders.now (option_copied rest.entry)) }
+    ensures { Reads (λ read. (read.0, option_copied read.1)) result (folder_at folders.now (option_copied rest.entry)) }
 {
     let (name, rest) = word(rest)?;
     match folders.place(name) {
@@ -73,26 +75,11 @@ pub(super) fn folder<'a>(folders: &Folders, rest: Rest<'a>) -> Result<(u32, Rest
 /// The next word as a directory of a maildir.
 #[tactic(auto, unfolding(crate::specs::Commands::place_at))]
 fn place(rest: Rest<'_>) -> Result<(Place, Rest<'_>), PlayKind>
-    ensures { Reads (λ place. place) result (place_at (option_copied rest.entry)) }
+    ensures { Reads (λ read. (read.0, option_copied read.1)) result (place_at (option_copied rest.entry)) }
 {
     let (word, rest) = word(rest)?;
     match place_from(word) {
         None => Err(PlayKind::BadPlace),
         Some(place) => Ok((place, rest)),
-    }
-}
-
-#[tactic(auto, unfolding(crate::specs::Commands::place_named))]
-fn place_from(word: &[u8]) -> Option<Place>
-    ensures { result ≡ place_named word.now }
-{
-    if word == b"tmp".as_slice() {
-        Some(Place::Tmp)
-    } else if word == b"new".as_slice() {
-        Some(Place::New)
-    } else if word == b"cur".as_slice() {
-        Some(Place::Cur)
-    } else {
-        None
     }
 }

@@ -1,24 +1,25 @@
 //! The words of the calls that become jobs.
-ghost use Rattle.std.specs.Prelude.{◌≡◌, IfOk};
+ghost use Rattle.std.specs.Prelude.{◌≡◌, IfOk, ok_or};
 ghost use Rattle.std.specs.Option.{option_copied};
+ghost use Rattle.md_name.specs.declared.error.NameError.TheVariants.{BadFlag};
+ghost use Rattle.md_text.specs.Flags.{flags_in};
+ghost use Rattle.md_script.specs.declared.error.PlayKind.TheVariants.{Name};
 ghost use Rattle.md_script.specs.Words.{Gives};
 ghost use Rattle.md_script.specs.Held.{IsFit, command_of};
 ghost use Rattle.md_script.specs.Commands.{submit_line};
-ghost use Rattle.md_script.specs.Jobs.{flags_of, tries_at, deliver_line, seen_line, flag_line, move_line, expunge_line, copy_line, clean_line, job_line};
+ghost use Rattle.md_script.specs.Jobs.{tries_at, deliver_line, seen_line, flag_line, move_line, expunge_line, copy_line, clean_line, job_line};
 
 use crate::command::Command;
 use crate::command::image::folder;
 use crate::error::PlayKind;
 use crate::folders::Folders;
 use crate::verb::{JobVerb, job_verb_from};
-use crate::words::{Rest, body, end, number_word, word};
+use crate::words::{body, end, number_word, word};
 use md_core::Call;
 use md_dirs::Bytes;
-use md_name::Flags;
+use md_name::{Flags, NameError};
+use md_text::{Rest, flags_from};
 use std::alloc::Global;
-
-/// The word of an empty set of flags.
-const NO_FLAGS: &[u8; 1] = b"-";
 
 /// The words of `job` after the first.
 pub(super) fn submit_line<'a>(
@@ -75,8 +76,8 @@ fn seen_line(alloc: Global, folders: &Folders, rest: Rest<'_>) -> Result<Call, P
 {
     let (folder, rest) = folder(folders, rest)?;
     let (unique, rest) = word(rest)?;
-    let (flags, rest) = word(rest)?;
-    let flags = flags_from(flags)?;
+    let (letters, rest) = word(rest)?;
+    let flags = flags(letters)?;
     let tries = tries(rest)?;
     let unique = Bytes::copied(alloc, unique)?;
     Ok(Call::Seen {
@@ -94,9 +95,9 @@ fn flag_line(alloc: Global, folders: &Folders, rest: Rest<'_>) -> Result<Call, P
     let (folder, rest) = folder(folders, rest)?;
     let (unique, rest) = word(rest)?;
     let (add, rest) = word(rest)?;
-    let add = flags_from(add)?;
+    let add = flags(add)?;
     let (remove, rest) = word(rest)?;
-    let remove = flags_from(remove)?;
+    let remove = flags(remove)?;
     let tries = tries(rest)?;
     let unique = Bytes::copied(alloc, unique)?;
     Ok(Call::Flag {
@@ -169,18 +170,11 @@ fn clean_line(folders: &Folders, rest: Rest<'_>) -> Result<Call, PlayKind>
     Ok(Call::Clean { folder })
 }
 
-/// The flags that a word spells: letters, or a hyphen for none.
-#[tactic(auto, unfolding(crate::specs::Jobs::flags_of))]
-fn flags_from(word: &[u8]) -> Result<Flags, PlayKind>
-    ensures { result ≡ flags_of word.now }
+/// The flags of a word.
+fn flags(word: &[u8]) -> Result<Flags, PlayKind>
+    ensures { result ≡ ok_or (flags_in word.now) (Name BadFlag) }
 {
-    if word == NO_FLAGS.as_slice() {
-        return Ok(Flags::empty());
-    }
-    match Flags::parse(word) {
-        Ok(flags) => Ok(flags),
-        Err(error) => Err(PlayKind::Name(error)),
-    }
+    flags_from(word).ok_or(PlayKind::Name(NameError::BadFlag))
 }
 
 /// The last word, a number of tries.

@@ -9,9 +9,10 @@ use crate::command::Command;
 use crate::command::image::folder;
 use crate::error::PlayKind;
 use crate::folders::Folders;
-use crate::words::{Rest, body, end, number_word, word};
+use crate::words::{body, end, number_word, word};
 use md_core::Event;
 use md_name::UniqueParts;
+use md_text::Rest;
 use std::alloc::Global;
 
 /// The words of `step` after the first.

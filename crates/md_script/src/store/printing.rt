@@ -4,12 +4,11 @@ ghost use mathlib.Core.List.{IsPrefix};
 ghost use Rattle.md_script.specs.Texts.{line_end, job_text, call_text, reply_text, answer_text, answer_line, out_text, bytes_text};
 
 use crate::digits::{push_line, push_number, push_number_and};
-use crate::escapes::push_escaped;
 use crate::few::push_word;
 use crate::flags::push_letters;
-use crate::listing::place_text;
 use md_core::{Answer, DirCall, DirReply, JobId, StepOut};
 use md_dirs::Place;
+use md_text::{place_text, push_escaped};
 use std::alloc::AllocError;
 
 /// `job J`, for a job that was submitted.
@@ -80,7 +79,7 @@ fn push_appended(out: &mut Vec<u8>, job: JobId, count: u64) -> Result<(), AllocE
 }
 
 /// Appends `J answer A`, the line of a job's answer. Where memory runs out, some of it may have been appended.
-#[tactic(auto, using(crate::proofs::Growing::grown, crate::proofs::Growing::grown_if, crate::proofs::Growing::grown_on))]
+#[tactic(auto, using(md_text::proofs::Growing::grown, md_text::proofs::Growing::grown_if, md_text::proofs::Growing::grown_on))]
 pub fn push_answer_line(out: &mut Vec<u8>, job: JobId, answer: Answer) -> Result<(), AllocError>
     ensures text { OnOk result (out.new.items ≡ out.old.items ++ answer_line job (Some answer)) }
     ensures kept { IsPrefix out.old.items out.new.items }

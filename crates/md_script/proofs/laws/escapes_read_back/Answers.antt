@@ -1,4 +1,4 @@
-use Rattle.md_script.proofs.Escaping.{unescaped-escaped}
+use Rattle.md_text.proofs.Escaping.{unescaped-escaped}
 use Rattle.md_script.proofs.laws.escapes_read_back.Goals as goal
 
 pub returns : goal.returns

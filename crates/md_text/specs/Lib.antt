@@ -1,0 +1,5 @@
+pub mod Bind
+pub mod Words
+pub mod Escapes
+pub mod Places
+pub mod Flags
