@@ -1,0 +1,3 @@
+pub mod NoMemory
+pub mod Runs
+pub mod Fewer
