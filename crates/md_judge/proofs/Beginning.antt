@@ -16,8 +16,7 @@ use Rattle.md_dirs.specs.declared.paths.Place.{Place}
 use Rattle.md_dirs.proofs.PathOrder.{path_total, path_exact}
 use Rattle.md_name.specs.declared.info.Info.{Info}
 use Rattle.md_name.specs.Names.{split_of}
-use Rattle.md_log.specs.Bind.{◌>>=◌}
-use Rattle.md_log.specs.Words.{require}
+use Rattle.md_text.specs.Bind.{◌>>=◌, require}
 use Rattle.md_log.specs.declared.error.LineFault.TheVariants.{SamePath, NoSuchPath}
 use Rattle.md_judge.specs.declared.judge.directories.Directory.{Directory}
 use Rattle.md_clauses.specs.declared.changes.Spot.{Spot}

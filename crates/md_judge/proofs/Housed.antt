@@ -8,7 +8,7 @@ use Rattle.std.proofs.lemmas.Result.{IfOk-at_ok}
 use Rattle.md_dirs.specs.State.{State, has_folder, file_at}
 use Rattle.md_dirs.specs.declared.paths.Path.{Path}
 use Rattle.md_log.specs.declared.error.LineFault.{LineFault}
-use Rattle.md_log.specs.declared.error.LineFault.TheVariants.{UnknownFolder, BadReply, SamePath, NoSuchPath}
+use Rattle.md_log.specs.declared.error.LineFault.TheVariants.{UnknownFolder, BadFlags, BadReply, SamePath, NoSuchPath}
 use Rattle.md_log.specs.declared.line.Call.{Call}
 use Rattle.md_log.specs.declared.line.Call.TheVariants as call
 use Rattle.md_log.specs.declared.line.Deed.{Deed}
@@ -19,8 +19,8 @@ use Rattle.md_log.specs.declared.line.Naming.{Naming}
 use Rattle.md_log.specs.declared.line.Naming.TheVariants as naming
 use Rattle.md_log.specs.declared.line.Said.{Said}
 use Rattle.md_log.specs.declared.line.Step.{Step}
-use Rattle.md_log.specs.Answers.{flags_of, bare_of, about_line, flags_line, moved_line, bare_line, answer_line}
-use Rattle.md_log.specs.Bind.{◌>>=◌}
+use Rattle.md_log.specs.Answers.{bare_of, about_line, flags_line, moved_line, bare_line, answer_line}
+use Rattle.md_text.specs.Bind.{◌>>=◌, require}
 use Rattle.md_log.specs.Calls.{reply_at, may_answer_at, may_answer_between, may_answer_list, at_line, between_line, list_line, verb_of, call_line, step_line}
 use Rattle.md_log.specs.Folders.{place_of, with_folder, folder_of}
 use Rattle.md_log.specs.Heads.{head_of, allowed_by, folder_line, allow_line, file_line, also_line}
@@ -29,7 +29,9 @@ use Rattle.md_log.specs.Names.{name_of, unique_name_of, names_at}
 use Rattle.md_log.specs.Paths.{directory_of, path_at}
 use Rattle.md_log.specs.Texts.{clause_named}
 use Rattle.md_log.specs.Ticks.{when_of}
-use Rattle.md_log.specs.Words.{Rest, require, word_at, piece_at, end_at, number_of}
+use Rattle.md_text.specs.Words.{Rest}
+use Rattle.md_text.specs.Flags.{flags_in}
+use Rattle.md_log.specs.Words.{word_at, piece_at, end_at, number_of}
 use Rattle.md_judge.specs.Logs.{Log, Numbered, with_line, with_folder_line, with_file_line, with_also_line}
 use Rattle.md_judge.specs.Recalled.{HasFolders}
 use Rattle.md_judge.specs.Told.{Moment, after_step, after_call, at}
@@ -117,7 +119,7 @@ module _ (folders : List (List ℕ)) (s : State) (same : s.folders ≡ length fo
 
   flags-housed : (rest : Rest) → IfOk (flags_line folders rest) Housed
   unfolding flags_line
-  flags-housed rest = then-so Housed (word_at rest) _ (λ word. then-so Housed (flags_of word.0) _ (λ flags. about-housed _ word.1))
+  flags-housed rest = then-so Housed (word_at rest) _ (λ word. then-so Housed (ok_or (flags_in word.0) BadFlags) _ (λ flags. about-housed _ word.1))
 
   moved-housed : (rest : Rest) → IfOk (moved_line folders rest) Housed
   unfolding moved_line

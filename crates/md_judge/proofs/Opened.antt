@@ -10,8 +10,7 @@ use Rattle.md_dirs.specs.declared.paths.Path.{Path}
 use Rattle.md_dirs.specs.declared.paths.File.{File}
 use Rattle.md_dirs.proofs.PathOrder.{path_total}
 use Rattle.md_dirs.proofs.Sound.{file-within}
-use Rattle.md_log.specs.Bind.{◌>>=◌}
-use Rattle.md_log.specs.Words.{require}
+use Rattle.md_text.specs.Bind.{◌>>=◌, require}
 use Rattle.md_log.specs.declared.error.LineFault.TheVariants.{SamePath, NoSuchPath}
 use Rattle.md_clauses.specs.declared.changes.Change.{Change}
 use Rattle.md_clauses.specs.declared.changes.Spot.{Spot}

@@ -6,7 +6,7 @@ use Rattle.std.specs.Prelude.{if◌then◌else◌, codes}
 use Rattle.std.specs.Str.{bytes_eq}
 use Rattle.md_head.specs.Header.{lines_of}
 use Rattle.md_log.specs.declared.clause.Clause.{Clause}
-use Rattle.md_log.specs.Bind.{◌>>=◌}
+use Rattle.md_text.specs.Bind.{◌>>=◌}
 use Rattle.md_log.specs.Folders.{with_folder}
 use Rattle.md_log.specs.Lines.{line_of}
 use Rattle.md_log.specs.declared.line.Line.{Line}

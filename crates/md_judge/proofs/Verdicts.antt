@@ -9,8 +9,8 @@ use Rattle.md_dirs.specs.Calls.{empty_file, with_new_file, with_path}
 use Rattle.md_dirs.specs.declared.paths.Path.{Path}
 use Rattle.md_log.specs.declared.error.LineFault.{LineFault}
 use Rattle.md_log.specs.declared.error.LineFault.TheVariants.{SamePath, NoSuchPath, SameFolder, TooManyFolders}
-use Rattle.md_log.specs.Bind.{◌>>=◌}
-use Rattle.md_log.specs.Words.{require, word_at}
+use Rattle.md_text.specs.Bind.{◌>>=◌, require}
+use Rattle.md_log.specs.Words.{word_at}
 use Rattle.std.specs.Prelude.{if◌then◌else◌}
 use Rattle.md_log.specs.declared.line.Line.{Line}
 use Rattle.md_log.specs.declared.line.Line.TheVariants as line

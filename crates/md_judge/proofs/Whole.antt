@@ -6,10 +6,9 @@ use Rattle.std.specs.Str.{bytes_eq}
 use Rattle.md_dirs.specs.State.{file_at}
 use Rattle.md_dirs.specs.Calls.{empty_file, with_new_file, with_path}
 use Rattle.md_dirs.specs.declared.paths.Path.{Path}
-use Rattle.md_log.specs.Bind.{◌>>=◌}
+use Rattle.md_text.specs.Bind.{◌>>=◌, require}
 use Rattle.md_log.specs.Lines.{line_of}
 use Rattle.md_log.specs.Folders.{with_folder}
-use Rattle.md_log.specs.Words.{require}
 use Rattle.md_log.specs.declared.clause.Clause.{Clause}
 use Rattle.md_log.specs.declared.error.LineFault.{LineFault}
 use Rattle.md_log.specs.declared.error.LineFault.TheVariants.{NoLog, SamePath, NoSuchPath}

@@ -12,8 +12,7 @@ use Rattle.md_log.specs.declared.error.LogFault.{LogFault}
 use Rattle.md_log.specs.declared.line.Line.{Line}
 use Rattle.md_log.specs.declared.line.Line.TheVariants as line
 use Rattle.md_log.specs.declared.line.Step.{Step}
-use Rattle.md_log.specs.Bind.{◌>>=◌}
-use Rattle.md_log.specs.Words.{require}
+use Rattle.md_text.specs.Bind.{◌>>=◌, require}
 use Rattle.md_log.specs.Folders.{with_folder}
 use Rattle.md_log.specs.Lines.{line_of}
 

@@ -1,4 +1,1 @@
-pub mod Cuts
-pub mod Numbers
-pub mod Escaping
 pub mod Shown

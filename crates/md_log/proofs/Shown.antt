@@ -1,5 +1,5 @@
 -- The names in the rest of a line, word by word.
-use Rattle.std.proofs.Common.{◌≡◌, ℕ, suc, ◌+◌, ◌<◌, ◌≤◌, true, false, cond, List, [], ◌∷◌, ◌++◌, Some, None, length, Ok, Err, Result, refl, sym, ap, ◌∙◌, arith, append_assoc, append-nil, length-drop}
+use Rattle.std.proofs.Common.{◌≡◌, ℕ, suc, ◌+◌, ◌<◌, ◌≤◌, true, false, cond, List, [], ◌∷◌, ◌++◌, Some, None, length, Ok, Err, Result, ok_or, refl, sym, ap, ◌∙◌, arith, append_assoc, append-nil, length-drop}
 use Rattle.std.specs.Prelude.{nat_lt, is_some}
 use Rattle.std.proofs.lemmas.Bool.Decides.{nat_tests}
 use Rattle.std.proofs.lemmas.List.Splits.{slice_split_first, slice_split_none}
@@ -9,8 +9,9 @@ use Rattle.std.proofs.lemmas.List.{take_all}
 use Rattle.std.specs.List.{slice_split, list_any, before_first, after_first, position_or_len}
 use Rattle.md_log.specs.declared.error.LineFault.{LineFault}
 use Rattle.md_log.specs.declared.error.LineFault.TheVariants.{BadLine}
-use Rattle.md_log.specs.Bind.{◌>>=◌}
-use Rattle.md_log.specs.Words.{Rest, word_at, cut_at, nonempty_word, is_space}
+use Rattle.md_text.specs.Bind.{◌>>=◌}
+use Rattle.md_text.specs.Words.{Rest, next_word, cut_at, nonempty_word, is_space}
+use Rattle.md_log.specs.Words.{word_at}
 use Rattle.md_log.specs.Names.{after_names, name_of, names_of, names_at}
 use Rattle.md_name.proofs.Firsts.{any_by_place, place_within}
 
@@ -54,7 +55,7 @@ left_by : Result (List ℕ × Rest) LineFault → Rest
 left_by (Ok read) = read.1
 left_by (Err fault) = None
 
-by_cut : (front : List ℕ) (rest : Rest) (word : List ℕ) (others : Rest) → nonempty_word (front, rest) ≡ Ok (word, others)
+by_cut : (front : List ℕ) (rest : Rest) (word : List ℕ) (others : Rest) → ok_or (nonempty_word (front, rest)) BadLine ≡ Ok (word, others)
     → names_of (front ∷ parts_of rest) ≡ then_names word others
 unfolding names_of word_by left_by
 by_cut [] rest word others is = cc
@@ -64,17 +65,17 @@ by_cut (b ∷ bytes) rest word others is =
     rw (← same, ← left) (ap (λ names. name_of (b ∷ bytes) >>= (λ name. after_names (name ∷ []) names)) (names_of-parts rest))
 
 pub next_name : (rest : Rest) (word : List ℕ) (others : Rest) → word_at rest ≡ Ok (word, others) → names_at rest ≡ then_names word others
-unfolding word_at names_at
+unfolding word_at next_word names_at
 next_name None word others is = cc
 next_name (Some text) word others is = ap names_of (split_cut text) ∙ by_cut (cut_at 32 text).0 (cut_at 32 text).1 word others is
 
-by_wrong_cut : (front : List ℕ) (rest : Rest) (fault : LineFault) → nonempty_word (front, rest) ≡ Err fault → names_of (front ∷ parts_of rest) ≡ Err fault
+by_wrong_cut : (front : List ℕ) (rest : Rest) (fault : LineFault) → ok_or (nonempty_word (front, rest)) BadLine ≡ Err fault → names_of (front ∷ parts_of rest) ≡ Err fault
 unfolding names_of
 by_wrong_cut [] rest fault is = let same : BadLine ≡ fault = cc in ap Err same
 by_wrong_cut (b ∷ bytes) rest fault is = cc
 
 pub no_word : (rest : Rest) (fault : LineFault) → is_some rest ≡ true → word_at rest ≡ Err fault → names_at rest ≡ Err fault
-unfolding word_at names_at
+unfolding word_at next_word names_at
 no_word None fault some is = cc
 no_word (Some text) fault some is = ap names_of (split_cut text) ∙ by_wrong_cut (cut_at 32 text).0 (cut_at 32 text).1 fault is
 
@@ -118,13 +119,13 @@ rest_of-length text =
       | false ↦ λ lt any. rw any (omega arith)
     ] refl (any_by_place is_space text)
 
-shorter_cut : (front : List ℕ) (rest : Rest) (word : List ℕ) (others : Rest) → nonempty_word (front, rest) ≡ Ok (word, others) → others ≡ rest
+shorter_cut : (front : List ℕ) (rest : Rest) (word : List ℕ) (others : Rest) → ok_or (nonempty_word (front, rest)) BadLine ≡ Ok (word, others) → others ≡ rest
 unfolding left_by
 shorter_cut [] rest word others is = cc
 shorter_cut (b ∷ bytes) rest word others is = sym (ap left_by is)
 
 pub shorter : (rest : Rest) (word : List ℕ) (others : Rest) → word_at rest ≡ Ok (word, others) → size_of others < size_of rest
-unfolding word_at
+unfolding word_at next_word
 shorter None word others is = cc
 shorter (Some text) word others is =
     rw (shorter_cut (cut_at 32 text).0 (cut_at 32 text).1 word others is) (let low = rest_of-length text in omega arith)

@@ -1,25 +1,18 @@
 -- What programs told their users, as a log writes it.
-use Rattle.std.specs.Prelude.{ℕ, List, Result, Ok, Err, if◌then◌else◌, codes}
-use Rattle.std.specs.List.{list_all}
-use Rattle.std.specs.FinSet as set
+use Rattle.std.specs.Prelude.{ℕ, List, Result, Ok, Err, if◌then◌else◌, codes, ok_or}
 use Rattle.std.specs.Str.{bytes_eq}
-use Rattle.md_name.specs.Letters.{Set, is_letter}
 use Rattle.md_log.specs.declared.error.LineFault.{LineFault}
 use Rattle.md_log.specs.declared.error.LineFault.TheVariants.{BadLine, BadFlags}
 use Rattle.md_log.specs.declared.line.Said.{Said}
 use Rattle.md_log.specs.declared.line.Said.TheVariants as said
 use Rattle.md_log.specs.declared.line.Call.{Call}
 use Rattle.md_log.specs.declared.line.Call.TheVariants as call
-use Rattle.md_log.specs.Bind.{◌>>=◌}
-use Rattle.md_log.specs.Words.{Rest, word_at, end_at}
+use Rattle.md_text.specs.Bind.{◌>>=◌}
+use Rattle.md_text.specs.Words.{Rest}
+use Rattle.md_text.specs.Flags.{flags_in}
+use Rattle.md_log.specs.Words.{word_at, end_at}
 use Rattle.md_log.specs.Names.{unique_name_of}
 use Rattle.md_log.specs.Folders.{folder_of}
-
--- a hyphen is no flags; other words are letters, in any order and perhaps repeated
-unfoldable pub flags_of : List ℕ → Result Set LineFault
-flags_of word =
-    if bytes_eq word (codes "-") then Ok set.empty
-    else (if list_all is_letter word then Ok (set.from_list word) else Err BadFlags)
 
 -- an answer of one word
 unfoldable pub bare_of : List ℕ → Result Said LineFault
@@ -44,7 +37,7 @@ about_line folders answer rest = do
 unfoldable pub flags_line : List (List ℕ) → Rest → Result Call LineFault
 flags_line folders rest = do
   word ← word_at rest
-  flags ← flags_of word.0
+  flags ← ok_or (flags_in word.0) BadFlags
   about_line folders (said.Flags flags) word.1
 
 -- the words after `moved`

@@ -14,8 +14,9 @@ use Rattle.md_log.specs.declared.line.Call.TheVariants as call
 use Rattle.md_log.specs.declared.line.Step.{Step}
 use Rattle.md_log.specs.declared.line.calls.Verb.{Verb}
 use Rattle.md_log.specs.declared.line.calls.Verb.TheVariants as verb
-use Rattle.md_log.specs.Bind.{◌>>=◌}
-use Rattle.md_log.specs.Words.{Rest, require, word_at, end_at}
+use Rattle.md_text.specs.Bind.{◌>>=◌, require}
+use Rattle.md_text.specs.Words.{Rest}
+use Rattle.md_log.specs.Words.{word_at, end_at}
 use Rattle.md_log.specs.Names.{names_at}
 use Rattle.md_log.specs.Folders.{folder_of}
 use Rattle.md_log.specs.Paths.{directory_of, path_at}

@@ -3,8 +3,7 @@ use Rattle.std.specs.Prelude.{ℕ, List, [], ◌∷◌, ◌++◌, length, nat_lt
 use Rattle.std.specs.Str.{bytes_eq}
 use Rattle.md_log.specs.declared.error.LineFault.{LineFault}
 use Rattle.md_log.specs.declared.error.LineFault.TheVariants.{SameFolder, TooManyFolders, UnknownFolder}
-use Rattle.md_log.specs.Bind.{◌>>=◌}
-use Rattle.md_log.specs.Words.{require}
+use Rattle.md_text.specs.Bind.{◌>>=◌, require}
 use Rattle.md_log.specs.Names.{name_of}
 
 -- the most folders of a log

@@ -9,8 +9,9 @@ use Rattle.md_log.specs.declared.line.Line.{Line}
 use Rattle.md_log.specs.declared.line.Line.TheVariants as line
 use Rattle.md_log.specs.declared.line.head.HeadWord.{HeadWord}
 use Rattle.md_log.specs.declared.line.head.HeadWord.TheVariants as head
-use Rattle.md_log.specs.Bind.{◌>>=◌}
-use Rattle.md_log.specs.Words.{Rest, word_at, end_at, number_of}
+use Rattle.md_text.specs.Bind.{◌>>=◌}
+use Rattle.md_text.specs.Words.{Rest}
+use Rattle.md_log.specs.Words.{word_at, end_at, number_of}
 use Rattle.md_log.specs.Names.{name_of}
 use Rattle.md_log.specs.Paths.{path_at}
 use Rattle.md_log.specs.Texts.{clause_named}

@@ -1,5 +1,4 @@
 pub mod Texts
-pub mod Bind
 pub mod Words
 pub mod Names
 pub mod Folders

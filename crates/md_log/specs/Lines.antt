@@ -5,8 +5,9 @@ use Rattle.md_log.specs.declared.error.LineFault.TheVariants.{TooLate}
 use Rattle.md_log.specs.declared.line.Line.{Line}
 use Rattle.md_log.specs.declared.line.Line.TheVariants as line
 use Rattle.md_log.specs.declared.line.head.HeadWord.{HeadWord}
-use Rattle.md_log.specs.Bind.{◌>>=◌}
-use Rattle.md_log.specs.Words.{Rest, word_at}
+use Rattle.md_text.specs.Bind.{◌>>=◌}
+use Rattle.md_text.specs.Words.{Rest}
+use Rattle.md_log.specs.Words.{word_at}
 use Rattle.md_log.specs.Heads.{head_of, head_line}
 use Rattle.md_log.specs.Calls.{step_line}
 

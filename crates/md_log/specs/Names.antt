@@ -1,34 +1,12 @@
 -- The names of folders, files and messages, which a log writes with escapes.
-use Rattle.std.specs.Prelude.{ℕ, Bool, true, false, not, ◌&&◌, ◌||◌, ◌==◌, List, [], ◌∷◌, ◌++◌, length, nat_le, nat_lt, Some, None, Result, Ok, Err, if◌then◌else◌}
+use Rattle.std.specs.Prelude.{ℕ, Bool, true, not, ◌&&◌, ◌||◌, ◌==◌, List, [], ◌∷◌, ◌++◌, length, nat_le, nat_lt, Some, None, Result, Ok, Err, ok_or}
 use Rattle.std.specs.List.{list_any, list_all, slice_split}
 use Rattle.md_name.specs.Names.{begins_with_dot, is_colon}
 use Rattle.md_log.specs.declared.error.LineFault.{LineFault}
 use Rattle.md_log.specs.declared.error.LineFault.TheVariants.{BadLine, BadEscape, BadName}
-use Rattle.md_log.specs.Bind.{◌>>=◌}
-use Rattle.md_log.specs.Words.{require, Rest, is_space}
-
--- the byte that a backslash and a letter stand for: `\s` a space, `\n` LF, `\r` CR, `\\` a backslash
-unfoldable pub meant_by : ℕ → Result ℕ LineFault
-meant_by letter =
-    if letter == 115 then Ok 32
-    else (if letter == 110 then Ok 10
-    else (if letter == 114 then Ok 13
-    else (if letter == 92 then Ok 92 else Err BadEscape)))
-
--- bytes before those that are read
-abbrev pub after_bytes : List ℕ → Result (List ℕ) LineFault → Result (List ℕ) LineFault
-after_bytes front read = read >>= (λ bytes. Ok (front ++ bytes))
-
--- the bytes that a text stands for, where a backslash stands before it or not: a backslash and the letter after it are one byte, and
--- any other byte is itself
-unfoldable pub unescaped_by : Bool → List ℕ → Result (List ℕ) LineFault
-unescaped_by true [] = Err BadEscape
-unescaped_by false [] = Ok []
-unescaped_by true (letter ∷ text) = meant_by letter >>= (λ b. after_bytes (b ∷ []) (unescaped_by false text))
-unescaped_by false (b ∷ text) = if b == 92 then unescaped_by true text else after_bytes (b ∷ []) (unescaped_by false text)
-
-abbrev pub unescaped : List ℕ → Result (List ℕ) LineFault
-unescaped text = unescaped_by false text
+use Rattle.md_text.specs.Bind.{◌>>=◌, require}
+use Rattle.md_text.specs.Words.{Rest, is_space}
+use Rattle.md_text.specs.Escapes.{unescaped}
 
 -- `.` and `..`
 abbrev pub is_dots : List ℕ → Bool
@@ -45,7 +23,7 @@ is_name name = nat_lt 0 (length name) && nat_le (length name) 255 && not (is_dot
 -- the name that a word spells
 unfoldable pub name_of : List ℕ → Result (List ℕ) LineFault
 name_of word = do
-  name ← unescaped word
+  name ← ok_or (unescaped true word) BadEscape
   _ ← require (is_name name) BadName
   Ok name
 

@@ -1,22 +1,19 @@
 -- Paths, as a log writes them: `FOLDER/PLACE/NAME`.
-use Rattle.std.specs.Prelude.{ℕ, List, Result, Ok, Err, if◌then◌else◌, codes}
-use Rattle.std.specs.Str.{bytes_eq}
+use Rattle.std.specs.Prelude.{ℕ, List, Result, Ok, ok_or}
 use Rattle.md_dirs.specs.declared.paths.Place.{Place}
-use Rattle.md_dirs.specs.declared.paths.Place.TheVariants.{Tmp, New, Cur}
 use Rattle.md_dirs.specs.declared.paths.Path.{Path}
 use Rattle.md_log.specs.declared.error.LineFault.{LineFault}
 use Rattle.md_log.specs.declared.error.LineFault.TheVariants.{BadPlace}
-use Rattle.md_log.specs.Bind.{◌>>=◌}
-use Rattle.md_log.specs.Words.{Rest, word_at, piece_at}
+use Rattle.md_text.specs.Bind.{◌>>=◌}
+use Rattle.md_text.specs.Words.{Rest}
+use Rattle.md_text.specs.Places.{place_named}
+use Rattle.md_log.specs.Words.{word_at, piece_at}
 use Rattle.md_log.specs.Names.{name_of}
 use Rattle.md_log.specs.Folders.{folder_of}
 
 -- maildir(5): tmp, new and cur are the directories of a maildir
 unfoldable pub directory_of : List ℕ → Result Place LineFault
-directory_of word =
-    if bytes_eq word (codes "tmp") then Ok Tmp
-    else (if bytes_eq word (codes "new") then Ok New
-    else (if bytes_eq word (codes "cur") then Ok Cur else Err BadPlace))
+directory_of word = ok_or (place_named word) BadPlace
 
 -- the next word as a path
 unfoldable pub path_at : List (List ℕ) → Rest → Result (Path × Rest) LineFault

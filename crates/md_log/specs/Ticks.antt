@@ -5,8 +5,9 @@ use Rattle.md_log.specs.declared.error.LineFault.{LineFault}
 use Rattle.md_log.specs.declared.error.LineFault.TheVariants.{BadLine, BadNumber}
 use Rattle.md_log.specs.declared.line.ticks.Ticks.{Ticks}
 use Rattle.md_log.specs.declared.line.ticks.When.{When}
-use Rattle.md_log.specs.Bind.{◌>>=◌}
-use Rattle.md_log.specs.Words.{Rest, require, cut_at, number_of}
+use Rattle.md_text.specs.Bind.{◌>>=◌, require}
+use Rattle.md_text.specs.Words.{Rest, cut_at}
+use Rattle.md_log.specs.Words.{number_of}
 
 abbrev pub parts_by : List ℕ × Rest → Result (List ℕ × List ℕ) LineFault
 parts_by (part, None) = Err BadNumber

@@ -5,11 +5,9 @@
 
 mod clause;
 mod error;
-mod flags;
 mod folders;
 mod line;
 mod names;
-mod number;
 mod words;
 
 pub use clause::{CLAUSES, Clause};

@@ -15,11 +15,12 @@ use crate::clause::Clause;
 use crate::error::LineFault;
 use crate::folders::Folders;
 use crate::names::{Names, name};
-use crate::words::{Rest, equals, piece, word};
+use crate::words::{piece, word};
 use calls::step_line;
 use head::{head_line, head_word};
 use md_dirs::{Bytes, FileName, Path, Place};
 use md_name::Flags;
+use md_text::{Rest, place_from};
 use std::alloc::Global;
 pub use ticks::Ticks;
 
@@ -149,14 +150,9 @@ fn folder(alloc: Global, folders: &Folders, word: &[u8]) -> Result<u32, LineFaul
 fn place(word: &[u8]) -> Result<Place, LineFault>
     ensures { result ≡ directory_of word.now }
 {
-    if equals(word, b"tmp") {
-        Ok(Place::Tmp)
-    } else if equals(word, b"new") {
-        Ok(Place::New)
-    } else if equals(word, b"cur") {
-        Ok(Place::Cur)
-    } else {
-        Err(LineFault::BadPlace)
+    match place_from(word) {
+        None => Err(LineFault::BadPlace),
+        Some(place) => Ok(place),
     }
 }
 

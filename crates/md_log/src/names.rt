@@ -3,26 +3,23 @@ ghost use Rattle.std.specs.Prelude.{◌≡◌, List, ℕ};
 ghost use Rattle.std.specs.List.{list_any};
 ghost use Rattle.std.specs.Option.{option_copied};
 ghost use Rattle.md_log.specs.Words.{Gives};
-ghost use Rattle.md_log.specs.Names.{is_dots, is_barred, is_name, meant_by, unescaped, name_of, unique_name_of, names_at};
+ghost use Rattle.md_log.specs.Names.{is_dots, is_barred, is_name, name_of, unique_name_of, names_at};
 
 use crate::error::LineFault;
-use crate::words::{Rest, word};
+use crate::words::word;
 use md_dirs::Bytes;
+use md_text::{Rest, unescape};
 use std::alloc::Global;
 use std::marker::Model;
 
 /// The longest name, in bytes.
 const LONGEST_NAME: usize = 255;
 
-const SPACE: u8 = b' ';
-
 const SLASH: u8 = b'/';
 
 const DOT: u8 = b'.';
 
 const COLON: u8 = b':';
-
-const BACKSLASH: u8 = b'\\';
 
 /// Names, in their order. Contracts see the list of them.
 #[derive(Drop)]
@@ -50,7 +47,9 @@ impl Names {
 pub(crate) fn name(alloc: Global, word: &[u8]) -> Result<Bytes, LineFault>
     ensures { Gives (λ name. name) result (name_of word.now) }
 {
-    let bytes = unescape(alloc, word)?;
+    let Some(bytes) = unescape(alloc, true, word)? else {
+        return Err(LineFault::BadEscape);
+    };
     if !is_name(&bytes) {
         return Err(LineFault::BadName);
     }
@@ -101,40 +100,4 @@ fn has_barred(name: &[u8]) -> bool
     ensures { result ≡ list_any is_barred name.now }
 {
     name.iter().any(|b| *b == SLASH || *b == 0)
-}
-
-/// The bytes that a text with escapes stands for.
-fn unescape(alloc: Global, text: &[u8]) -> Result<Vec<u8>, LineFault>
-    ensures { Gives (λ bytes. bytes.items) result (unescaped text.now) }
-{
-    let mut bytes = Vec::with_capacity(alloc, text.len())?;
-    let mut is_escape = false;
-    for byte in text {
-        if is_escape {
-            bytes.push(meant_by(*byte)?)?;
-            is_escape = false;
-        } else if *byte == BACKSLASH {
-            is_escape = true;
-        } else {
-            bytes.push(*byte)?;
-        }
-    }
-    if is_escape {
-        return Err(LineFault::BadEscape);
-    }
-    Ok(bytes)
-}
-
-/// The byte that a backslash and a letter stand for.
-#[tactic(auto, unfolding(crate::specs::Names::meant_by))]
-fn meant_by(letter: u8) -> Result<u8, LineFault>
-    ensures { result ≡ meant_by letter }
-{
-    match letter {
-        b's' => Ok(SPACE),
-        b'n' => Ok(b'\n'),
-        b'r' => Ok(b'\r'),
-        BACKSLASH => Ok(BACKSLASH),
-        _ => Err(LineFault::BadEscape),
-    }
 }

@@ -1,50 +1,28 @@
-//! The words of a line, read from left to right.
-ghost use Rattle.std.specs.Prelude.{◌≡◌, ◌<◌, length, position, IfOk, IfSome};
+//! The words of a line, read from left to right, and how a log refuses them.
+ghost use Rattle.std.specs.Prelude.{◌≡◌, ◌<◌, length, IfOk};
 ghost use Rattle.std.specs.Option.{option_copied};
 ghost use Rattle.std.specs.Str.{bytes_eq};
-ghost use Rattle.md_log.specs.Words.{is_byte, cut_at, word_at, piece_at, end_at, Reads};
+ghost use Rattle.md_text.specs.Bind.{Reads};
+ghost use Rattle.md_log.specs.Words.{word_at, piece_at, end_at, number_of};
 
 use crate::error::LineFault;
+use md_text::{Rest, cut};
 
-/// What is left of a line: `None` at its end, and else what stands after a space.
-pub(crate) type Rest<'a> = Option<&'a [u8]>;
-
-const SPACE: u8 = b' ';
+/// The most digits of a number.
+const MOST_DIGITS: usize = 19;
 
 const SLASH: u8 = b'/';
 
-/// The bytes before the first that is `byte`, and those after it, where there is one.
-pub(crate) fn cut(text: &[u8], byte: u8) -> (&[u8], Rest<'_>)
-    ensures { cut_at byte text.now ≡ (result.0.now, option_copied result.1) }
-{
-    match first(text, byte) {
-        None => (text, None),
-        Some(at) => (&text[..at], Some(&text[at + 1..])),
-    }
-}
-
-/// Where the first such byte is.
-fn first(text: &[u8], byte: u8) -> Option<usize>
-    ensures found { result ≡ position (is_byte byte) text.now }
-    ensures within { IfSome result (λ at. at < length text.now) }
-{
-    text.iter().position(|b| *b == byte)
-}
-
-/// The next word, which isn't empty. Exactly one space parts two words.
+/// The next word, which isn't empty.
 #[tactic(auto, unfolding(crate::specs::Words::word_at))]
 pub(crate) fn word(rest: Rest<'_>) -> Result<(&[u8], Rest<'_>), LineFault>
     ensures value { Reads (λ read. (read.0.now, option_copied read.1)) result (word_at (option_copied rest.entry)) }
     ensures nonempty { IfOk result (λ read. 0 < length read.0.now) }
 {
-    let Some(text) = rest else {
-        return Err(LineFault::BadLine);
-    };
-    let (word, rest) = cut(text, SPACE);
-    if word.is_empty() {
-        return Err(LineFault::BadLine);
+    match md_text::word(rest) {
+        None => Err(LineFault::BadLine),
+        Some(read) => Ok(read),
     }
-    Ok((word, rest))
 }
 
 /// The piece of a word before its next slash, and what is left of the word.
@@ -73,5 +51,16 @@ pub(crate) fn end(rest: Rest<'_>) -> Result<(), LineFault>
     match rest {
         None => Ok(()),
         Some(_) => Err(LineFault::BadLine),
+    }
+}
+
+/// The number that a word spells.
+#[tactic(auto, unfolding(crate::specs::Words::number_of))]
+pub(crate) fn number(word: &[u8]) -> Result<u64, LineFault>
+    ensures { result ≡ number_of word.now }
+{
+    match md_text::number(word, MOST_DIGITS) {
+        None => Err(LineFault::BadNumber),
+        Some(n) => Ok(n),
     }
 }

@@ -9,7 +9,7 @@ use Rattle.std.proofs.Math.ListN.{drop_of_length-le}
 use Rattle.std.specs.List.{All}
 use Rattle.md_text.specs.Escapes.{escape, escape_all, meant_by, onto, unescaped}
 use Rattle.memchr.specs.Find.{Nowhere, NoneBefore, Passes, is_byte}
-use Rattle.md_name.proofs.Firsts.{refuted}
+use Rattle.std.proofs.lemmas.Bool.{false_from_ne_true as refuted}
 use Rattle.md_text.proofs.Marks.{split}
 use Rattle.md_text.proofs.Firsts.{absent}
 

@@ -4,7 +4,7 @@ use Rattle.std.specs.List.{All, position_or_len}
 use Rattle.std.proofs.lemmas.List.Elements.{All-from_get_or}
 use Rattle.std.proofs.lemmas.List.Sums.{position_or_len_is}
 use Rattle.memchr.specs.Find.{Nowhere, NoneBefore, Passes, is_byte}
-use Rattle.md_name.proofs.Firsts.{refuted}
+use Rattle.std.proofs.lemmas.Bool.{false_from_ne_true as refuted}
 
 pub absent : (b : ℕ) (text : List ℕ) → Nowhere (Passes (is_byte b) text) 0 (length text) → All (λ x. is_byte b x ≡ false) text
 absent b text none = All-from_get_or (λ x. is_byte b x ≡ false) text 0 (λ i h. refuted _ (none i (omega arith) h))

@@ -10,7 +10,7 @@ use Rattle.md_name.proofs.Either.{any-either}
 use Rattle.memchr.specs.Find.{Nowhere, NoneBefore, Passes, is_byte3, places_from}
 use Rattle.md_text.proofs.Marks.{Next, next_mark, found_in, none_in}
 use Rattle.md_text.specs.Escapes.{escape, escape_all}
-use Rattle.md_name.proofs.Firsts.{refuted}
+use Rattle.std.proofs.lemmas.Bool.{false_from_ne_true as refuted}
 
 abbrev Plain : ℕ → Type 0
 Plain b = is_byte3 92 10 13 b ≡ false

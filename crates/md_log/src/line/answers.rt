@@ -6,10 +6,10 @@ ghost use Rattle.md_log.specs.Answers.{answer_line, flags_line, moved_line, bare
 
 use super::{Call, Said, folder};
 use crate::error::LineFault;
-use crate::flags::flags_from;
 use crate::folders::Folders;
 use crate::names::unique;
-use crate::words::{Rest, end, equals, word};
+use crate::words::{end, equals, word};
+use md_text::{Rest, flags_from};
 use std::alloc::Global;
 
 /// The words of `answer` after it.
@@ -36,7 +36,9 @@ fn flags_line(alloc: Global, folders: &Folders, rest: Rest<'_>) -> Result<Call, 
     ensures { Gives (λ call. call) result (flags_line folders.now (option_copied rest.entry)) }
 {
     let (letters, rest) = word(rest)?;
-    let flags = flags_from(letters)?;
+    let Some(flags) = flags_from(letters) else {
+        return Err(LineFault::BadFlags);
+    };
     about_line(alloc, folders, Said::Flags(flags), rest)
 }
 

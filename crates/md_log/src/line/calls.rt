@@ -1,7 +1,8 @@
 //! Lines of steps.
 ghost use Rattle.std.specs.Prelude.{◌≡◌, ◌<◌, length};
 ghost use Rattle.std.specs.Option.{option_copied};
-ghost use Rattle.md_log.specs.Words.{Gives, Reads};
+ghost use Rattle.md_text.specs.Bind.{Reads};
+ghost use Rattle.md_log.specs.Words.{Gives};
 ghost use Rattle.md_log.specs.Calls.{step_line, call_line, verb_of, at_line, between_line, list_line, reply_of, reply_at, may_answer_at, may_answer_between, may_answer_list};
 
 use super::answers::answer_line;
@@ -10,8 +11,9 @@ use super::{Call, Deed, Naming, Reply, Step, folder, path, place};
 use crate::error::LineFault;
 use crate::folders::Folders;
 use crate::names::names_in;
-use crate::words::{Rest, end, equals, word};
+use crate::words::{end, equals, word};
 use md_dirs::Bytes;
+use md_text::Rest;
 use std::alloc::Global;
 
 /// What a step's third word asks for.

@@ -1,7 +1,8 @@
 //! Lines of what there is at the beginning.
 ghost use Rattle.std.specs.Prelude.{◌≡◌};
 ghost use Rattle.std.specs.Option.{option_copied};
-ghost use Rattle.md_log.specs.Words.{Gives, Reads};
+ghost use Rattle.md_text.specs.Bind.{Reads};
+ghost use Rattle.md_log.specs.Words.{Gives};
 ghost use Rattle.md_log.specs.Heads.{head_of, head_line, folder_line, allowed_by, allow_line, file_line, also_line};
 
 use super::{Line, path};
@@ -9,8 +10,8 @@ use crate::clause::Clause;
 use crate::error::LineFault;
 use crate::folders::Folders;
 use crate::names::name;
-use crate::number::number;
-use crate::words::{Rest, end, equals, word};
+use crate::words::{end, equals, number, word};
+use md_text::Rest;
 use std::alloc::Global;
 
 /// The first word of such a line.

@@ -1,12 +1,12 @@
 //! When a step took effect: `MOMENT`, or `MOMENT@BEGIN..END`.
 ghost use Rattle.std.specs.Prelude.{◌≡◌, ◌<◌, length};
 ghost use Rattle.std.specs.Option.{option_copied};
-ghost use Rattle.md_log.specs.Words.{Reads};
+ghost use Rattle.md_text.specs.Bind.{Reads};
 ghost use Rattle.md_log.specs.Ticks.{parts_at, ticks_of, when_by, when_of};
 
 use crate::error::LineFault;
-use crate::number::number;
-use crate::words::{Rest, cut};
+use crate::words::number;
+use md_text::{Rest, cut};
 
 const AT: u8 = b'@';
 
