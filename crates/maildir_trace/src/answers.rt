@@ -3,129 +3,88 @@
 //! A log says less than an answer does, so each answer is also a comment, in the words of docs/SCRIPT.md. An answer that has no word of the
 //! log is `failed`, which says that nothing was done to the message: the job had no effect. `notthere` of a log speaks of the whole folder.
 //! So it stands only for a job that looked through new and cur, a move or a copy; a job that looks in one of them alone has `failed`.
-use crate::about::{About, Message};
 use crate::log::Log;
-use crate::steps::push_begin;
-use crate::text::{push_folder, push_message};
-use md_core::{Answer, Event};
+use md_core::{Answer, Call};
+use md_dirs::Bytes;
+use std::alloc::{AllocError, Global};
 
-/// Appends the line of an answer. Nothing where the log has no word for it, as for a clean.
-pub(crate) fn push_answer(
-    log: &mut Log,
-    names: &[Vec<u8>],
-    about: &About,
-    event: Event,
-    answer: &Answer,
-) {
-    match about {
-        About::Nothing => {}
-        About::One(message) => {
-            push_begin(log, event);
-            push_one(log, *answer);
-            end(log, names, message);
-        }
-        About::Moved { message, to } => {
-            push_begin(log, event);
-            push_moved(log, names, *to, *answer);
-            end(log, names, message);
-        }
-        About::Copied { message, copy } => {
-            push_begin(log, event);
-            push_copied(log, names, message, copy, *answer);
-        }
+/// Where a job takes its message.
+#[derive(Drop)]
+enum Goal {
+    /// It leaves it in its folder, or delivers it there.
+    Here,
+    /// To another folder.
+    To(u32),
+    /// To another folder, under another name, as a copy.
+    Copy { folder: u32, unique: Bytes },
+}
+
+/// The message that the answer to a call is about.
+#[derive(Drop)]
+pub(crate) struct Subject {
+    folder: u32,
+    unique: Bytes,
+    goal: Goal,
+}
+
+impl Subject {
+    /// What the answer to a call is about: nothing for a clean.
+    pub(crate) fn of(alloc: Global, call: &Call) -> Result<Option<Subject>, AllocError> {
+        let (folder, unique, goal) = match call {
+            Call::Deliver { folder, unique, .. }
+            | Call::Seen { folder, unique, .. }
+            | Call::Flag { folder, unique, .. }
+            | Call::Expunge { folder, unique, .. } => (*folder, unique, Goal::Here),
+            Call::Move {
+                folder,
+                unique,
+                to,
+                ..
+            } => (*folder, unique, Goal::To(*to)),
+            Call::Copy {
+                folder,
+                unique,
+                to,
+                fresh,
+                ..
+            } => {
+                let goal = Goal::Copy {
+                    folder: *to,
+                    unique: fresh.again(alloc)?,
+                };
+                (*folder, unique, goal)
+            }
+            Call::Clean { .. } => return Ok(None),
+        };
+        Ok(Some(Subject {
+            folder,
+            unique: unique.again(alloc)?,
+            goal,
+        }))
     }
-}
 
-// The answer of a move.
-fn push_moved(log: &mut Log, names: &[Vec<u8>], to: u32, answer: Answer) {
-    match answer {
-        Answer::Moved => {
-            log.push(b" answer moved ");
-            push_folder(log, names, to);
+    /// Appends `JOB answer`, the words of an answer, and the message that they are about: the copy, where there is one.
+    pub(crate) fn push_answer(&self, log: &mut Log, job: u64, answer: Answer) {
+        match (answer, &self.goal) {
+            (Answer::Copied, Goal::Copy { folder, unique }) => {
+                log.push_answer(job, Answer::Delivered);
+                log.push_message(*folder, unique.as_slice());
+                return;
+            }
+            (Answer::Moved, Goal::To(folder)) => {
+                log.push_answer(job, answer);
+                log.push(b" ");
+                log.push_folder(*folder);
+            }
+            (Answer::NotThere, Goal::To(_) | Goal::Copy { .. })
+            | (Answer::Delivered | Answer::Flags(_) | Answer::Expunged, _) => {
+                log.push_answer(job, answer);
+            }
+            _ => {
+                log.push_number(job);
+                log.push(b" answer failed");
+            }
         }
-        other => log.push(without_effect(other)),
-    }
-}
-
-// The answer of a copy, which is about the copy where there is one.
-fn push_copied(
-    log: &mut Log,
-    names: &[Vec<u8>],
-    message: &Message,
-    copy: &Message,
-    answer: Answer,
-) {
-    match answer {
-        Answer::Copied => {
-            log.push(b" answer delivered");
-            end(log, names, copy);
-        }
-        other => {
-            log.push(without_effect(other));
-            end(log, names, message);
-        }
-    }
-}
-
-// The answer of a job about one message.
-fn push_one(log: &mut Log, answer: Answer) {
-    match answer {
-        Answer::Delivered => log.push(b" answer delivered"),
-        Answer::Expunged => log.push(b" answer expunged"),
-        Answer::Flags(flags) => {
-            log.push(b" answer flags ");
-            log.push_flags(flags);
-        }
-        _ => log.push(b" answer failed"),
-    }
-}
-
-// The word of an answer without an effect, of a job that looks through new and cur.
-fn without_effect(answer: Answer) -> &'static [u8] {
-    match answer {
-        Answer::NotThere => b" answer notthere",
-        _ => b" answer failed",
-    }
-}
-
-fn end(log: &mut Log, names: &[Vec<u8>], message: &Message) {
-    push_message(log, names, message.folder, message.unique.as_slice());
-    log.push(b"\n");
-}
-
-/// Appends the comment that has the whole answer, in the words of a script's transcript.
-pub(crate) fn push_comment(log: &mut Log, answer: Answer) {
-    log.push(b"# answer ");
-    match answer {
-        Answer::Flags(flags) => {
-            log.push(b"flags ");
-            log.push_flags(flags);
-        }
-        Answer::Cleaned(count) => {
-            log.push(b"cleaned ");
-            log.push_number(count);
-        }
-        other => log.push(word(other)),
-    }
-    log.push(b"\n");
-}
-
-// The first word of an answer.
-fn word(answer: Answer) -> &'static [u8] {
-    match answer {
-        Answer::Delivered => b"delivered",
-        Answer::Flags(_) => b"flags",
-        Answer::Moved => b"moved",
-        Answer::Expunged => b"expunged",
-        Answer::Copied => b"copied",
-        Answer::Cleaned(_) => b"cleaned",
-        Answer::NotThere => b"notthere",
-        Answer::NotTrashed => b"nottrashed",
-        Answer::OtherInfo => b"otherinfo",
-        Answer::Lost => b"lost",
-        Answer::TimedOut => b"timedout",
-        Answer::TmpGone => b"tmpgone",
-        Answer::NameTaken => b"nametaken",
-        Answer::Fault => b"fault",
+        log.push_message(self.folder, self.unique.as_slice());
     }
 }

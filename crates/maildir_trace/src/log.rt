@@ -1,33 +1,91 @@
 //! A log that grows.
 use itoa::Buffer;
-use md_name::Flags;
-use md_script::PlayKind;
-use std::alloc::Global;
+use md_core::Answer;
+use md_dirs::Place;
+use md_script::{PlayError, PlayKind, Printed, push_answer_line};
+use md_text::place_text;
+use std::alloc::{AllocError, Global};
+use std::mem::replace;
+
+/// How a log begins. A store in memory flushes nothing, and no call of it could be logged as `flush`: a judge would find each delivery
+/// unflushed, which says nothing of the jobs. So the log asks not to be judged by that clause.
+const BEGIN: &[u8] = b"maildir_log 1\nallow NotFlushed\n";
 
 /// The greatest number of a log, which has 19 digits.
 const MOST: u64 = 9_999_999_999_999_999_999;
 
-/// The text of a log. At the first refusal it takes nothing more, and keeps why. So its words are appended without an answer, and who
-/// appends a line asks once, at its end.
+/// The text of a log. At the first refusal it takes nothing more, and keeps why and at which line of the script. So its words are appended
+/// without an answer, and the program asks once, at the end.
 #[derive(Drop)]
 pub(crate) struct Log {
+    alloc: Global,
     text: Vec<u8>,
+    // The names of the folders, by their numbers.
+    folders: Vec<Vec<u8>>,
+    // The line of the script that is run, and how much was there before it.
+    line: u64,
+    before: usize,
     refused: Option<PlayKind>,
 }
 
 impl Log {
-    /// A log without a line.
+    /// A log of no line of a script.
     pub(crate) fn new(alloc: Global) -> Log {
-        Log {
+        let mut log = Log {
+            alloc,
             text: Vec::new(alloc),
+            folders: Vec::new(alloc),
+            line: 0,
+            before: 0,
             refused: None,
+        };
+        log.push(BEGIN);
+        log
+    }
+
+    /// A line of the script is run from here on.
+    pub(crate) fn begin_line(&mut self, number: u64) {
+        if self.refused.is_none() {
+            self.line = number;
+            self.before = self.text.len();
+        }
+    }
+
+    /// The log of a script that was refused so, or not at all. A refused line says nothing in it, and the log's own refusal came first.
+    pub(crate) fn end(mut self, refusal: Option<PlayError>) -> Result<Printed, PlayKind> {
+        let refusal = match self.refused {
+            Some(PlayKind::NoMemory) => return Err(PlayKind::NoMemory),
+            Some(kind) => Some(PlayError {
+                line: self.line,
+                kind,
+            }),
+            None => refusal,
+        };
+        if refusal.is_some() {
+            self.text.truncate(self.before);
+        }
+        Ok(Printed {
+            text: self.text,
+            refusal,
+        })
+    }
+
+    /// What memory is taken from.
+    pub(crate) fn alloc(&self) -> Global {
+        self.alloc
+    }
+
+    /// Takes nothing more from here on.
+    pub(crate) fn refuse(&mut self, kind: PlayKind) {
+        if self.refused.is_none() {
+            self.refused = Some(kind);
         }
     }
 
     /// Appends bytes as they are. `NoMemory` is kept where there is none.
     pub(crate) fn push(&mut self, bytes: &[u8]) {
         if self.refused.is_none() && self.text.extend_from_slice(bytes).is_err() {
-            self.refused = Some(PlayKind::NoMemory);
+            self.refuse(PlayKind::NoMemory);
         }
     }
 
@@ -45,15 +103,26 @@ impl Log {
         self.push_number(seconds);
     }
 
-    /// Appends letters in ASCII order, and a hyphen where there are none.
-    pub(crate) fn push_flags(&mut self, flags: Flags) {
-        let before = self.text.len();
-        if self.refused.is_none() && flags.write_onto(&mut self.text).is_err() {
-            self.refused = Some(PlayKind::NoMemory);
+    /// Appends `JOB answer` and the words of an answer, as a script's transcript has them.
+    pub(crate) fn push_answer(&mut self, job: u64, answer: Answer) {
+        if self.refused.is_none() {
+            match push_answer_line(&mut self.text, job, answer) {
+                // The line goes on.
+                Ok(()) => self.text.truncate(self.text.len().saturating_sub(1)),
+                Err(_) => self.refuse(PlayKind::NoMemory),
+            }
         }
-        if self.text.len() == before {
-            self.push(b"-");
+    }
+
+    /// Appends `# answer` and the words of an answer.
+    pub(crate) fn push_comment(&mut self, answer: Answer) {
+        let at = self.text.len();
+        self.push_answer(0, answer);
+        // The number 0 has one digit, in the place of the sign of a comment.
+        if let Some(digit) = self.text.get_mut(at) {
+            *digit = b'#';
         }
+        self.push(b"\n");
     }
 
     /// Appends a name, with the four escapes of a log.
@@ -68,34 +137,48 @@ impl Log {
             }
         }
     }
+}
 
-    /// Takes nothing more from here on.
-    pub(crate) fn refuse(&mut self, kind: PlayKind) {
-        if self.refused.is_none() {
-            self.refused = Some(kind);
+impl Log {
+    /// Appends the line of the next folder, and keeps its name.
+    pub(crate) fn push_new_folder(&mut self, name: &[u8]) {
+        self.push(b"folder ");
+        self.push_name(name);
+        self.push(b"\n");
+        if self.keep_folder(name).is_err() {
+            self.refuse(PlayKind::NoMemory);
         }
     }
 
-    /// Whether all was taken, or why not.
-    pub(crate) fn taken(&self) -> Result<(), PlayKind> {
-        match self.refused {
-            Some(kind) => Err(kind),
-            None => Ok(()),
+    fn keep_folder(&mut self, name: &[u8]) -> Result<(), AllocError> {
+        self.folders.push(Vec::from_slice(self.alloc, name)?)?;
+        Ok(())
+    }
+
+    /// Appends the name of a folder by its number.
+    pub(crate) fn push_folder(&mut self, folder: u32) {
+        let folders = replace(&mut self.folders, Vec::new(self.alloc));
+        if let Some(name) = folders.get(folder as usize) {
+            self.push_name(name);
         }
+        self.folders = folders;
     }
 
-    /// How many bytes it has.
-    pub(crate) fn len(&self) -> usize {
-        self.text.len()
+    /// Appends a space and `FOLDER UNIQUE`.
+    pub(crate) fn push_message(&mut self, folder: u32, unique: &[u8]) {
+        self.push(b" ");
+        self.push_folder(folder);
+        self.push(b" ");
+        self.push_name(unique);
     }
 
-    /// Takes back all but so many bytes.
-    pub(crate) fn cut(&mut self, len: usize) {
-        self.text.truncate(len);
-    }
-
-    /// The bytes.
-    pub(crate) fn into_text(self) -> Vec<u8> {
-        self.text
+    /// Appends a space and `FOLDER/PLACE/NAME`.
+    pub(crate) fn push_path(&mut self, folder: u32, place: Place, name: &[u8]) {
+        self.push(b" ");
+        self.push_folder(folder);
+        self.push(b"/");
+        self.push(place_text(place));
+        self.push(b"/");
+        self.push_name(name);
     }
 }

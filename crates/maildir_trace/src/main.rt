@@ -5,16 +5,11 @@
 //! words.
 #![tactic(auto)]
 
-mod about;
 mod answers;
-mod effects;
 mod log;
 mod noted;
 mod rows;
-mod session;
 mod steps;
-mod store;
-mod text;
 mod tracer;
 
 use md_dirs::HashSeed;

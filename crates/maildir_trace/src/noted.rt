@@ -1,28 +1,26 @@
-// Directories that note the call that was made of them last.
+//! Directories that note what the last call of them was made of.
 ghost use Rattle.std.specs.Prelude.{◌≡◌, None, Some, IsErrOf, IfOk, OnErr, IfSome, option_map};
 ghost use Rattle.std.specs.Result.{result_ok};
 ghost use Rattle.md_dirs.specs.Calls.{Obeys, create, append, link, rename, unlink, list};
 ghost use Rattle.md_dirs.specs.Image.{image_state, image_refusal};
 ghost use Rattle.md_dirs.specs.Rows.{rows_of, row_named, old_names};
-ghost use Rattle.maildir_trace.specs.declared.noted.Asked.TheVariants as asked;
+ghost use Rattle.maildir_trace.specs.declared.noted.Noted.TheVariants as noted;
 
 use md_dirs::{Bytes, DirError, Dirs, FileName, HashSeed, ImageFile, Path, Place, Row, RowRef};
 use md_script::Storage;
 use std::alloc::{AllocError, Global};
 use std::collections::VecDeque;
 
-/// A directory call, with its paths. A look for one message, or for old files, is a listing of which some rows are kept.
+/// What a directory call was made of.
 #[derive(Drop)]
-pub(crate) enum Asked {
-    Create(Path),
-    Append(Path),
-    Link { old: Path, new: Path },
-    Rename { old: Path, new: Path },
-    Unlink(Path),
-    List { folder: u32, place: Place },
+pub(crate) enum Noted {
+    One(Path),
+    Two { old: Path, new: Path },
+    /// A listing. A look for one message, or for old files, is a listing of which some rows are kept.
+    Directory { folder: u32, place: Place },
 }
 
-/// Other directories, with the call that was made of them last. Every call and every look is passed on.
+/// Other directories, with the paths of the call that was made of them last. Every call and every look is passed on.
 ///
 /// The note is made before the call, and takes memory for copies of the paths. Where that is refused there is no note, and the call is
 /// passed on all the same: it answers as the other directories do. A listing has no path to copy, and is always noted.
@@ -30,66 +28,36 @@ pub(crate) enum Asked {
 pub(crate) struct NotedDirs<D> {
     alloc: Global,
     dirs: D,
-    noted: Option<Asked>,
+    noted: Option<Noted>,
 }
 
 impl<D: Dirs> NotedDirs<D> {
-    /// The call that was made last. None before the first, and where memory was refused to its note.
-    pub fn noted(&self) -> Option<&Asked>
-        ensures { option_map (λ asked. asked.now) result ≡ self.now.noted }
+    /// What the last call was made of. None before the first, and where memory was refused to its note.
+    pub(crate) fn noted(&self) -> Option<&Noted>
+        ensures { option_map (λ noted. noted.now) result ≡ self.now.noted }
     {
         self.noted.as_ref()
-    }
-
-    /// The directory that was listed, where the call that was made last is a listing.
-    pub fn listed(&self) -> Option<(u32, Place)> {
-        match &self.noted {
-            Some(Asked::List { folder, place }) => Some((*folder, *place)),
-            _ => None,
-        }
     }
 }
 
 // Keeps a note in the place of the last, or none where memory was refused to it. The last is let go here alone, since that is proved anew
 // in each function that does it.
-fn note(noted: &mut Option<Asked>, asked: Result<Asked, AllocError>)
-    ensures { noted.new ≡ result_ok asked }
+fn note(noted: &mut Option<Noted>, made_of: Result<Noted, AllocError>)
+    ensures { noted.new ≡ result_ok made_of }
 {
-    *noted = asked.ok();
+    *noted = made_of.ok();
 }
 
-// A note of a call of one path.
-fn create_of(alloc: Global, path: &Path) -> Result<Asked, AllocError>
-    ensures { IfOk result (λ call. call ≡ asked.Create path.now) }
+fn one(alloc: Global, path: &Path) -> Result<Noted, AllocError>
+    ensures { IfOk result (λ made_of. made_of ≡ noted.One path.now) }
 {
-    Ok(Asked::Create(path.again(alloc)?))
+    Ok(Noted::One(path.again(alloc)?))
 }
 
-fn append_of(alloc: Global, path: &Path) -> Result<Asked, AllocError>
-    ensures { IfOk result (λ call. call ≡ asked.Append path.now) }
+fn two(alloc: Global, old: &Path, new: &Path) -> Result<Noted, AllocError>
+    ensures { IfOk result (λ made_of. made_of ≡ noted.Two old.now new.now) }
 {
-    Ok(Asked::Append(path.again(alloc)?))
-}
-
-fn unlink_of(alloc: Global, path: &Path) -> Result<Asked, AllocError>
-    ensures { IfOk result (λ call. call ≡ asked.Unlink path.now) }
-{
-    Ok(Asked::Unlink(path.again(alloc)?))
-}
-
-fn link_of(alloc: Global, old: &Path, new: &Path) -> Result<Asked, AllocError>
-    ensures { IfOk result (λ call. call ≡ asked.Link old.now new.now) }
-{
-    Ok(Asked::Link {
-        old: old.again(alloc)?,
-        new: new.again(alloc)?,
-    })
-}
-
-fn rename_of(alloc: Global, old: &Path, new: &Path) -> Result<Asked, AllocError>
-    ensures { IfOk result (λ call. call ≡ asked.Rename old.now new.now) }
-{
-    Ok(Asked::Rename {
+    Ok(Noted::Two {
         old: old.again(alloc)?,
         new: new.again(alloc)?,
     })
@@ -100,69 +68,69 @@ impl<D: Dirs> Dirs for NotedDirs<D> {
 
     fn create(&mut self, path: &Path, now: u64) -> Result<(), DirError>
         ensures meets { Obeys (create path.now now) (D.device self.old.dirs) result (D.device self.new.dirs) }
-        ensures noted { IfSome self.new.noted (λ call. call ≡ asked.Create path.now) }
+        ensures noted { IfSome self.new.noted (λ made_of. made_of ≡ noted.One path.now) }
     {
-        note(&mut self.noted, create_of(self.alloc, path));
+        note(&mut self.noted, one(self.alloc, path));
         self.dirs.create(path, now)
     }
 
     fn append(&mut self, path: &Path, bytes: &[u8], now: u64) -> Result<(), DirError>
         ensures meets { Obeys (append path.now bytes.now now) (D.device self.old.dirs) result (D.device self.new.dirs) }
-        ensures noted { IfSome self.new.noted (λ call. call ≡ asked.Append path.now) }
+        ensures noted { IfSome self.new.noted (λ made_of. made_of ≡ noted.One path.now) }
     {
-        note(&mut self.noted, append_of(self.alloc, path));
+        note(&mut self.noted, one(self.alloc, path));
         self.dirs.append(path, bytes, now)
     }
 
     fn append_body(&mut self, path: &Path, body: &mut Bytes, now: u64) -> Result<(), DirError>
         ensures meets { Obeys (append path.now body.old now) (D.device self.old.dirs) result (D.device self.new.dirs) }
         ensures body { OnErr result (body.new ≡ body.old) }
-        ensures noted { IfSome self.new.noted (λ call. call ≡ asked.Append path.now) }
+        ensures noted { IfSome self.new.noted (λ made_of. made_of ≡ noted.One path.now) }
     {
-        note(&mut self.noted, append_of(self.alloc, path));
+        note(&mut self.noted, one(self.alloc, path));
         self.dirs.append_body(path, body, now)
     }
 
     fn link(&mut self, old: &Path, new: &Path) -> Result<(), DirError>
         ensures meets { Obeys (link old.now new.now) (D.device self.old.dirs) result (D.device self.new.dirs) }
-        ensures noted { IfSome self.new.noted (λ call. call ≡ asked.Link old.now new.now) }
+        ensures noted { IfSome self.new.noted (λ made_of. made_of ≡ noted.Two old.now new.now) }
     {
-        note(&mut self.noted, link_of(self.alloc, old, new));
+        note(&mut self.noted, two(self.alloc, old, new));
         self.dirs.link(old, new)
     }
 
     fn rename(&mut self, old: &Path, new: &Path) -> Result<(), DirError>
         ensures meets { Obeys (rename old.now new.now) (D.device self.old.dirs) result (D.device self.new.dirs) }
-        ensures noted { IfSome self.new.noted (λ call. call ≡ asked.Rename old.now new.now) }
+        ensures noted { IfSome self.new.noted (λ made_of. made_of ≡ noted.Two old.now new.now) }
     {
-        note(&mut self.noted, rename_of(self.alloc, old, new));
+        note(&mut self.noted, two(self.alloc, old, new));
         self.dirs.rename(old, new)
     }
 
     fn unlink(&mut self, path: &Path) -> Result<(), DirError>
         ensures meets { Obeys (unlink path.now) (D.device self.old.dirs) result (D.device self.new.dirs) }
         ensures no_memory { IsErrOf result DirError.NoMemory → ⊥ }
-        ensures noted { IfSome self.new.noted (λ call. call ≡ asked.Unlink path.now) }
+        ensures noted { IfSome self.new.noted (λ made_of. made_of ≡ noted.One path.now) }
     {
-        note(&mut self.noted, unlink_of(self.alloc, path));
+        note(&mut self.noted, one(self.alloc, path));
         self.dirs.unlink(path)
     }
 
     fn list(&mut self, folder: u32, place: Place) -> Result<Vec<Row>, DirError>
         ensures meets { Obeys (list folder place) (D.device self.old.dirs) result (D.device self.new.dirs) }
         ensures rows { IfOk result (λ rows. rows.items ≡ rows_of (D.device self.old.dirs).state folder place) }
-        ensures noted { self.new.noted ≡ Some (asked.List folder place) }
+        ensures noted { self.new.noted ≡ Some (noted.Directory folder place) }
     {
-        note(&mut self.noted, Ok(Asked::List { folder, place }));
+        note(&mut self.noted, Ok(Noted::Directory { folder, place }));
         self.dirs.list(folder, place)
     }
 
     fn find(&mut self, folder: u32, place: Place, unique: &[u8]) -> Result<Option<Row>, DirError>
         ensures meets { Obeys (list folder place) (D.device self.old.dirs) result (D.device self.new.dirs) }
         ensures row { IfOk result (λ row. row ≡ row_named unique.now (rows_of (D.device self.old.dirs).state folder place)) }
-        ensures noted { self.new.noted ≡ Some (asked.List folder place) }
+        ensures noted { self.new.noted ≡ Some (noted.Directory folder place) }
     {
-        note(&mut self.noted, Ok(Asked::List { folder, place }));
+        note(&mut self.noted, Ok(Noted::Directory { folder, place }));
         self.dirs.find(folder, place, unique)
     }
 
@@ -176,9 +144,9 @@ impl<D: Dirs> Dirs for NotedDirs<D> {
     ) -> Result<VecDeque<FileName>, DirError>
         ensures meets { Obeys (list folder place) (D.device self.old.dirs) result (D.device self.new.dirs) }
         ensures names { IfOk result (λ names. names.items ≡ old_names now seconds (rows_of (D.device self.old.dirs).state folder place)) }
-        ensures noted { self.new.noted ≡ Some (asked.List folder place) }
+        ensures noted { self.new.noted ≡ Some (noted.Directory folder place) }
     {
-        note(&mut self.noted, Ok(Asked::List { folder, place }));
+        note(&mut self.noted, Ok(Noted::Directory { folder, place }));
         self.dirs.list_old(alloc, folder, place, now, seconds)
     }
 

@@ -1,77 +1,109 @@
-//! Steps, as a log has them.
+//! Steps, as a log has them: the directory call with its paths and its reply, and the effect as a comment.
 use crate::log::Log;
-use crate::noted::{Asked, NotedDirs};
+use crate::noted::{Noted, NotedDirs};
 use crate::rows::push_names;
-use crate::text::{push_folder, push_path};
-use md_core::{DirReply, Event};
-use md_dirs::{Dirs, Path, Place};
+use md_core::{Change, DirCall, DirReply, Event, StepOut};
+use md_dirs::Dirs;
 use md_script::PlayKind;
 use md_text::place_text;
 
-/// `MOMENT jobN`, the beginning of a line. The moment is the step's own: the clock of a log is the greatest so far, as that of a store.
+/// `MOMENT job`, the beginning of a line of a job. The moment is the step's own: the clock of a log is the greatest so far, as that of a store.
 pub(crate) fn push_begin(log: &mut Log, event: Event) {
     log.push_seconds(event.now);
     log.push(b" job");
-    log.push_number(event.job);
 }
 
-/// The call that was noted last, with its reply and a line feed. `NoMemory` where there is no note.
-pub(crate) fn push_call<D: Dirs>(
-    log: &mut Log,
-    names: &[Vec<u8>],
-    dirs: &NotedDirs<D>,
-    reply: DirReply,
-) {
-    let Some(asked) = dirs.noted() else {
-        log.refuse(PlayKind::NoMemory);
-        return;
-    };
-    push_asked(log, names, asked);
-    log.push(b" ");
-    log.push(reply_text(reply));
+/// The line of a step, whose paths were noted. `NoMemory` where there is no note.
+pub(crate) fn push_step<D: Dirs>(log: &mut Log, dirs: &NotedDirs<D>, event: Event, out: &StepOut) {
+    push_begin(log, event);
+    log.push_number(event.job);
+    log.push(call_text(out.call));
+    match dirs.noted() {
+        Some(noted) => push_noted(log, noted),
+        None => log.refuse(PlayKind::NoMemory),
+    }
+    log.push(reply_text(out.reply));
     // A listing changes nothing, so that the names after it are those that it read.
-    if reply == DirReply::Ok
-        && let Asked::List { folder, place } = asked
+    if out.reply == DirReply::Ok
+        && let Some(Noted::Directory { folder, place }) = dirs.noted()
     {
         push_names(log, dirs, *folder, *place);
     }
     log.push(b"\n");
 }
 
-// A call and its paths.
-fn push_asked(log: &mut Log, names: &[Vec<u8>], asked: &Asked) {
-    match asked {
-        Asked::Create(path) => push_one(log, names, b" create", path),
-        Asked::Append(path) => push_one(log, names, b" write", path),
-        Asked::Link { old, new } => push_two(log, names, b" link", old, new),
-        Asked::Rename { old, new } => push_two(log, names, b" rename", old, new),
-        Asked::Unlink(path) => push_one(log, names, b" unlink", path),
-        Asked::List { folder, place } => push_list(log, names, *folder, *place),
+fn push_noted(log: &mut Log, noted: &Noted) {
+    match noted {
+        Noted::One(path) => log.push_path(path.folder, path.place, path.name.as_slice()),
+        Noted::Two { old, new } => {
+            log.push_path(old.folder, old.place, old.name.as_slice());
+            log.push_path(new.folder, new.place, new.name.as_slice());
+        }
+        Noted::Directory { folder, place } => {
+            log.push(b" ");
+            log.push_folder(*folder);
+            log.push(b" ");
+            log.push(place_text(*place));
+        }
     }
 }
 
-fn push_one(log: &mut Log, names: &[Vec<u8>], word: &[u8], path: &Path) {
-    log.push(word);
-    push_path(log, names, path);
-}
-
-fn push_two(log: &mut Log, names: &[Vec<u8>], word: &[u8], old: &Path, new: &Path) {
-    push_one(log, names, word, old);
-    push_path(log, names, new);
-}
-
-fn push_list(log: &mut Log, names: &[Vec<u8>], folder: u32, place: Place) {
-    log.push(b" list ");
-    push_folder(log, names, folder);
-    log.push(b" ");
-    log.push(place_text(place));
+fn call_text(call: DirCall) -> &'static [u8] {
+    match call {
+        DirCall::Create => b" create",
+        DirCall::Append(_) => b" write",
+        DirCall::Link => b" link",
+        DirCall::Rename => b" rename",
+        DirCall::Unlink => b" unlink",
+        DirCall::List(_) => b" list",
+    }
 }
 
 fn reply_text(reply: DirReply) -> &'static [u8] {
     match reply {
-        DirReply::Ok => b"ok",
-        DirReply::Exists => b"exists",
-        DirReply::NotFound => b"notfound",
-        DirReply::Fault => b"fault",
+        DirReply::Ok => b" ok",
+        DirReply::Exists => b" exists",
+        DirReply::NotFound => b" notfound",
+        DirReply::Fault => b" fault",
     }
+}
+
+/// `# effect` and the change: `add PATH SIZE`, `rename PATH PATH`, `remove PATH` or `same`.
+pub(crate) fn push_effect(log: &mut Log, change: &Change) {
+    log.push(b"# effect ");
+    match change {
+        Change::Add {
+            folder,
+            place,
+            name,
+            size,
+        } => {
+            log.push(b"add");
+            log.push_path(*folder, *place, name.as_slice());
+            log.push(b" ");
+            log.push_number(*size);
+        }
+        Change::Rename {
+            folder,
+            place,
+            name,
+            to_folder,
+            to_place,
+            to_name,
+        } => {
+            log.push(b"rename");
+            log.push_path(*folder, *place, name.as_slice());
+            log.push_path(*to_folder, *to_place, to_name.as_slice());
+        }
+        Change::Remove {
+            folder,
+            place,
+            name,
+        } => {
+            log.push(b"remove");
+            log.push_path(*folder, *place, name.as_slice());
+        }
+        Change::Same => log.push(b"same"),
+    }
+    log.push(b"\n");
 }

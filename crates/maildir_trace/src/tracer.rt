@@ -1,20 +1,15 @@
 //! A script, played for its log.
+use crate::answers::Subject;
 use crate::log::Log;
-use crate::session::Session;
-use md_dirs::HashSeed;
-use md_head::cut_line;
-use md_script::{PlayError, PlayKind, Printed, Sink, Source, read_script, write_whole};
+use crate::noted::NotedDirs;
+use crate::rows::{Form, push_rows};
+use crate::steps::{push_begin, push_effect, push_step};
+use md_core::{Answer, Call, Event, StepOut, World};
+use md_dirs::{HashSeed, IndexDirs};
+use md_script::{Observer, PlayError, PlayKind, Sink, Source, Storage, observe, write_whole};
 use std::alloc::{AllocError, Global};
-use std::mem::forget;
 
-/// The byte that a line begins with that is passed over.
-const COMMENT: u8 = b'#';
-
-/// How a log begins. A store in memory flushes nothing, and no call of it could be logged as `flush`: a judge would find each delivery
-/// unflushed, which says nothing of the jobs. So the log asks not to be judged by that clause.
-const BEGIN: &[u8] = b"maildir_log 1\nallow NotFlushed\n";
-
-/// Plays a script and writes the log of its directory calls: reads it whole, runs its lines up to the first that is refused, and writes
+/// Plays a script and writes the log of its directory calls: reads it to its end, runs its lines up to the first that is refused, and writes
 /// what they did.
 ///
 /// With `with_states` there are comments after the beginning and after each step that show each name of each directory. The errors are
@@ -27,76 +22,88 @@ pub(crate) fn trace<S: Source, T: Sink>(
     sink: &mut T,
     with_states: bool,
 ) -> Result<(), PlayError> {
-    let script = read_script(alloc, source)?;
-    let printed = log_of(alloc, seed, &script, with_states)?;
-    write_whole(sink, &printed.text)?;
-    match printed.refusal {
+    let tracer = Tracer {
+        with_states,
+        log: Log::new(alloc),
+        subjects: Vec::new(alloc),
+    };
+    let (printed, tracer) = observe::<NotedDirs<IndexDirs>, Tracer, S>(
+        alloc, seed, source, tracer,
+    )?;
+    let logged = tracer.log.end(printed.refusal)?;
+    write_whole(sink, &logged.text)?;
+    match logged.refusal {
         None => Ok(()),
         Some(refused) => Err(refused),
     }
 }
 
-/// The log of a script up to the first line that is refused, and that line's refusal. The only error is out of memory.
-fn log_of(
-    alloc: Global,
-    seed: HashSeed,
-    script: &[u8],
+/// What logs the steps of a script. What a script prints by itself has no place in a log: a listing, a reading, a made name and a summary say
+/// nothing.
+#[derive(Drop)]
+struct Tracer {
     with_states: bool,
-) -> Result<Printed, AllocError> {
-    let mut log = Log::new(alloc);
-    let refusal = play(alloc, seed, script, with_states, &mut log)?;
-    let text = log.into_text();
-    Ok(Printed { text, refusal })
+    log: Log,
+    // What the answer of each job is about.
+    subjects: Vec<Option<Subject>>,
 }
 
-// The refusal of the first line that is refused.
-fn play(
-    alloc: Global,
-    seed: HashSeed,
-    script: &[u8],
-    with_states: bool,
-    log: &mut Log,
-) -> Result<Option<PlayError>, AllocError> {
-    let mut session = Session::new(alloc, seed, with_states);
-    let refusal = run_lines(&mut session, script, log);
-    // The process ends soon, and the system takes its memory at once.
-    forget(session);
-    refusal
-}
-
-fn run_lines(
-    session: &mut Session,
-    script: &[u8],
-    log: &mut Log,
-) -> Result<Option<PlayError>, AllocError> {
-    log.push(BEGIN);
-    if log.taken().is_err() {
-        return Err(AllocError);
+impl<D: Storage> Observer<NotedDirs<D>> for Tracer {
+    fn line(&mut self, number: u64) {
+        self.log.begin_line(number);
     }
-    let mut left = script;
-    let mut passed = 0u64;
-    while let Some((first, others)) = cut_line(left) {
-        let before = log.len();
-        match run_line(session, first, log) {
-            Ok(()) => {}
-            Err(PlayKind::NoMemory) => return Err(AllocError),
-            Err(kind) => {
-                // A refused line says nothing in the log.
-                log.cut(before);
-                let line = passed + 1;
-                return Ok(Some(PlayError { line, kind }));
-            }
+
+    fn folder(&mut self, name: &[u8]) {
+        self.log.push_new_folder(name);
+    }
+
+    fn opened(&mut self, world: &World<NotedDirs<D>>) {
+        push_rows(&mut self.log, world.dirs(), Form::File);
+        self.push_states(world);
+    }
+
+    fn submits(&mut self, call: &Call) {
+        if self.keep_subject(call).is_err() {
+            self.log.refuse(PlayKind::NoMemory);
         }
-        left = others;
-        passed += 1;
     }
-    Ok(None)
+
+    fn stepped(&mut self, world: &World<NotedDirs<D>>, event: Event, out: &StepOut) {
+        push_step(&mut self.log, world.dirs(), event, out);
+        if out.effect
+            && let Some(effect) = world.effects().last()
+        {
+            push_effect(&mut self.log, &effect.change);
+        }
+        if let Some(answer) = &out.answer {
+            self.push_answer(event, answer);
+        }
+        self.push_states(world);
+    }
 }
 
-// Runs a line, unless it is passed over.
-fn run_line(session: &mut Session, line: &[u8], log: &mut Log) -> Result<(), PlayKind> {
-    if line.is_empty() || line[0] == COMMENT {
-        return Ok(());
+impl Tracer {
+    fn keep_subject(&mut self, call: &Call) -> Result<(), AllocError> {
+        let subject = Subject::of(self.log.alloc(), call)?;
+        self.subjects.push(subject)?;
+        Ok(())
     }
-    session.run_line(line, log)
+
+    fn push_answer(&mut self, event: Event, answer: &Answer) {
+        self.log.push_comment(*answer);
+        let job = (event.job as usize).saturating_sub(1);
+        if let Some(Some(subject)) = self.subjects.get(job) {
+            push_begin(&mut self.log, event);
+            subject.push_answer(&mut self.log, event.job, *answer);
+            self.log.push(b"\n");
+        }
+    }
+
+    // The comment `# state`, and one for each name that is there, where states are asked for.
+    fn push_states<D: Storage>(&mut self, world: &World<NotedDirs<D>>) {
+        if self.with_states {
+            self.log.push(b"# state\n");
+            push_rows(&mut self.log, world.dirs(), Form::State);
+        }
+    }
 }

@@ -24,6 +24,7 @@ use Rattle.md_script.specs.Words.{Gives}
 use Rattle.md_script.specs.Step.{Steps}
 use Rattle.md_script.specs.Kinds.{core_kind}
 use Rattle.md_script.specs.Sessions.{unless_refused, submit_in, step_in, without_fault, event_refusal, step_text, Session, ScriptStore, on_run, obey, session_line}
+use Rattle.md_script.specs.Observing.{IsTaken}
 use Rattle.md_script.specs.Texts.{job_text, shown_text, out_text}
 
 -- a refusal by the store is the line's, and want of memory is none
@@ -66,19 +67,26 @@ unmarked earlier es e none = by e.faulted (let split = sum_by-append (λ (x : Oc
     by true h = absurd (omega arith)
     by false h = refl
 
-pub stepped-ok : (r r' : Run) (event : Event) (faulted : Bool) (out : StepOut) → event_refusal r event ≡ None →
+-- so a step is that of its event, and no fault
+pub taken : (r r' : Run) (event : Event) (faulted : Bool) (out : StepOut) → event_refusal r event ≡ None →
     r' ≡ and_event r (record { event = event; faulted = faulted })
-    → ShowsStep r r' (record { event = event; faulted = faulted }) out → 0 ≡ failures_of r' → step_in r event ≡ Ok (r', out_text event.job out)
-unfolding step_in
-stepped-ok r r' event faulted out goes_on run shows none =
+    → ShowsStep r r' (record { event = event; faulted = faulted }) out → 0 ≡ failures_of r' → IsTaken r r' event out
+taken r r' event faulted out goes_on run shows none =
     let e : Occurrence = record { event = event; faulted = faulted } in
     let unmarked_is : faulted ≡ false = unmarked r.failures r.events e (none ∙ ap failures_of run) in
     let same : e ≡ without_fault event = λ i. record { event = event; faulted = unmarked_is i } in
-    let out_is : option_map step_out (step_of (machine_of r) (without_fault event)) ≡ Some out =
-    ap (λ (e : Occurrence). option_map step_out (step_of (machine_of r) e)) (sym same) ∙ ap (option_map step_out) shows.at ∙ ap Some (sym shows.shown) in
-    let text : step_text r event ≡ out_text event.job out = ap (shown_text event.job) out_is in
-    let after : and_event r (without_fault event) ≡ r' = ap (and_event r) (sym same) ∙ sym run in
-    is_done (event_refusal r event) _ goes_on ∙
+    record {
+      goes_on = goes_on;
+      after_is = run ∙ ap (and_event r) same;
+      shown = ap (λ (e : Occurrence). option_map step_out (step_of (machine_of r) e)) (sym same) ∙ ap (option_map step_out) shows.at ∙ ap Some (sym shows.shown);
+    }
+
+pub stepped-ok : (r r' : Run) (event : Event) (out : StepOut) → IsTaken r r' event out → step_in r event ≡ Ok (r', out_text event.job out)
+unfolding step_in
+stepped-ok r r' event out step =
+    let text : step_text r event ≡ out_text event.job out = ap (shown_text event.job) step.shown in
+    let after : and_event r (without_fault event) ≡ r' = sym step.after_is in
+    is_done (event_refusal r event) _ step.goes_on ∙
     (let e : ◌≡◌ {A = Run × List ℕ} (and_event r (without_fault event), step_text r event) (r', out_text event.job out) = λ i.
     (after i, text i) in ap Ok e)
 

@@ -19,7 +19,7 @@ use Rattle.md_text.specs.Bind.{◌>>=◌, require}
 use Rattle.md_script.specs.Commands.{Command, make_folder, make_file, submit, step, finish, list, first, second, read, make_name, summarize, command_at}
 use Rattle.md_script.specs.declared.verb.Mode.TheVariants.{Playing}
 use Rattle.md_script.specs.Sessions.{Session, ScriptStore, unless_refused, image_of, run_over, new_store, store_of, without_fault, event_refusal}
-use Rattle.md_script.specs.Sessions.{steps_of, submit_in, step_in, finish_in, list_in, read_in, on_run, first_of, read_first, read_second, made_name, in_store, printing, obey, session_line, new_session, transcript}
+use Rattle.md_script.specs.Sessions.{steps_of, submit_in, step_in, finish_in, list_in, read_in, on_run, first_of, read_first, read_second, act, made_name, in_store, printing, obey, session_line, new_session, transcript}
 use Rattle.md_head.specs.Summaries.{summary_of}
 use Rattle.md_script.specs.Texts.{summary_text}
 use Rattle.md_script.specs.Step.{line_step, is_passed_over}
@@ -101,6 +101,16 @@ second-read t folder after is run =
     let done = bind-ok (ok_or (first_of folder t.firsts) NoFirst) _ after is in
     subst IsRun (ap (λ (x : ScriptStore × List ℕ). x.0.run) (ok-is _ _ done.2)) run
 
+acted : (t : ScriptStore) (c : Command) → LeavesStore t (act t c)
+acted t (submit call) = by-run t (submit_in t.run call) (submitted t.run call)
+acted t (step event) = by-run t (step_in t.run event) (stepped t.run event)
+acted t (finish event) = by-run t (finish_in t.run event) (finished t.run event)
+acted t (list folder) = by-run t (list_in t.run folder) (listed t.run folder)
+acted t (first folder) = first-read t folder
+acted t (second folder) = second-read t folder
+acted t (read unique) = by-run t (read_in t.run unique) (looked t.run unique)
+acted t other = λ after is run. subst IsRun (ap (λ (x : ScriptStore × List ℕ). x.0.run) (ok-is _ _ is)) run
+
 required : (b : Bool) (kind : PlayKind) (done : Unit {0}) → require b kind ≡ Ok done → b ≡ true
 required true kind done is = refl
 required false kind done is = cc
@@ -174,15 +184,9 @@ module _ (sound : ImagesAreSound) where
   obeyed-kept : (s : Session) (c : Command) (after : Session × List ℕ) → HoldsRun s → obey s c ≡ Ok after → HoldsRun after.0
   obeyed-kept s (make_folder name) after holds is = holds-same s after.0 (ap (λ (x : Session × List ℕ). x.0.store) (ok-is _ _ is)) holds
   obeyed-kept s (make_file file) after holds is = holds-same s after.0 (ap (λ (x : Session × List ℕ). x.0.store) (ok-is _ _ is)) holds
-  obeyed-kept s (submit call) after holds is = in-store-kept s _ after holds (λ t. by-run t (submit_in t.run call) (submitted t.run call)) is
-  obeyed-kept s (step event) after holds is = in-store-kept s _ after holds (λ t. by-run t (step_in t.run event) (stepped t.run event)) is
-  obeyed-kept s (finish event) after holds is = in-store-kept s _ after holds (λ t. by-run t (finish_in t.run event) (finished t.run event)) is
-  obeyed-kept s (list folder) after holds is = in-store-kept s _ after holds (λ t. by-run t (list_in t.run folder) (listed t.run folder)) is
-  obeyed-kept s (first folder) after holds is = in-store-kept s _ after holds (λ t. first-read t folder) is
-  obeyed-kept s (second folder) after holds is = in-store-kept s _ after holds (λ t. second-read t folder) is
-  obeyed-kept s (read unique) after holds is = in-store-kept s _ after holds (λ t. by-run t (read_in t.run unique) (looked t.run unique)) is
   obeyed-kept s (make_name sec micro pid count host) after holds is = printing-kept s (made_name sec micro pid count host) after holds is
   obeyed-kept s (summarize message) after holds is = printing-kept s (Ok (summary_text (summary_of message))) after holds is
+  obeyed-kept s other after holds is = in-store-kept s (λ t. act t other) after holds (λ t. acted t other) is
 
   line-kept : (s : Session) (line : List ℕ) (after : Session × List ℕ) → HoldsRun s → line_step session_line s line ≡ Ok after → HoldsRun after.0
   unfolding line_step session_line

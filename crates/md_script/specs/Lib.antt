@@ -20,4 +20,5 @@ pub mod Reading
 pub mod ReadSetups
 pub mod Incoming
 pub mod Play
+pub mod Observing
 pub mod OneClock

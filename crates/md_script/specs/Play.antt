@@ -3,9 +3,11 @@ use Rattle.std.specs.Prelude.{◌≡◌, ℕ, ◌+◌, ◌⊎◌, List, Option, 
 use Rattle.md_script.specs.declared.error.PlayKind.{PlayKind}
 use Rattle.md_script.specs.declared.error.PlayKind.TheVariants.{WriteFault, NoMemory}
 use Rattle.md_script.specs.declared.error.PlayError.{PlayError}
+use Rattle.md_script.specs.declared.run.Printed.{Printed}
 use Rattle.md_script.specs.Sources.{Source}
 use Rattle.md_script.specs.Sinks.{Sink, Took, Untouched, Refused}
 use Rattle.md_script.specs.Reading.{IsReadWhole, Unread}
+use Rattle.md_script.specs.Printed.{Prints}
 use Rattle.md_script.specs.Sessions.{transcript}
 
 -- A whole script was read, what it prints was written, and this is its refusal.
@@ -14,6 +16,12 @@ pub record Ran (old new : Source) (before after : Sink) (refusal : Option PlayEr
   pub whole : IsReadWhole old new script
   pub written : Took before after (transcript script).text
   pub refused : (transcript script).refusal ≡ refusal
+
+-- A whole script was read, and this is what it prints, and its refusal.
+pub record IsPlayed (old new : Source) (p : Printed) : Type 0 where
+  pub script : List ℕ
+  pub whole : IsReadWhole old new script
+  pub prints : Prints (transcript script) p
 
 -- A whole script was read, and then a write failed.
 pub record Unwritten (old new : Source) (before after : Sink) : Type 0 where

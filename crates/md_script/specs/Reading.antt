@@ -1,6 +1,5 @@
 -- What reading a script whole comes to.
-use Rattle.std.specs.Prelude.{◌≡◌, ℕ, ◌+◌, ◌<◌, ◌≤◌, List, length, Result, Ok, Err}
-use Rattle.std.specs.Global.{Vec}
+use Rattle.std.specs.Prelude.{◌≡◌, ℕ, ◌+◌, ◌<◌, ◌≤◌, List, length}
 use Rattle.std.specs.Io.KnownBytes.{Consumes, IsAtEnd}
 use Rattle.md_script.specs.declared.error.PlayKind.{PlayKind}
 use Rattle.md_script.specs.declared.error.PlayKind.TheVariants.{ReadFault, TooLong, TooManyReads, NoMemory}
@@ -54,8 +53,3 @@ Unread old new TooLong = GivesTooMuch old new
 Unread old new TooManyReads = ReadsOn old new
 Unread old new NoMemory = Sound old new
 Unread old new other = ⊥
-
--- a reader gave all its bytes, or why reading ended
-abbrev pub ReadsWhole : Source → Source → Result (Vec ℕ) PlayKind → Type 0
-ReadsWhole old new (Ok script) = IsReadWhole old new script.items
-ReadsWhole old new (Err kind) = Unread old new kind

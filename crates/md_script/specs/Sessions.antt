@@ -15,6 +15,7 @@ use Rattle.md_dirs.specs.Calls.{fresh}
 use Rattle.md_jobs.specs.declared.error.CoreError.{CoreError}
 use Rattle.md_jobs.specs.declared.call.Call.{Call}
 use Rattle.md_jobs.specs.declared.step.Event.{Event}
+use Rattle.md_jobs.specs.declared.step.StepOut.{StepOut}
 use Rattle.md_core.specs.Loading.{load_refusal}
 use Rattle.md_core.specs.Mailbox.{Entry, mailbox_of}
 use Rattle.md_core.specs.Machine.{Occurrence, job_at, step_of, step_out}
@@ -84,9 +85,13 @@ with_store s t = record { folders = s.folders; files = []; store = Some t }
 abbrev pub without_fault : Event → Occurrence
 without_fault event = record { event = event; faulted = false }
 
+-- what one step of a job shows
+abbrev pub shown_step : Run → Event → Option StepOut
+shown_step r event = option_map step_out (step_of (machine_of r) (without_fault event))
+
 -- what one step of a job prints
 abbrev pub step_text : Run → Event → List ℕ
-step_text r event = shown_text event.job (option_map step_out (step_of (machine_of r) (without_fault event)))
+step_text r event = shown_text event.job (shown_step r event)
 
 -- a text, and then what follows it
 abbrev pub with_text : List ℕ → Run × List ℕ → Run × List ℕ
@@ -151,6 +156,17 @@ read_second t folder = do
 abbrev pub in_store : Session → (ScriptStore → Result (ScriptStore × List ℕ) PlayKind) → Result (Session × List ℕ) PlayKind
 in_store s act = store_of s >>= (λ t. act t >>= (λ step_of. Ok (with_store s step_of.0, step_of.1)))
 
+-- what a command makes of an open store; one that asks nothing of it does nothing
+abbrev pub act : ScriptStore → Command → Result (ScriptStore × List ℕ) PlayKind
+act t (submit call) = on_run t (submit_in t.run call)
+act t (step event) = on_run t (step_in t.run event)
+act t (finish event) = on_run t (finish_in t.run event)
+act t (list folder) = on_run t (list_in t.run folder)
+act t (first folder) = read_first t folder
+act t (second folder) = read_second t folder
+act t (read unique) = on_run t (read_in t.run unique)
+act t other = Ok (t, [])
+
 -- a name that is made, unless it is refused
 abbrev pub unless_bad : Option NameError → List ℕ → Result (List ℕ) PlayKind
 unless_bad None text = Ok text
@@ -164,19 +180,14 @@ made_name sec micro pid count host = unless_bad (make_refusal micro host) (uniqu
 abbrev pub printing : Session → Result (List ℕ) PlayKind → Result (Session × List ℕ) PlayKind
 printing s answer = answer >>= (λ text. Ok (s, text))
 
--- What a command makes of a session, and what it prints; or why it is refused. A later command adds its clause.
+-- What a command makes of a session, and what it prints; or why it is refused. A later command adds its clause, here or to what an open
+-- store does.
 abbrev pub obey : Session → Command → Result (Session × List ℕ) PlayKind
 obey s (make_folder name) = Ok (record s { folders = s.folders ++ name ∷ [] }, [])
 obey s (make_file file) = Ok (record s { files = s.files ++ file ∷ [] }, [])
-obey s (submit call) = in_store s (λ t. on_run t (submit_in t.run call))
-obey s (step event) = in_store s (λ t. on_run t (step_in t.run event))
-obey s (finish event) = in_store s (λ t. on_run t (finish_in t.run event))
-obey s (list folder) = in_store s (λ t. on_run t (list_in t.run folder))
-obey s (first folder) = in_store s (λ t. read_first t folder)
-obey s (second folder) = in_store s (λ t. read_second t folder)
-obey s (read unique) = in_store s (λ t. on_run t (read_in t.run unique))
 obey s (make_name sec micro pid count host) = printing s (made_name sec micro pid count host)
 obey s (summarize message) = printing s (Ok (summary_text (summary_of message)))
+obey s other = in_store s (λ t. act t other)
 
 -- a line of a session: the command that it spells, and what that does
 unfoldable pub session_line : Session → List ℕ → Result (Session × List ℕ) PlayKind

@@ -2,9 +2,11 @@
 ghost use Rattle.std.specs.Prelude.{◌≡◌, ◌+◌, ◌-◌, ◌≤◌, length, vec_len, take, drop, OnOk};
 ghost use Rattle.md_script.specs.Sources.{Reads};
 
-use crate::reading::MOST_BYTES;
 use crate::source::{Got, LEAST_ROOM, Source};
 use std::alloc::AllocError;
+
+/// The most bytes of a script.
+pub(crate) const MOST_BYTES: usize = 67_108_864;
 
 /// The room that is made at the start, in bytes; later the room grows by a quarter.
 const FIRST_ROOM: usize = 65_536;

@@ -4,9 +4,8 @@ ghost use Rattle.md_script.specs.Sources.{Source as State};
 ghost use Rattle.md_script.specs.Reading.{most_bytes, most_reads};
 ghost use Rattle.md_script.specs.Incoming.{KeepsLimits, IsEmpty, TakesIn, Underway, Reaches, RunsSource};
 
-use crate::chunk::{make_room, move_to_front, read_behind};
+use crate::chunk::{MOST_BYTES, make_room, move_to_front, read_behind};
 use crate::error::PlayKind;
-use crate::reading::{MOST_BYTES, MOST_READS};
 use crate::run::Progress;
 use crate::session::Session;
 use crate::source::{Got, Source};
@@ -14,6 +13,9 @@ use memchr::memrchr;
 use std::alloc::{AllocError, Global};
 
 const LF: u8 = b'\n';
+
+/// The most reads that a script may take, of which the last gives nothing. A read that is tried again counts each time.
+const MOST_READS: u32 = 1_048_576;
 
 /// Runs the lines of a script while it is read, in at most 1,048,576 reads, up to the first that is refused; the rest is read on to its
 /// end. Refused `ReadFault`, `TooLong`, `TooManyReads` or `NoMemory`.

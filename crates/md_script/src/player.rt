@@ -1,12 +1,13 @@
 //! A script, played.
-ghost use Rattle.std.specs.Prelude.{◌≡◌, ◌+◌, ◌≤◌, IfOk};
+ghost use Rattle.std.specs.Prelude.{◌≡◌, ◌+◌, ◌≤◌, IfOk, MatchResult};
 ghost use Rattle.md_script.specs.Sessions.{transcript, new_session};
 ghost use Rattle.md_script.specs.Printed.{Prints};
-ghost use Rattle.md_script.specs.Play.{Plays, Writes};
-ghost use Rattle.md_script.specs.Reading.{most_reads};
+ghost use Rattle.md_script.specs.Play.{Plays, Writes, IsPlayed};
+ghost use Rattle.md_script.specs.Reading.{Unread, most_reads};
 
 use crate::error::{PlayError, PlayKind};
 use crate::incoming::run_source;
+use crate::observer::{Observer, Unobserved};
 use crate::run::{Printed, run};
 use crate::sink::{Put, Sink};
 use crate::source::Source;
@@ -30,7 +31,7 @@ pub fn play<S: Source, T: Sink>(
     ensures play { Plays (S.state source.old) (S.state source.new) (T.state sink.old) (T.state sink.new) result }
     ensures reads { (S.state source.new).reads ≤ (S.state source.old).reads + most_reads }
 {
-    let mut session = StoreSession::<IndexDirs>::new(alloc, HashSeed::fixed());
+    let mut session = unobserved(alloc, HashSeed::fixed());
     play_in(&mut session, alloc, source, sink)
 }
 
@@ -46,14 +47,21 @@ pub fn play_last<S: Source, T: Sink>(
     ensures play { Plays (S.state source.old) (S.state source.new) (T.state sink.old) (T.state sink.new) result }
     ensures reads { (S.state source.new).reads ≤ (S.state source.old).reads + most_reads }
 {
-    let mut session = StoreSession::<IndexDirs>::new(alloc, seed);
+    let mut session = unobserved(alloc, seed);
     let played = play_in(&mut session, alloc, source, sink);
     forget(session);
     played
 }
 
+// A session that nobody observes.
+fn unobserved<D: Storage>(alloc: Global, seed: HashSeed) -> StoreSession<D, Unobserved>
+    ensures { result ≡ new_session }
+{
+    StoreSession::new(alloc, seed, Unobserved)
+}
+
 fn play_in<S: Source, T: Sink>(
-    session: &mut StoreSession<IndexDirs>,
+    session: &mut StoreSession<IndexDirs, Unobserved>,
     alloc: Global,
     source: &mut S,
     sink: &mut T,
@@ -68,6 +76,23 @@ fn play_in<S: Source, T: Sink>(
         None => Ok(()),
         Some(refused) => Err(refused),
     }
+}
+
+/// Reads a script to its end and runs its lines as `play` does, while an observer is shown what they do to the store. It gives what `play`
+/// writes, the refusal, and the observer; it is refused as `play` is for no line. The store is left as it is, as the last thing that a process
+/// does with it.
+pub fn observe<D: Storage, O: Observer<D>, S: Source>(
+    alloc: Global,
+    seed: HashSeed,
+    source: &mut S,
+    observer: O,
+) -> Result<(Printed, O), PlayKind>
+    ensures observed { MatchResult result (λ seen. IsPlayed (S.state source.old) (S.state source.new) seen.0) (Unread (S.state source.old) (S.state source.new)) }
+    ensures reads { (S.state source.new).reads ≤ (S.state source.old).reads + most_reads }
+{
+    let mut session = StoreSession::<D, O>::new(alloc, seed, observer);
+    let printed = run_source(alloc, source, &mut session)?.into_printed();
+    Ok((printed, session.into_observer()))
 }
 
 /// The transcript of a script: what its lines print over a new store up to the first that is refused, and that line's refusal. The only
@@ -87,7 +112,7 @@ pub fn transcript_over<D: Storage>(
 ) -> Result<Printed, AllocError>
     ensures { IfOk result (Prints (transcript script.now)) }
 {
-    run(alloc, &mut StoreSession::<D>::new(alloc, seed), script)
+    run(alloc, &mut unobserved::<D>(alloc, seed), script)
 }
 
 /// Writes a text whole. Refused `WriteFault`, after which nothing is known of what was written, or `NoMemory`, after which nothing was.

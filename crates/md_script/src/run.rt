@@ -83,12 +83,12 @@ impl Progress {
         self.printed.text.reserve(ROOM)?;
         let mut left = lines;
         while let Some((first, others)) = cut_line(left) {
-            match run_line(session, first, &mut self.printed.text) {
+            let line = self.passed + 1;
+            match run_line(session, line, first, &mut self.printed.text) {
                 Ok(()) => {}
                 Err(kind) => match kind {
                     PlayKind::NoMemory => return Err(AllocError),
                     _ => {
-                        let line = self.passed + 1;
                         self.printed.refusal = Some(PlayError { line, kind });
                         return Ok(());
                     }
@@ -116,11 +116,16 @@ pub(crate) fn run<S: Session>(
 
 /// Runs a line, unless it is passed over.
 #[tactic(auto, unfolding(crate::specs::Step::line_step))]
-fn run_line<S: Session>(session: &mut S, line: &[u8], out: &mut Vec<u8>) -> Result<(), PlayKind>
+fn run_line<S: Session>(
+    session: &mut S,
+    number: u64,
+    line: &[u8],
+    out: &mut Vec<u8>,
+) -> Result<(), PlayKind>
     ensures { Steps (line_step S.step session.old line.now) session.new out.old.items out.new.items result }
 {
     if line.is_empty() || line[0] == COMMENT {
         return Ok(());
     }
-    session.run_line(line, out)
+    session.run_line(number, line, out)
 }

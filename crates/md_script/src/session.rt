@@ -12,7 +12,7 @@ pub(crate) trait Session {
 
     /// Runs one line, which isn't empty and doesn't begin with `#`, and appends what it prints to `out`. A refused line
     /// appends nothing, and the session is of no more use; where memory runs out (`PlayKind::NoMemory`), nor is what was
-    /// appended.
-    fn run_line(&mut self, line: &[u8], out: &mut Vec<u8>) -> Result<(), PlayKind>
+    /// appended. What a line does doesn't hang on its number.
+    fn run_line(&mut self, number: u64, line: &[u8], out: &mut Vec<u8>) -> Result<(), PlayKind>
         ensures { Steps (step self.old line.now) self.new out.old.items out.new.items result };
 }

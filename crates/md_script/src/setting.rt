@@ -87,7 +87,7 @@ impl Setting {
 impl Session for Setting {
     ghost step = { setting_line };
 
-    fn run_line(&mut self, line: &[u8], out: &mut Vec<u8>) -> Result<(), PlayKind> {
+    fn run_line(&mut self, _number: u64, line: &[u8], out: &mut Vec<u8>) -> Result<(), PlayKind> {
         let mode = Mode::SettingUp {
             with_jobs: self.with_jobs,
         };

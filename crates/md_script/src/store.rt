@@ -4,7 +4,7 @@ ghost use Rattle.md_head.specs.Summaries.{summary_of};
 ghost use Rattle.md_script.specs.declared.verb.Mode.TheVariants.{Playing};
 ghost use Rattle.md_script.specs.Step.{Steps};
 ghost use Rattle.md_script.specs.Held.{command_of, named_of, IsFit, Opens};
-ghost use Rattle.md_script.specs.Sessions.{obey, session_line, new_session, in_store, on_run, submit_in, step_in, finish_in, list_in, read_in, read_first, read_second, printing};
+ghost use Rattle.md_script.specs.Sessions.{act, obey, session_line, new_session, in_store, printing};
 ghost use Rattle.md_script.specs.Texts.{summary_text};
 
 mod acts;
@@ -16,11 +16,11 @@ mod printing;
 use crate::command::{Command, read_command};
 use crate::error::PlayKind;
 use crate::folders::Folders;
+use crate::observer::Observer;
 use crate::session::Session;
 use crate::storage::Storage;
 use crate::summary::{push_summary, push_unique};
 use crate::verb::Mode;
-use md_core::{Call, Event};
 use md_dirs::{HashSeed, ImageFile};
 use md_head::summary;
 use md_name::{UniqueParts, make_unique};
@@ -32,17 +32,18 @@ use std::marker::Model;
 use std::mem;
 
 /// Folders and files, and a store over them, which is opened at the first command that needs it: no folder and no file is added from
-/// then on.
+/// then on. An observer is shown what is done.
 #[derive(Drop)]
-pub(crate) struct StoreSession<D: Storage> {
+pub(crate) struct StoreSession<D: Storage, O: Observer<D>> {
     alloc: Global,
     seed: HashSeed,
     folders: Folders,
     files: Vec<ImageFile>,
     store: Option<OpenStore<D>>,
+    observer: O,
 }
 
-impl<D: Storage> Model for StoreSession<D> {
+impl<D: Storage, O: Observer<D>> Model for StoreSession<D, O> {
     ghost use Rattle.std.specs.Coded.{codes};
     ghost use Rattle.md_dirs.specs.State.{state_code};
     ghost use Rattle.md_name.specs.contracts.flags.Flags as flags;
@@ -56,9 +57,9 @@ impl<D: Storage> Model for StoreSession<D> {
     ghost view = { λ s. record { folders = s.folders; files = files_beside s.store s.files.items; store = s.store } };
 }
 
-impl<D: Storage> StoreSession<D> {
+impl<D: Storage, O: Observer<D>> StoreSession<D, O> {
     /// A session without a folder, whose store will hash names by a seed.
-    pub fn new(alloc: Global, seed: HashSeed) -> Self
+    pub(crate) fn new(alloc: Global, seed: HashSeed, observer: O) -> Self
         ensures { result ≡ new_session }
     {
         StoreSession {
@@ -67,7 +68,22 @@ impl<D: Storage> StoreSession<D> {
             folders: Folders::new(alloc),
             files: Vec::new(alloc),
             store: None,
+            observer,
         }
+    }
+
+    /// The observer. The store is left as it is, and not given back: the process is to end soon, and the system takes its memory at once.
+    pub(crate) fn into_observer(self) -> O {
+        let StoreSession {
+            alloc: _,
+            seed: _,
+            folders: _,
+            files: _,
+            store,
+            observer,
+        } = self;
+        mem::forget(store);
+        observer
     }
 
     // Does what a command says.
@@ -76,28 +92,37 @@ impl<D: Storage> StoreSession<D> {
         ensures { Steps (obey self.old (command_of command.entry)) self.new out.old.items out.new.items result }
     {
         match command {
-            Command::Folder { name } => Ok(self.folders.add(name)?),
+            Command::Folder { name } => {
+                self.folders.add(name)?;
+                self.observer.folder(name);
+                Ok(())
+            }
             Command::File(file) => Ok(self.add_file(file)?),
-            Command::Submit(call) => self.submit(call, out),
-            Command::Step(event) => self.step(event, out),
-            Command::Finish(event) => self.finish(event, out),
-            Command::List { folder } => self.list(folder, out),
-            Command::First { folder } => self.first(folder),
-            Command::Second { folder } => self.second(folder, out),
-            Command::Read { unique } => self.read(unique, out),
             Command::Unique(parts) => self.unique(parts, out),
             Command::Summary { message } => self.summary(&message, out),
+            other => self.act(other, out),
         }
     }
 }
 
-impl<D: Storage> StoreSession<D> {
+impl<D: Storage, O: Observer<D>> StoreSession<D, O> {
     // Adds a file that the store will begin with.
     fn add_file(&mut self, file: ImageFile) -> Result<(), AllocError>
         requires { is_some self.old.store ≡ false }
         ensures { OnOk result (self.new ≡ record self.old { files = self.old.files ++ file ∷ [] }) }
     {
         Ok(self.files.push(file)?)
+    }
+
+    // Does what a command asks of the store.
+    fn act(&mut self, command: Command<'_>, out: &mut Vec<u8>) -> Result<(), PlayKind>
+        ensures { Steps (in_store self.old (λ t. act t (command_of command.entry))) self.new out.old.items out.new.items result }
+    {
+        self.open()?;
+        let Some(store) = &mut self.store else {
+            unreachable!()
+        };
+        store.act(command, &mut self.observer, out)
     }
 
     // Opens the store over the folders and the files, if no command did before.
@@ -118,85 +143,11 @@ impl<D: Storage> StoreSession<D> {
     {
         let files = mem::replace(&mut self.files, Vec::new(self.alloc));
         let world = open_store(self.alloc, self.seed, self.folders.count(), files)?;
+        self.observer.opened(&world);
         self.store = Some(OpenStore::new(self.alloc, world));
         Ok(())
     }
 
-    fn submit(&mut self, call: Call, out: &mut Vec<u8>) -> Result<(), PlayKind>
-        ensures { Steps (in_store self.old (λ t. on_run t (submit_in t.run call))) self.new out.old.items out.new.items result }
-    {
-        self.open()?;
-        let Some(store) = &mut self.store else {
-            unreachable!()
-        };
-        store.submit(call, out)
-    }
-
-    fn step(&mut self, event: Event, out: &mut Vec<u8>) -> Result<(), PlayKind>
-        ensures { Steps (in_store self.old (λ t. on_run t (step_in t.run event))) self.new out.old.items out.new.items result }
-    {
-        self.open()?;
-        let Some(store) = &mut self.store else {
-            unreachable!()
-        };
-        store.step(event, out)
-    }
-
-    fn finish(&mut self, event: Event, out: &mut Vec<u8>) -> Result<(), PlayKind>
-        ensures { Steps (in_store self.old (λ t. on_run t (finish_in t.run event))) self.new out.old.items out.new.items result }
-    {
-        self.open()?;
-        let Some(store) = &mut self.store else {
-            unreachable!()
-        };
-        store.finish(event, out)
-    }
-
-    fn list(&mut self, folder: u32, out: &mut Vec<u8>) -> Result<(), PlayKind>
-        ensures { Steps (in_store self.old (λ t. on_run t (list_in t.run folder))) self.new out.old.items out.new.items result }
-    {
-        self.open()?;
-        let Some(store) = &mut self.store else {
-            unreachable!()
-        };
-        store.arrange(folder);
-        store.list(folder, out)
-    }
-
-    fn first(&mut self, folder: u32) -> Result<(), PlayKind>
-        ensures { Steps (in_store self.old (λ t. read_first t folder)) self.new [] [] result }
-    {
-        self.open()?;
-        let Some(store) = &mut self.store else {
-            unreachable!()
-        };
-        store.arrange(folder);
-        store.first(folder)
-    }
-
-    fn second(&mut self, folder: u32, out: &mut Vec<u8>) -> Result<(), PlayKind>
-        ensures { Steps (in_store self.old (λ t. read_second t folder)) self.new out.old.items out.new.items result }
-    {
-        self.open()?;
-        let Some(store) = &mut self.store else {
-            unreachable!()
-        };
-        store.arrange(folder);
-        store.second(folder, out)
-    }
-
-    fn read(&mut self, unique: &[u8], out: &mut Vec<u8>) -> Result<(), PlayKind>
-        ensures { Steps (in_store self.old (λ t. on_run t (read_in t.run unique.now))) self.new out.old.items out.new.items result }
-    {
-        self.open()?;
-        let Some(store) = &self.store else {
-            unreachable!()
-        };
-        store.read(unique, out)
-    }
-}
-
-impl<D: Storage> StoreSession<D> {
     fn unique(&mut self, parts: UniqueParts<'_>, out: &mut Vec<u8>) -> Result<(), PlayKind>
         ensures { Steps (printing self.old (named_of parts.entry)) self.new out.old.items out.new.items result }
     {
@@ -214,10 +165,11 @@ impl<D: Storage> StoreSession<D> {
     }
 }
 
-impl<D: Storage> Session for StoreSession<D> {
+impl<D: Storage, O: Observer<D>> Session for StoreSession<D, O> {
     ghost step = { session_line };
 
-    fn run_line(&mut self, line: &[u8], out: &mut Vec<u8>) -> Result<(), PlayKind> {
+    fn run_line(&mut self, number: u64, line: &[u8], out: &mut Vec<u8>) -> Result<(), PlayKind> {
+        self.observer.line(number);
         let mode = Mode::Playing {
             is_loaded: self.store.is_some(),
         };

@@ -3,6 +3,7 @@
 mod meetings;
 mod messages;
 mod names;
+mod observed;
 mod plays;
 mod setups;
 mod texts;

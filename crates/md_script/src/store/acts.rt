@@ -1,23 +1,22 @@
-//! What commands do to a store, and what they print.
+//! What commands do to the jobs of a store, and what they print.
 ghost use Rattle.std.specs.Prelude.{◌≡◌, ◌<◌, true, is_some, OnOk};
 ghost use Rattle.md_core.specs.Machine.{job_at};
 ghost use Rattle.md_core.specs.Runs.{steps_left, jobs_of, answer_of};
 ghost use Rattle.md_script.specs.Step.{Steps};
 ghost use Rattle.md_script.specs.Held.{MayWait};
-ghost use Rattle.md_script.specs.Sessions.{submit_in, step_in, finish_in, list_in, read_in};
+ghost use Rattle.md_script.specs.Sessions.{submit_in, step_in, finish_in};
 
 use crate::error::PlayKind;
-use crate::listing::push_listing;
+use crate::observer::Observer;
 use crate::storage::Storage;
-use crate::store::printing::{push_bytes, push_job, push_step};
+use crate::store::printing::{push_job, push_step};
 use md_core::{Call, Event, World};
-use md_view::list_lent;
-use std::alloc::Global;
 
 /// Submits a call, and prints the number of its job.
-pub(super) fn submit<D: Storage>(
+pub(super) fn submit<D: Storage, O: Observer<D>>(
     world: &mut World<D>,
     call: Call,
+    observer: &mut O,
     out: &mut Vec<u8>,
 ) -> Result<(), PlayKind>
     ensures submit { Steps (submit_in world.old call) world.new out.old.items out.new.items result }
@@ -26,6 +25,7 @@ pub(super) fn submit<D: Storage>(
     // Listings that have begun wait for what is done now.
     md_view::laws::a_listing_may_wait();
     world.interleaves();
+    observer.submits(&call);
     let job = world.submit(call)?;
     world.interleaves();
     push_job(out, job)?;
@@ -33,9 +33,10 @@ pub(super) fn submit<D: Storage>(
 }
 
 /// Takes one step of a job, and prints it.
-pub(super) fn step<D: Storage>(
+pub(super) fn step<D: Storage, O: Observer<D>>(
     world: &mut World<D>,
     event: Event,
+    observer: &mut O,
     out: &mut Vec<u8>,
 ) -> Result<(), PlayKind>
     ensures step { Steps (step_in world.old event) world.new out.old.items out.new.items result }
@@ -53,15 +54,17 @@ pub(super) fn step<D: Storage>(
     world.interleaves();
     // The directories never fail, so that no step is marked.
     let _dirs = world.dirs();
+    observer.stepped(world, event, &shown);
     push_step(out, event.job, shown)?;
     Ok(())
 }
 
 /// Takes steps of a job until it is answered, all at one moment, and prints them. A job that has its answer
 /// is refused.
-pub(super) fn finish<D: Storage>(
+pub(super) fn finish<D: Storage, O: Observer<D>>(
     world: &mut World<D>,
     event: Event,
+    observer: &mut O,
     out: &mut Vec<u8>,
 ) -> Result<(), PlayKind>
     ensures finish { Steps (finish_in world.old event) world.new out.old.items out.new.items result }
@@ -70,37 +73,9 @@ pub(super) fn finish<D: Storage>(
 {
     // A job that was not refused is there after its step, and has a step left until it is answered.
     md_core::laws::a_step_leaves_its_job_there();
-    step(world, event, out)?;
+    step(world, event, observer, out)?;
     while world.answer(event.job).is_none() {
-        step(world, event, out)?;
+        step(world, event, observer, out)?;
     }
-    Ok(())
-}
-
-/// Prints the messages of a folder.
-#[tactic(auto, unfolding(crate::specs::Sessions::list_in))]
-pub(super) fn list<D: Storage>(
-    alloc: Global,
-    world: &World<D>,
-    folder: u32,
-    out: &mut Vec<u8>,
-) -> Result<(), PlayKind>
-    ensures { Steps (list_in world.now folder) world.now out.old.items out.new.items result }
-{
-    let listing = list_lent(alloc, world, folder)?;
-    push_listing(out, &listing)?;
-    Ok(())
-}
-
-/// Prints the bytes of the message of a unique name, or that there is none.
-#[tactic(auto, unfolding(crate::specs::Sessions::read_in))]
-pub(super) fn read<D: Storage>(
-    world: &World<D>,
-    unique: &[u8],
-    out: &mut Vec<u8>,
-) -> Result<(), PlayKind>
-    ensures { Steps (read_in world.now unique.now) world.now out.old.items out.new.items result }
-{
-    push_bytes(out, world.read(unique))?;
     Ok(())
 }

@@ -1,15 +1,19 @@
 //! An open store: its world, and the first readings that are kept.
 ghost use Rattle.std.specs.Prelude.{◌≡◌, []};
 ghost use Rattle.md_script.specs.Step.{Steps};
-ghost use Rattle.md_script.specs.Sessions.{new_store, on_run, submit_in, step_in, finish_in, list_in, read_in, read_first, read_second};
+ghost use Rattle.md_script.specs.Held.{command_of};
+ghost use Rattle.md_script.specs.Sessions.{new_store, act, on_run, list_in, read_in, read_first, read_second};
 
+use crate::command::Command;
 use crate::error::PlayKind;
 use crate::listing::push_listing;
+use crate::observer::Observer;
 use crate::storage::Storage;
-use crate::store::acts;
+use crate::store::acts::{finish, step, submit};
 use crate::store::kept::{keep, kept_of, use_up};
-use md_core::{Call, Event, World};
-use md_view::BegunListing;
+use crate::store::printing::push_bytes;
+use md_core::World;
+use md_view::{BegunListing, list_lent};
 use std::alloc::Global;
 use std::marker::Model;
 
@@ -52,52 +56,66 @@ impl<D: Storage> OpenStore<D> {
         }
     }
 
-    /// Submits a call, and prints the number of its job.
-    pub(super) fn submit(&mut self, call: Call, out: &mut Vec<u8>) -> Result<(), PlayKind>
-        ensures { Steps (on_run self.old (submit_in self.old.run call)) self.new out.old.items out.new.items result }
+    /// Does what a command asks of a store. One that asks nothing of it does nothing.
+    pub(super) fn act<O: Observer<D>>(
+        &mut self,
+        command: Command<'_>,
+        observer: &mut O,
+        out: &mut Vec<u8>,
+    ) -> Result<(), PlayKind>
+        ensures { Steps (act self.old (command_of command.entry)) self.new out.old.items out.new.items result }
     {
-        acts::submit(&mut self.world, call, out)
+        match command {
+            Command::Submit(call) => submit(&mut self.world, call, observer, out),
+            Command::Step(event) => step(&mut self.world, event, observer, out),
+            Command::Finish(event) => finish(&mut self.world, event, observer, out),
+            Command::List { folder } => {
+                self.arrange(folder);
+                self.list(folder, out)
+            }
+            Command::First { folder } => {
+                self.arrange(folder);
+                self.first(folder)
+            }
+            Command::Second { folder } => {
+                self.arrange(folder);
+                self.second(folder, out)
+            }
+            Command::Read { unique } => self.read(unique, out),
+            _ => Ok(()),
+        }
     }
+}
 
-    /// Takes one step of a job, and prints it.
-    pub(super) fn step(&mut self, event: Event, out: &mut Vec<u8>) -> Result<(), PlayKind>
-        ensures { Steps (on_run self.old (step_in self.old.run event)) self.new out.old.items out.new.items result }
-    {
-        acts::step(&mut self.world, event, out)
-    }
-
-    /// Takes steps of a job until it is answered, and prints them.
-    pub(super) fn finish(&mut self, event: Event, out: &mut Vec<u8>) -> Result<(), PlayKind>
-        ensures { Steps (on_run self.old (finish_in self.old.run event)) self.new out.old.items out.new.items result }
-    {
-        acts::finish(&mut self.world, event, out)
-    }
-
-    /// Makes a folder ready to be listed. Where memory is refused to that, a listing shows the same, later.
-    pub(super) fn arrange(&mut self, folder: u32)
+impl<D: Storage> OpenStore<D> {
+    // Makes a folder ready to be listed. Where memory is refused to that, a listing shows the same, later.
+    fn arrange(&mut self, folder: u32)
         ensures { self.new ≡ self.old }
     {
         let _arranged = self.world.arrange(folder);
     }
 
-    /// Prints the messages of a folder.
-    pub(super) fn list(&self, folder: u32, out: &mut Vec<u8>) -> Result<(), PlayKind>
+    // Prints the messages of a folder.
+    #[tactic(auto, unfolding(crate::specs::Sessions::list_in))]
+    fn list(&self, folder: u32, out: &mut Vec<u8>) -> Result<(), PlayKind>
         ensures { Steps (on_run self.now (list_in self.now.run folder)) self.now out.old.items out.new.items result }
     {
-        acts::list(self.alloc, &self.world, folder, out)
+        let listing = list_lent(self.alloc, &self.world, folder)?;
+        push_listing(out, &listing)?;
+        Ok(())
     }
 
-    /// Prints the bytes of the message of a unique name, or that there is none.
-    pub(super) fn read(&self, unique: &[u8], out: &mut Vec<u8>) -> Result<(), PlayKind>
+    // Prints the bytes of the message of a unique name, or that there is none.
+    #[tactic(auto, unfolding(crate::specs::Sessions::read_in))]
+    fn read(&self, unique: &[u8], out: &mut Vec<u8>) -> Result<(), PlayKind>
         ensures { Steps (on_run self.now (read_in self.now.run unique.now)) self.now out.old.items out.new.items result }
     {
-        acts::read(&self.world, unique, out)
+        push_bytes(out, self.world.read(unique))?;
+        Ok(())
     }
-}
 
-impl<D: Storage> OpenStore<D> {
-    /// Reads new of a folder, and keeps the reading in place of an older one.
-    pub(super) fn first(&mut self, folder: u32) -> Result<(), PlayKind>
+    // Reads new of a folder, and keeps the reading in place of an older one.
+    fn first(&mut self, folder: u32) -> Result<(), PlayKind>
         ensures { Steps (read_first self.old folder) self.new [] [] result }
     {
         let listing = BegunListing::begin(self.alloc, &self.world, folder)?;
@@ -105,8 +123,8 @@ impl<D: Storage> OpenStore<D> {
         Ok(())
     }
 
-    /// Reads cur of a folder, joins it with the kept reading, which is used up, and prints the messages.
-    pub(super) fn second(&mut self, folder: u32, out: &mut Vec<u8>) -> Result<(), PlayKind>
+    // Reads cur of a folder, joins it with the kept reading, which is used up, and prints the messages.
+    fn second(&mut self, folder: u32, out: &mut Vec<u8>) -> Result<(), PlayKind>
         ensures { Steps (read_second self.old folder) self.new out.old.items out.new.items result }
     {
         let Some(begun) = kept_of(&self.kept, folder) else {

@@ -3,6 +3,9 @@ use Rattle.md_script.specs.Sessions.{Session, ScriptStore}
 use Rattle.md_script.proofs.Opening.{held, is_opened}
 use Rattle.md_script.proofs.store.StoreSession.open_first.Goals as goal
 
+pub opened-requires : goal.opened-requires
+opened-requires g c = record { folders = _; files = _; over = c.in_ok-world.ensures }
+
 pub returns : goal.returns
 returns g c =
     is_opened c.args.self.now _ c.self.inside.folders c.self.inside.files.items c.self.inside.store c.in_ok-world.world

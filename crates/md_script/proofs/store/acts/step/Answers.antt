@@ -1,14 +1,21 @@
 use Rattle.std.proofs.Common.{◌∙◌, sym}
-use Rattle.md_script.proofs.Acts.{stepped-ok, stepped-refused}
+use Rattle.md_script.proofs.Acts.{taken, stepped-ok, stepped-refused}
 use Rattle.md_script.proofs.Waits.{waits-event}
 use Rattle.md_script.proofs.store.acts.step.Goals as goal
+
+pub stepped-requires : goal.stepped-requires
+stepped-requires g c = (
+  _,
+  taken _ _ c.args.event _ _ c.in-Ok.ensures.refused c.in-Ok.ensures.event c.in-Ok.ensures.shows
+      (sym (g.met.D.Storage.never_fails c.dirs-dirs.result.now) ∙ c.dirs-dirs.ensures.failures),
+)
 
 pub returns : goal.returns
 returns g c = record {
   step = (
     _,
-    stepped-ok _ _ c.args.event _ _ c.in-Ok.ensures.refused c.in-Ok.ensures.event c.in-Ok.ensures.shows
-        (sym (g.met.D.Storage.never_fails c.dirs-dirs.result.now) ∙ c.dirs-dirs.ensures.failures),
+    stepped-ok _ _ c.args.event _ (taken _ _ c.args.event _ _ c.in-Ok.ensures.refused c.in-Ok.ensures.event c.in-Ok.ensures.shows
+        (sym (g.met.D.Storage.never_fails c.dirs-dirs.result.now) ∙ c.dirs-dirs.ensures.failures)),
     c.in_ok-push_step.ensures,
   );
   waits = waits-event c.a_listing_may_wait.ensures _ _ _ c.interleaves.ensures.run c.interleaves-2.ensures.run c.in-Ok.ensures.event;
