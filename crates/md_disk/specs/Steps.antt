@@ -6,7 +6,8 @@ use Rattle.md_jobs.specs.declared.step.Moment.{Moment}
 use Rattle.md_disk.specs.Exchanges.{Exchange}
 
 -- One call was made, that which the job asked for. It has this answer, if any; a job that has none goes on with this task.
-pub record Steps {T : Type 0} (turn : T → Moment → Turn T) (t : T) (old new : List Exchange) (answer : Option Answer) (task : T) : Type 0 where
+pub record Steps {T : Type 0} (turn : T → Moment → Turn T) (t : T)
+    (old new : List Exchange) (answer : Option Answer) (task : T) : Type 0 where
   pub call : Exchange
   pub logged : new ≡ old ++ call ∷ []
   pub asked : call.asked ≡ (turn t call.heard.at).asked
