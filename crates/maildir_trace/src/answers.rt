@@ -8,76 +8,63 @@ use md_core::{Answer, Call};
 use md_dirs::Bytes;
 use std::alloc::{AllocError, Global};
 
-/// Where a job takes its message.
-#[derive(Drop)]
-enum Goal {
-    /// It leaves it in its folder, or delivers it there.
-    Here,
-    /// To another folder.
-    To(u32),
-    /// To another folder, under another name, as a copy.
-    Copy { folder: u32, unique: Bytes },
-}
-
 /// The message that the answer to a call is about.
 #[derive(Drop)]
 pub(crate) struct Subject {
     folder: u32,
     unique: Bytes,
-    goal: Goal,
+    // The folder that a move or a copy takes it to.
+    to: Option<u32>,
+    // The unique name of its copy there.
+    fresh: Option<Bytes>,
 }
 
 impl Subject {
     /// What the answer to a call is about: nothing for a clean.
     pub(crate) fn of(alloc: Global, call: &Call) -> Result<Option<Subject>, AllocError> {
-        let (folder, unique, goal) = match call {
+        let (folder, unique, to, fresh) = match call {
             Call::Deliver { folder, unique, .. }
             | Call::Seen { folder, unique, .. }
             | Call::Flag { folder, unique, .. }
-            | Call::Expunge { folder, unique, .. } => (*folder, unique, Goal::Here),
+            | Call::Expunge { folder, unique, .. } => (*folder, unique, None, None),
             Call::Move {
                 folder,
                 unique,
                 to,
                 ..
-            } => (*folder, unique, Goal::To(*to)),
+            } => (*folder, unique, Some(*to), None),
             Call::Copy {
                 folder,
                 unique,
                 to,
                 fresh,
                 ..
-            } => {
-                let goal = Goal::Copy {
-                    folder: *to,
-                    unique: fresh.again(alloc)?,
-                };
-                (*folder, unique, goal)
-            }
+            } => (*folder, unique, Some(*to), Some(fresh.again(alloc)?)),
             Call::Clean { .. } => return Ok(None),
         };
         Ok(Some(Subject {
             folder,
             unique: unique.again(alloc)?,
-            goal,
+            to,
+            fresh,
         }))
     }
 
     /// Appends `JOB answer`, the words of an answer, and the message that they are about: the copy, where there is one.
     pub(crate) fn push_answer(&self, log: &mut Log, job: u64, answer: Answer) {
-        match (answer, &self.goal) {
-            (Answer::Copied, Goal::Copy { folder, unique }) => {
+        match (answer, self.to, &self.fresh) {
+            (Answer::Copied, Some(folder), Some(unique)) => {
                 log.push_answer(job, Answer::Delivered);
-                log.push_message(*folder, unique.as_slice());
+                log.push_message(folder, unique.as_slice());
                 return;
             }
-            (Answer::Moved, Goal::To(folder)) => {
+            (Answer::Moved, Some(folder), None) => {
                 log.push_answer(job, answer);
                 log.push(b" ");
-                log.push_folder(*folder);
+                log.push_folder(folder);
             }
-            (Answer::NotThere, Goal::To(_) | Goal::Copy { .. })
-            | (Answer::Delivered | Answer::Flags(_) | Answer::Expunged, _) => {
+            (Answer::NotThere, Some(_), _)
+            | (Answer::Delivered | Answer::Flags(_) | Answer::Expunged, _, _) => {
                 log.push_answer(job, answer);
             }
             _ => {

@@ -137,9 +137,7 @@ impl Log {
             }
         }
     }
-}
 
-impl Log {
     /// Appends the line of the next folder, and keeps its name.
     pub(crate) fn push_new_folder(&mut self, name: &[u8]) {
         self.push(b"folder ");

@@ -36,16 +36,12 @@ pub(crate) fn push_names<D: Dirs>(log: &mut Log, dirs: &D, folder: u32, place: P
 
 // The rows of a directory in order of their names. Where memory is refused to them, so is the log.
 fn rows_in<'a, D: Dirs>(log: &mut Log, dirs: &'a D, folder: u32, place: Place) -> Vec<RowRef<'a>> {
-    match dirs.rows_unordered(log.alloc(), folder, place) {
-        Ok(mut rows) => {
-            rows.sort_unstable_by(|first, second| first.name().cmp(second.name()));
-            rows
-        }
-        Err(_) => {
-            log.refuse(PlayKind::NoMemory);
-            Vec::new(log.alloc())
-        }
-    }
+    let Ok(mut rows) = dirs.rows_unordered(log.alloc(), folder, place) else {
+        log.refuse(PlayKind::NoMemory);
+        return Vec::new(log.alloc());
+    };
+    rows.sort_unstable_by(|first, second| first.name().cmp(second.name()));
+    rows
 }
 
 fn push_row(log: &mut Log, folder: u32, place: Place, row: &RowRef<'_>, form: Form) {

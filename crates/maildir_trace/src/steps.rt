@@ -18,14 +18,14 @@ pub(crate) fn push_step<D: Dirs>(log: &mut Log, dirs: &NotedDirs<D>, event: Even
     push_begin(log, event);
     log.push_number(event.job);
     log.push(call_text(out.call));
-    match dirs.noted() {
+    match &dirs.hook().noted {
         Some(noted) => push_noted(log, noted),
         None => log.refuse(PlayKind::NoMemory),
     }
     log.push(reply_text(out.reply));
     // A listing changes nothing, so that the names after it are those that it read.
     if out.reply == DirReply::Ok
-        && let Some(Noted::Directory { folder, place }) = dirs.noted()
+        && let Some(Noted::Directory { folder, place }) = &dirs.hook().noted
     {
         push_names(log, dirs, *folder, *place);
     }

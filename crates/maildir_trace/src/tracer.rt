@@ -32,10 +32,7 @@ pub(crate) fn trace<S: Source, T: Sink>(
     )?;
     let logged = tracer.log.end(printed.refusal)?;
     write_whole(sink, &logged.text)?;
-    match logged.refusal {
-        None => Ok(()),
-        Some(refused) => Err(refused),
-    }
+    logged.refusal.map_or(Ok(()), Err)
 }
 
 /// What logs the steps of a script. What a script prints by itself has no place in a log: a listing, a reading, a made name and a summary say

@@ -8,7 +8,7 @@ pub mod Image
 pub mod Laws
 pub mod Keys
 pub mod Plain
-pub mod Failing
+pub mod Hooks
 pub mod Index
 pub mod Files
 pub mod Places

@@ -1,8 +1,10 @@
 // Directories with a gate at each link.
+ghost use Rattle.std.specs.Prelude.{true};
+
 use super::fixtures::lists;
-use md_dirs::{DirError, Dirs, Path, Place, PlainDirs, Row, RowRef};
+use md_dirs::{Called, Hook, Hooked, PlainDirs};
 use md_store::{Naming, Pass, Store};
-use std::alloc::{AllocError, Global};
+use std::alloc::Global;
 use std::sync::Arc;
 use std::sync::atomic::{AtomicBool, Ordering};
 use std::thread;
@@ -17,12 +19,14 @@ pub struct Gate {
     pub go: AtomicBool,
 }
 
-// Directories whose link says that it was reached, and waits for a while to be let go on.
+// A hook that lets each call through: at a link it says that it was reached, and waits for a while to be let go on.
 #[derive(Drop)]
-pub struct Gated {
-    pub dirs: PlainDirs,
+pub struct Keeper {
     pub gate: Arc<Gate>,
 }
+
+// Directories with a gate at each link.
+pub type Gated = Hooked<PlainDirs, Keeper>;
 
 // Whether the flag was set before the turns were over. Each turn lets other threads run: on a busy machine bare turns are over too soon.
 fn is_set(flag: &AtomicBool) -> bool {
@@ -54,56 +58,18 @@ pub fn peeks<J: Naming>(
     was_reached && is_empty
 }
 
-impl Dirs for Gated {
-    ghost device = { λ d. record { state = d.dirs.state; failures = 0; calls = d.dirs.calls } };
+impl Hook for Keeper {
+    ghost stopped = { λ _. 0 };
 
-    fn create(&mut self, path: &Path, now: u64) -> Result<(), DirError> {
-        self.dirs.create(path, now)
-    }
+    ghost admits = { λ _ _. true };
 
-    fn append(&mut self, path: &Path, bytes: &[u8], now: u64) -> Result<(), DirError> {
-        self.dirs.append(path, bytes, now)
-    }
+    ghost leaves = { λ _ _ _. Unit {0} };
 
-    fn link(&mut self, old: &Path, new: &Path) -> Result<(), DirError> {
-        self.gate.reached.store(true, Ordering::SeqCst);
-        let _ = is_set(&self.gate.go);
-        self.dirs.link(old, new)
-    }
-
-    fn rename(&mut self, old: &Path, new: &Path) -> Result<(), DirError> {
-        self.dirs.rename(old, new)
-    }
-
-    fn unlink(&mut self, path: &Path) -> Result<(), DirError> {
-        self.dirs.unlink(path)
-    }
-
-    fn list(&mut self, folder: u32, place: Place) -> Result<Vec<Row>, DirError> {
-        self.dirs.list(folder, place)
-    }
-
-    fn find(&mut self, folder: u32, place: Place, unique: &[u8]) -> Result<Option<Row>, DirError> {
-        self.dirs.find(folder, place, unique)
-    }
-
-    fn folders(&self) -> u32 {
-        self.dirs.folders()
-    }
-
-    fn row_at(&self, folder: u32, place: Place, at: usize) -> Option<RowRef<'_>> {
-        self.dirs.row_at(folder, place, at)
-    }
-
-    fn arrange(&mut self, folder: u32, place: Place) -> Result<(), AllocError> {
-        self.dirs.arrange(folder, place)
-    }
-
-    fn holds_each_once(&self, folder: u32, place: Place) -> bool {
-        self.dirs.holds_each_once(folder, place)
-    }
-
-    fn read(&self, folder: u32, place: Place, name: &[u8]) -> Option<&[u8]> {
-        self.dirs.read(folder, place, name)
+    fn is_let_through(&mut self, called: Called<'_>) -> bool {
+        if let Called::Link { .. } = called {
+            self.gate.reached.store(true, Ordering::SeqCst);
+            let _ = is_set(&self.gate.go);
+        }
+        true
     }
 }

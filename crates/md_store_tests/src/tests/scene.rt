@@ -5,11 +5,11 @@ ghost use Rattle.md_view.specs.Named.{named_of};
 ghost use Rattle.md_store.specs.Locks.{IsFresh};
 
 use super::fixtures::{call, files, is_file};
-use super::gated::{Gate, Gated};
+use super::gated::{Gate, Gated, Keeper};
 use super::stages::play_stages;
 use super::stampede::{Stampede, are_beginnings, run_all};
 use md_core::World;
-use md_dirs::{ImageFile, PlainDirs};
+use md_dirs::{Hooked, ImageFile, PlainDirs};
 use md_store::{Naming, OpenError, OpenRefused, Pass, Prepared, Store, prepare};
 use std::alloc::Global;
 use std::marker::Brand;
@@ -112,7 +112,7 @@ fn loaded(alloc: Global, image: Vec<ImageFile>, gate: &Arc<Gate>) -> Option<Worl
     match PlainDirs::from_image(alloc, 2, image) {
         Ok(dirs) => {
             let gate = Arc::try_clone(gate).ok()?;
-            World::load(alloc, Gated { dirs, gate }).ok()
+            World::load(alloc, Hooked::over(dirs, Keeper { gate })).ok()
         }
         Err(_) => None,
     }
