@@ -11,6 +11,5 @@ pub mod Files
 pub mod Old
 pub mod All
 pub mod Grown
-pub mod Refused
 pub mod Shown
 pub mod Kept

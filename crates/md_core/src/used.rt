@@ -69,16 +69,6 @@ pub(crate) enum Used {
     All(UsedNames),
 }
 
-impl Used {
-    /// Whether names may have left the directories.
-    pub(crate) fn is_leaving(&self) -> bool {
-        match self {
-            Used::Leaving(names) => !names.is_empty(),
-            Used::All(_) => false,
-        }
-    }
-}
-
 /// Whether a name is among those.
 pub(crate) fn is_among_keys(keys: &[NameKey<'static>], name: &[u8]) -> bool
     ensures { result ≡ is_among name.now keys.now }

@@ -10,14 +10,11 @@ use std::marker::Model;
 pub(crate) mod arranging;
 pub(crate) mod call;
 pub(crate) mod checks;
-pub(crate) mod held;
-pub(crate) mod into_dirs;
 pub(crate) mod load;
 pub(crate) mod log;
 pub(crate) mod looking;
 pub(crate) mod looks;
 pub(crate) mod reading;
-pub(crate) mod room;
 pub(crate) mod run;
 pub(crate) mod settle;
 pub(crate) mod step;
@@ -93,5 +90,15 @@ impl<D: Dirs> World<D> {
         ensures calls { (D.device result.now).calls ≡ calls_made_of self.now }
     {
         &self.dirs
+    }
+
+    /// The directories of a world that is no longer wanted. They are in the state of its run; they have failed as often as the run has marks
+    /// since the beginning, and as many calls of them were made as the run has events.
+    pub fn into_dirs(self) -> D
+        ensures state { (D.device result).state ≡ dirs_of self }
+        ensures failures { (D.device result).failures ≡ failures_of self }
+        ensures calls { (D.device result).calls ≡ calls_made_of self }
+    {
+        self.dirs
     }
 }

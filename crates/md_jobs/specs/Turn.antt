@@ -2,10 +2,8 @@
 use Rattle.std.specs.Prelude.{ℕ, ◌≡◌, ◌+◌, List, [], ◌++◌, Option, Some, None, Result, Ok, Err, IfOk, IfErr, OnErr, Bool, is_some, if◌then◌else◌}
 use Rattle.std.specs.Option.{option_to_list}
 use Rattle.md_dirs.specs.State.{State}
-use Rattle.md_dirs.specs.Rows.{rows_of, row_named}
+use Rattle.md_dirs.specs.Rows.{rows_of}
 use Rattle.md_dirs.specs.Calls.{Ask, Device}
-use Rattle.md_dirs.specs.Calls as dirs
-use Rattle.md_dirs.specs.declared.paths.Place.{Place}
 use Rattle.md_dirs.specs.declared.rows.Row.{Row}
 use Rattle.md_dirs.specs.declared.calls.DirError.{DirError}
 use Rattle.md_dirs.specs.declared.calls.DirError.TheVariants.{Exists, NotFound, Fault, NoMemory}
@@ -75,12 +73,6 @@ pub record Replies (ask : Ask) (old : Device) (r : DirReply) (new : Device) : Ty
   pub state : new.state ≡ state_by ask old.state r
   pub failed : new.failures ≡ (if is_fault r then old.failures + 1 else old.failures)
   pub called : new.calls ≡ old.calls + 1
-
--- A look-up was made: one directory was listed, and where the listing was done, the row of the unique name was kept.
-pub record Looks (folder : ℕ) (place : Place) (unique : List ℕ) (old : Device) (r : DirReply) (row : Option Row) (new : Device)
-    : Type 0 where
-  pub made : Replies (dirs.list folder place) old r new
-  pub found : r ≡ reply.Ok → row ≡ row_named unique (rows_of old.state folder place)
 
 -- directories that are as they were, and of which no call was made
 pub record IsUntouched (old new : Device) : Type 0 where

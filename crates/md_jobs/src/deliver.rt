@@ -1,10 +1,9 @@
 //! A delivery: "Using maildir format", steps 3 to 6.
-ghost use Rattle.std.specs.Prelude.{◌≡◌, ◌+◌, ◌-◌, ◌^◌, ◌<◌, ◌≤◌, ◌++◌, length, take, drop, min, vec_len, vec_capacity, None, IfOk, IfErr, OnErr, is_some};
-ghost use Rattle.std.specs.Option.{option_to_list};
+ghost use Rattle.std.specs.Prelude.{◌≡◌, ◌+◌, ◌-◌, ◌^◌, ◌<◌, ◌≤◌, length, take, drop, min, vec_len, vec_capacity, None, IfOk, IfErr, OnErr};
 ghost use Rattle.md_jobs.specs.Asked.{ask_of, shown_call};
 ghost use Rattle.md_jobs.specs.Requests.{request_view, ready_turn, IsDeliveryReady};
 ghost use Rattle.md_jobs.specs.Turn.{Replies, Takes, TurnOf, NoCall, Shows};
-ghost use Rattle.md_jobs.specs.Machines.Deliver.{new_delivery, at_stage, after_create, after_append, after_link, append_turn, delivery_turn, delivery_effect, piece_len, target as target_of, is_in_time as is_in_time_by};
+ghost use Rattle.md_jobs.specs.Machines.Deliver.{new_delivery, at_stage, after_create, after_append, after_link, append_turn, delivery_turn, piece_len, target as target_of};
 ghost use Rattle.md_jobs.specs.Tasks.Delivery.{Delivery as DeliveryView, Start, Writing};
 
 use crate::answer::Answer;
@@ -76,13 +75,6 @@ impl Model for Delivery {
     ghost view = { λ d. record { tmp = d.tmp; body = d.whole.value; chunk = d.chunk; stage = d.stage } };
 
     ghost invariant = { λ d. HasBody d.stage d.whole.value d.body d.size };
-}
-
-// Whether a delivery that began at `start` is in time at `own`, both by its own clock. A clock that went back counts as none.
-fn is_in_time(start: u64, own: u64) -> bool
-    ensures { result ≡ is_in_time_by start own }
-{
-    own.saturating_sub(start) < MOST_SECONDS
 }
 
 // The bytes of a body that are written next, after so many.
@@ -172,7 +164,8 @@ impl Delivery {
         match self.stage {
             Stage::Start => Ok(DeliveryReady::Create { own: at.own }),
             Stage::Writing { start, written } => {
-                if !is_in_time(start, at.own) {
+                // A clock that went back counts as none.
+                if at.own.saturating_sub(start) >= MOST_SECONDS {
                     return Ok(DeliveryReady::Unlink {
                         answer: Refusal::TimedOut.answer(),
                     });
@@ -244,10 +237,7 @@ impl Delivery {
                 let answer = appended(&mut self.stage, start, written + len, reply);
                 Turned::plain(DirCall::Append(len), reply, answer)
             }
-            DeliveryReady::Link { name } => {
-                let effect = self.effect(job, name);
-                self.linked(reply, effect, effects)
-            }
+            DeliveryReady::Link { name } => self.linked(job, name, reply, effects),
             DeliveryReady::Unlink { answer } => {
                 Turned::plain(DirCall::Unlink, reply, Some(answer))
             }
@@ -311,23 +301,6 @@ impl Delivery {
         })
     }
 
-    // The effect that a link to the target is, which takes a copy of the name.
-    fn effect(&self, job: JobId, name: Bytes) -> Effect
-        requires { name ≡ self.now.tmp.name }
-        ensures { result ≡ delivery_effect job self.now }
-    {
-        Effect {
-            job,
-            answer: Answer::Delivered,
-            change: Change::Add {
-                folder: self.tmp.folder,
-                place: Place::New,
-                name,
-                size: self.size,
-            },
-        }
-    }
-
     fn created(&mut self, own: u64, reply: DirReply) -> Option<Answer>
         requires { self.old.stage ≡ Start }
         ensures { after_create self.old own reply ≡ record { task = self.new; answer = result; effect = None } }
@@ -345,16 +318,34 @@ impl Delivery {
         }
     }
 
-    fn linked(&mut self, reply: DirReply, effect: Effect, effects: &mut Vec<Effect>) -> Turned
+    // The link was made or refused. Its effect takes a copy of the name.
+    fn linked(
+        &mut self,
+        job: JobId,
+        name: Bytes,
+        reply: DirReply,
+        effects: &mut Vec<Effect>,
+    ) -> Turned
+        requires name { name ≡ self.old.tmp.name }
         requires room { vec_len effects.old < vec_capacity effects.old }
-        ensures follows { (job : _) → effect ≡ delivery_effect job self.old →
-            after_link job self.old reply ≡ record { task = self.new; answer = result.out.answer; effect = result.effect.value } }
+        ensures follows { after_link job self.old reply ≡
+            record { task = self.new; answer = result.out.answer; effect = result.effect.value } }
         ensures shown { Shows DirCall.Link reply effects.old.items effects.new.items result }
     {
         match reply {
             // At the link the message is delivered. Whatever comes now, it stays so.
             DirReply::Ok => {
                 self.stage = Stage::Linked;
+                let effect = Effect {
+                    job,
+                    answer: Answer::Delivered,
+                    change: Change::Add {
+                        folder: self.tmp.folder,
+                        place: Place::New,
+                        name,
+                        size: self.size,
+                    },
+                };
                 Turned::acted(DirCall::Link, reply, None, effect, effects)
             }
             DirReply::Exists => {

@@ -1,10 +1,9 @@
 //! An errand: it looks for a message in one place after the other, decides what to do with it, and does that. Seen, Flag, Move, Copy and
 //! Expunge are errands, each a row of the table in `purpose.rt`.
-ghost use Rattle.std.specs.Prelude.{◌≡◌, ◌<◌, ◌++◌, List, vec_len, vec_capacity, IfOk, IfErr, OnErr, is_some};
+ghost use Rattle.std.specs.Prelude.{◌≡◌, ◌<◌, List, vec_len, vec_capacity, None, IfOk, IfErr};
 ghost use Rattle.md_dirs.specs.Rows.{row_named};
 ghost use Rattle.md_dirs.specs.declared.rows.Row.{Row as RowView};
 ghost use Rattle.md_jobs.specs.Requests.{request_view, IsErrandReady};
-ghost use Rattle.std.specs.Option.{option_to_list};
 ghost use Rattle.md_jobs.specs.Turn.{Replies, TakesOrEnds, FollowsOrEnds, TurnOf, NoCall, Shows, rows_for};
 ghost use Rattle.md_jobs.specs.Asked.{ask_of, shown_call};
 ghost use Rattle.md_jobs.specs.Tasks.Views.Errands.{errand_view, deed_view};
@@ -18,9 +17,9 @@ use crate::error::CoreError;
 use crate::purpose::{Decision, Deed, Purpose};
 use crate::refusal::Refusal;
 use crate::request::Request;
+use crate::spot::Spot;
 use crate::step::{DirCall, DirReply, Moment};
-use crate::target::Target;
-use crate::turn::{Turned, look, reply_of};
+use crate::turn::{Turned, reply_of};
 use md_dirs::{Bytes, Dirs, Row};
 use std::alloc::Global;
 
@@ -45,7 +44,7 @@ pub enum ErrandReady {
 /// An errand on the message of a unique name. The directory calls borrow its path, and a change that is done takes its name.
 #[derive(Drop)]
 pub struct Errand {
-    pub path: Target,
+    pub path: Spot,
     pub unique: Bytes,
     pub purpose: Purpose,
     pub stage: Stage,
@@ -57,7 +56,7 @@ impl Errand {
         ensures { errand_view result ≡ new_errand folder unique purpose tries }
     {
         Errand {
-            path: Target::nameless(alloc, folder, purpose.first()),
+            path: Spot::nameless(alloc, folder, purpose.first()),
             unique,
             purpose,
             stage: Stage::Look { tries },
@@ -106,13 +105,12 @@ impl Errand {
         requires { IsErrandReady (errand_view self.now) (errand_view self.now).stage ready.now }
         ensures { (job : _) → request_view result ≡ (errand_turn job (errand_view self.now)).asked }
     {
-        let path = self.path.path();
         match ready {
             ErrandReady::Look => Request::List {
-                folder: path.folder,
-                place: path.place,
+                folder: self.path.folder,
+                place: self.path.place,
             },
-            ErrandReady::Act { deed, .. } => deed.request(path),
+            ErrandReady::Act { deed, .. } => deed.request(&self.path),
         }
     }
 
@@ -130,11 +128,15 @@ impl Errand {
             made.1 ≡ row_named self.now.unique (rows_for (errand_turn job (errand_view self.now)).asked (D.device dirs.old).state)) }
         ensures refused { IfErr result (NoCall (D.device dirs.old) (D.device dirs.new)) }
     {
-        let path = self.path.path();
         match ready {
-            ErrandReady::Look => { look(dirs, path.folder, path.place, self.unique.as_slice()) }
+            ErrandReady::Look => {
+                match dirs.find(self.path.folder, self.path.place, self.unique.as_slice()) {
+                    Ok(row) => Ok((DirReply::Ok, row)),
+                    Err(error) => Ok((reply_of(Err(error))?, None)),
+                }
+            }
             ErrandReady::Act { deed, .. } => {
-                let made = deed.make(alloc, dirs, path)?;
+                let made = deed.make(alloc, dirs, &self.path)?;
                 Ok((reply_of(made)?, None))
             }
         }
@@ -188,28 +190,19 @@ impl Errand {
             record { task = errand_view self.new; answer = result.out.answer; effect = result.effect.value } }
         ensures shown { Shows (DirCall.List self.old.path.place) reply effects.old.items effects.new.items result }
     {
-        let call = DirCall::List(self.path.path().place);
+        let call = DirCall::List(self.path.place);
         if reply != DirReply::Ok {
             return Turned::plain(call, reply, Some(Refusal::Fault.answer()));
         }
-        let Some(row) = row else {
-            let answer = self.not_found(tries);
-            return Turned::plain(call, reply, answer);
+        if let Some(row) = row {
+            return self.found(job, row, tries, effects);
+        }
+        let Some(place) = self.purpose.after(self.path.place) else {
+            return Turned::plain(call, reply, Some(Refusal::NotThere.answer()));
         };
-        self.found(job, row, tries, effects)
-    }
-
-    // The message is looked for in the next place, if there is one.
-    fn not_found(&mut self, tries: u64) -> Option<Answer>
-        ensures { after_none (errand_view self.old) tries (place_after (searches self.old.purpose) self.old.path.place) ≡
-            record { task = errand_view self.new; answer = result; effect = None } }
-    {
-        let Some(place) = self.purpose.after(self.path.path().place) else {
-            return Some(Refusal::NotThere.answer());
-        };
-        self.path.look_in(place);
+        self.path.place = place;
         self.stage = Stage::Look { tries };
-        None
+        Turned::plain(call, reply, None)
     }
 
     // A listing was made, and this row was found.
@@ -220,7 +213,7 @@ impl Errand {
             record { task = errand_view self.new; answer = result.out.answer; effect = result.effect.value } }
         ensures shown { Shows (DirCall.List self.old.path.place) DirReply.Ok effects.old.items effects.new.items result }
     {
-        let call = DirCall::List(self.path.path().place);
+        let call = DirCall::List(self.path.place);
         let (decision, info) = self.purpose.decide(row.name.as_slice());
         match decision {
             Decision::Refuse(refusal) => {
@@ -287,7 +280,7 @@ impl Errand {
         if tries <= 1 {
             return Some(Refusal::Lost.answer());
         }
-        self.path.look_in(self.purpose.first());
+        self.path.place = self.purpose.first();
         self.stage = Stage::Look { tries: tries - 1 };
         None
     }

@@ -1,4 +1,7 @@
 //! The refusals of a world.
+ghost use Rattle.std.specs.Prelude.{◌≡◌};
+ghost use Rattle.md_jobs.specs.declared.error.CoreError.TheVariants.{NoMemory};
+
 use std::alloc::{AllocError, AllocFailed};
 use thiserror::Error;
 
@@ -51,9 +54,6 @@ pub enum CoreError {
 }
 
 impl<T: Drop> From<AllocFailed<T>> for CoreError {
-    ghost use Rattle.std.specs.Prelude.{◌≡◌};
-    ghost use Rattle.md_jobs.specs.declared.error.CoreError.TheVariants.{NoMemory};
-
     ghost from_gives = { λ _ e. e ≡ NoMemory };
 
     fn from(_: AllocFailed<T>) -> Self {
@@ -62,9 +62,6 @@ impl<T: Drop> From<AllocFailed<T>> for CoreError {
 }
 
 impl From<AllocError> for CoreError {
-    ghost use Rattle.std.specs.Prelude.{◌≡◌};
-    ghost use Rattle.md_jobs.specs.declared.error.CoreError.TheVariants.{NoMemory};
-
     ghost from_gives = { λ _ e. e ≡ NoMemory };
 
     fn from(_: AllocError) -> Self {

@@ -25,7 +25,6 @@ mod request;
 mod snapshot;
 mod spot;
 mod step;
-mod target;
 mod turn;
 
 pub use answer::Answer;
@@ -35,7 +34,7 @@ pub use deliver::{Delivery, DeliveryReady};
 pub use effect::{Change, Effect};
 pub use errand::{Errand, ErrandReady};
 pub use error::CoreError;
-pub use purpose::Purpose;
+pub use purpose::{Decision, Purpose};
 pub use request::{PathRef, Request};
 pub use snapshot::Snapshot;
 pub use step::{DirCall, DirReply, Event, Moment, StepOut};

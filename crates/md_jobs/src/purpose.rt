@@ -1,7 +1,6 @@
 //! The table of errands, a row for each purpose: the places that it looks in, what it decides of a message that it found, and what it does
 //! with it.
 ghost use Rattle.std.specs.Prelude.{◌≡◌, IfOk, IfErr, IfSome, OnErr, MatchResult};
-ghost use Rattle.md_dirs.specs.Path.{path_of};
 ghost use Rattle.md_dirs.specs.Calls.{Obeys};
 ghost use Rattle.md_jobs.specs.Tasks.Views.Errands.{deed_view};
 ghost use Rattle.md_name.specs.Names.{flags_of, flagged};
@@ -19,7 +18,6 @@ use crate::refusal::Refusal;
 use crate::request::Request;
 use crate::spot::Spot;
 use crate::step::DirCall;
-use crate::target::Target;
 use md_dirs::{Bytes, DirError, Dirs, Place};
 use md_name::laws::only_letters;
 use md_name::{Flags, Info, split, with_flags};
@@ -122,30 +120,14 @@ fn copied_name(alloc: Global, fresh: &Bytes, info: Info) -> Result<Bytes, CoreEr
     }
 }
 
-// Where a message of this folder is that has these flags: in cur, by another name.
-fn marked(alloc: Global, folder: u32, unique: &Bytes, flags: Flags) -> Result<Spot, CoreError>
-    ensures { MatchResult result
-        (λ path. path ≡ path_of folder Place.Cur (flagged unique.now flags))
-        (λ e. e ≡ CoreError.NoMemory) }
-{
-    Ok(Spot {
-        folder,
-        place: Place::Cur,
-        name: named(alloc, unique, flags)?,
-    })
-}
-
 impl Purpose {
     /// The place that is looked in first.
     pub(crate) fn first(&self) -> Place
         ensures { result ≡ first self.now }
     {
         match self {
-            Purpose::Seen(_) => Place::New,
-            Purpose::Flag { .. } => Place::Cur,
-            Purpose::Move { .. } => Place::New,
-            Purpose::Copy { .. } => Place::New,
-            Purpose::Expunge => Place::Cur,
+            Purpose::Seen(_) | Purpose::Move { .. } | Purpose::Copy { .. } => Place::New,
+            Purpose::Flag { .. } | Purpose::Expunge => Place::Cur,
         }
     }
 
@@ -195,16 +177,17 @@ impl Purpose {
         ensures { result ≡ decide_by self.now info.now }
     {
         match self {
-            Purpose::Seen(_) => act_if(info.flags().is_some(), Refusal::OtherInfo),
+            Purpose::Seen(_) | Purpose::Copy { .. } => {
+                act_if(info.flags().is_some(), Refusal::OtherInfo)
+            }
             Purpose::Flag { .. } => self.decide_flag(*info),
             Purpose::Move { .. } => Decision::Act,
-            Purpose::Copy { .. } => act_if(info.flags().is_some(), Refusal::OtherInfo),
             Purpose::Expunge => act_if(is_trashed(*info), Refusal::NotTrashed),
         }
     }
 
     /// What is decided of a message of this name, and the info of the name, where that was read: a Move goes by no info.
-    pub(crate) fn decide(&self, name: &[u8]) -> (Decision, Option<Info>)
+    pub fn decide(&self, name: &[u8]) -> (Decision, Option<Info>)
         ensures decision { result.0 ≡ decide_by self.now (info_in name.now) }
         ensures info { IfSome result.1 (λ info. info ≡ info_in name.now) }
     {
@@ -216,19 +199,14 @@ impl Purpose {
         (decision, Some(info))
     }
 
-    // The answer that says which flags the message has then.
-    fn flags(&self, name: &[u8]) -> Answer
-        ensures { result ≡ Answer.Flags (wanted_by self.now (shown_by (info_in name.now))) }
-    {
-        Answer::Flags(self.wanted(shown(info_of(name))))
-    }
-
     /// The answer of one whose call took effect on a message of this name.
     pub(crate) fn answer(&self, name: &[u8]) -> Answer
         ensures { result ≡ answer_by self.now (info_in name.now) }
     {
         match self {
-            Purpose::Seen(_) | Purpose::Flag { .. } => self.flags(name),
+            Purpose::Seen(_) | Purpose::Flag { .. } => {
+                Answer::Flags(self.wanted(shown(info_of(name))))
+            }
             Purpose::Move { .. } => Answer::Moved,
             Purpose::Copy { .. } => Answer::Copied,
             Purpose::Expunge => Answer::Expunged,
@@ -241,39 +219,26 @@ impl Purpose {
         &self,
         alloc: Global,
         unique: &Bytes,
-        old: &Target,
+        old: &Spot,
     ) -> Result<(Deed, Answer), CoreError>
         ensures deed { IfOk result (λ done. deed_view old.now done.0 ≡
             deed_by self.now old.now.folder unique.now old.now.place old.now.name (info_in old.now.name)) }
         ensures answer { IfOk result (λ done. done.1 ≡ answer_by self.now (info_in old.now.name)) }
         ensures memory { IfErr result (λ e. e ≡ CoreError.NoMemory) }
     {
-        let Spot {
-            folder,
-            place,
-            name,
-        } = old.path();
         match self {
             Purpose::Seen(_) | Purpose::Flag { .. } => {
                 let flags = self.wanted(shown(old.info()));
-                let new = marked(alloc, *folder, unique, flags)?;
+                let new = Spot::new(old.folder, Place::Cur, named(alloc, unique, flags)?);
                 Ok((Deed::Rename { new }, Answer::Flags(flags)))
             }
             Purpose::Move { to } => {
-                let new = Spot {
-                    folder: *to,
-                    place: *place,
-                    name: name.again(alloc)?,
-                };
+                let new = Spot::new(*to, old.place, old.name.again(alloc)?);
                 Ok((Deed::Rename { new }, Answer::Moved))
             }
             Purpose::Copy { to, fresh } => {
                 let name = copied_name(alloc, fresh, old.info())?;
-                let new = Spot {
-                    folder: *to,
-                    place: *place,
-                    name,
-                };
+                let new = Spot::new(*to, old.place, name);
                 Ok((Deed::Link { new }, Answer::Copied))
             }
             Purpose::Expunge => Ok((Deed::Unlink, Answer::Expunged)),
@@ -292,8 +257,7 @@ impl Deed {
     ) -> Result<Result<(), DirError>, AllocError>
         ensures meets { IfOk result (λ made.
             Obeys (ask_of (asked_of (deed_view old.now self.now)) 0) (D.device dirs.old) made (D.device dirs.new)) }
-        ensures dirs { OnErr result (IsUntouched (D.device dirs.old)
-            (D.device dirs.new)) }
+        ensures dirs { OnErr result (IsUntouched (D.device dirs.old) (D.device dirs.new)) }
     {
         let old = old.path(alloc)?;
         match self {

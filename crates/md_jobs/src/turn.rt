@@ -1,13 +1,13 @@
 //! What one turn of a job gave.
-ghost use Rattle.std.specs.Prelude.{◌≡◌, ◌<◌, ◌++◌, ◌∷◌, [], vec_len, vec_capacity, IfOk, IfErr, OnErr, MatchResult, Some, None, false, true, is_some};
-ghost use Rattle.md_jobs.specs.Turn.{reply_from, Looks, NoCall};
+ghost use Rattle.std.specs.Prelude.{◌≡◌, ◌<◌, ◌++◌, ◌∷◌, [], vec_len, vec_capacity, IfOk, IfErr, OnErr, Some, None, false, true};
+ghost use Rattle.md_jobs.specs.Turn.{reply_from};
 
 use crate::answer::Answer;
 use crate::effect::Effect;
 use crate::error::CoreError;
 use crate::snapshot::Snapshot;
 use crate::step::{DirCall, DirReply, StepOut};
-use md_dirs::{DirError, Dirs, Place, Row};
+use md_dirs::DirError;
 
 /// What a turn shows, and for contracts alone the effect, where it was one. The effect itself goes to the effects so far, so that it is
 /// moved once.
@@ -77,26 +77,6 @@ pub(crate) fn reply_of(answer: Result<(), DirError>) -> Result<DirReply, CoreErr
         Err(DirError::Exists) => Ok(DirReply::Exists),
         Err(DirError::NotFound) => Ok(DirReply::NotFound),
         Err(DirError::Fault) => Ok(DirReply::Fault),
-        Err(DirError::NoMemory) => Err(CoreError::NoMemory),
-    }
-}
-
-/// Looks for one message of a directory, and says what the directories answered. Out of memory is handed on: no step was taken.
-pub(crate) fn look<D: Dirs>(
-    dirs: &mut D,
-    folder: u32,
-    place: Place,
-    unique: &[u8],
-) -> Result<(DirReply, Option<Row>), CoreError>
-    ensures { MatchResult result
-        (λ found. Looks folder place unique.now (D.device dirs.old) found.0 found.1 (D.device dirs.new))
-        (NoCall (D.device dirs.old) (D.device dirs.new)) }
-{
-    match dirs.find(folder, place, unique) {
-        Ok(row) => Ok((DirReply::Ok, row)),
-        Err(DirError::Exists) => Ok((DirReply::Exists, None)),
-        Err(DirError::NotFound) => Ok((DirReply::NotFound, None)),
-        Err(DirError::Fault) => Ok((DirReply::Fault, None)),
         Err(DirError::NoMemory) => Err(CoreError::NoMemory),
     }
 }

@@ -1,7 +1,10 @@
 -- A run that goes on by one more step of its one job.
-use Rattle.std.proofs.Common.{ℕ, ◌≡◌, ◌++◌, [], ◌∷◌, Option, None, Bool, sym, ap, subst, ◌∙◌, append_assoc}
-use Rattle.md_core.proofs.Values.{Call, Event, Occurrence, job_at, Run, jobs_of, and_event, and_call, step_refusal, IsRun, HasJob, next_job, GoesOnBy, StepsAlone}
+use Rattle.std.proofs.Common.{ℕ, ◌≡◌, ◌<◌, ◌++◌, [], ◌∷◌, Option, None, Bool, sym, ap, subst, ◌∙◌, append_assoc}
+use Rattle.md_core.proofs.Values.{Call, Event, Occurrence, job_at, Run, jobs_of, and_event, and_call, step_refusal, IsRun, HasJob, next_job, GoesOnBy, OthersStay, StepsAlone}
+use Rattle.md_core.specs.Runs.{steps_left}
 use Rattle.md_core.proofs.Lists.Places.{at_end}
+use Rattle.md_core.proofs.Machines.EachTurn.{each-turn}
+use Rattle.md_core.proofs.Theorem.Bounds.{steps_left-less, jobs-same}
 use Rattle.md_core.proofs.Runs.Extended.{is_run-and_event}
 use Rattle.md_core.proofs.Runs.Going.{there-after}
 
@@ -21,6 +24,14 @@ module _ (event : Event) (r' r'' : Run) (faulted : Bool) (run : IsRun r')
 
   pub there-more : HasJob r'' event.job
   there-more = subst (λ (x : Run). HasJob x event.job) (sym is) (there-after r' (record { event = event; faulted = faulted }) goes)
+
+  pub less-more : steps_left r'' event.job < steps_left r' event.job
+  less-more = subst (λ (x : Run). steps_left x event.job < steps_left r' event.job) (sym is)
+      (steps_left-less r' run each-turn (record { event = event; faulted = faulted }) goes)
+
+  pub others-more : OthersStay event.job r' r''
+  others-more = λ n differ.
+      ap (λ (x : Run). job_at (jobs_of x) n) is ∙ jobs-same r' run each-turn (record { event = event; faulted = faulted }) goes n differ
 
 -- where a call was submitted, and its job took the steps since, its job's number is the next
 pub steps-alone : (r r0 r' : Run) (call : Call) (job now : ℕ) (own : Option ℕ) → r0 ≡ and_call r call → job ≡ next_job r →

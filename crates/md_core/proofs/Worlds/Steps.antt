@@ -7,7 +7,9 @@ use Rattle.md_core.proofs.Runs.Events.{goes_on-exact, done-turned}
 use Rattle.md_core.proofs.Runs.ByEvent.{machine-and_event}
 use Rattle.md_core.proofs.Induction.Going.{Goes, goes, goes-here}
 use Rattle.md_core.proofs.Induction.GoodRuns.{good-machine}
-use Rattle.md_core.proofs.Theorem.LawHolds.{simulates}
+use Rattle.md_core.proofs.Theorem.LawHolds.{simulates, run-law}
+use Rattle.md_core.proofs.Machines.EachTurn.{each-turn}
+use Rattle.md_core.proofs.Runs.Extended.{is_run-and_event}
 
 module _ (turns : EachTurn) (r : Run) (run : IsRun r) (e : Occurrence) (goes_on : step_refusal (job_at (jobs_of r) e.event.job) ≡ None) where
   waits : (task : Task) × (job_at (jobs_of r) e.event.job ≡ Some (working task))
@@ -50,3 +52,11 @@ module _ (turns : EachTurn) (r : Run) (run : IsRun r) (e : Occurrence) (goes_on 
         by (Some a) is = λ success.
             (theorem.jobs e.event.job going.asked (answered a) called (there ∙
             ap (λ (x : Option Answer). Some (standing_of going.task' x)) is)).success a refl success
+
+-- an answer of success that a step of a world shows has its effect
+pub succeeds-shown : (r r' : Run) → IsRun r → (e : Occurrence) (out : StepOut) → r' ≡ and_event r e →
+    step_refusal (job_at (jobs_of r) e.event.job) ≡ None → ShowsStep r r' e out → Succeeds r' e.event.job out.answer
+succeeds-shown r r' run e out is goes_on h =
+    subst (λ (x : Run). Succeeds x e.event.job out.answer) (sym is)
+    (succeeds each-turn r run e goes_on out (ap (option_map step_out) h.at ∙ ap Some (sym h.shown))
+    (run-law each-turn (and_event r e) (is_run-and_event r e run goes_on)))

@@ -23,58 +23,47 @@ impl Task {
     pub(crate) fn new(alloc: Global, call: Call) -> Task
         ensures { working (task_view result) ≡ new_job call }
     {
-        match call {
+        let (folder, unique, purpose, tries) = match call {
             Call::Deliver {
                 folder,
                 unique,
                 body,
                 chunk,
-            } => Task::Deliver(Delivery::new(folder, unique, body, chunk)),
+            } => return Task::Deliver(Delivery::new(folder, unique, body, chunk)),
+            Call::Clean { folder } => return Task::Clean(Cleaning::new(folder)),
             Call::Seen {
                 folder,
                 unique,
                 flags,
                 tries,
-            } => Task::Errand(Errand::new(alloc, folder, unique, Purpose::Seen(flags), tries)),
+            } => (folder, unique, Purpose::Seen(flags), tries),
             Call::Flag {
                 folder,
                 unique,
                 add,
                 remove,
                 tries,
-            } => Task::Errand(Errand::new(
-                alloc,
-                folder,
-                unique,
-                Purpose::Flag { add, remove },
-                tries,
-            )),
+            } => (folder, unique, Purpose::Flag { add, remove }, tries),
             Call::Move {
                 folder,
                 unique,
                 to,
                 tries,
-            } => Task::Errand(Errand::new(alloc, folder, unique, Purpose::Move { to }, tries)),
+            } => (folder, unique, Purpose::Move { to }, tries),
             Call::Expunge {
                 folder,
                 unique,
                 tries,
-            } => Task::Errand(Errand::new(alloc, folder, unique, Purpose::Expunge, tries)),
+            } => (folder, unique, Purpose::Expunge, tries),
             Call::Copy {
                 folder,
                 unique,
                 to,
                 fresh,
                 tries,
-            } => Task::Errand(Errand::new(
-                alloc,
-                folder,
-                unique,
-                Purpose::Copy { to, fresh },
-                tries,
-            )),
-            Call::Clean { folder } => Task::Clean(Cleaning::new(folder)),
-        }
+            } => (folder, unique, Purpose::Copy { to, fresh }, tries),
+        };
+        Task::Errand(Errand::new(alloc, folder, unique, purpose, tries))
     }
 
     /// Takes the next turn, and adds its effect, where it is one. After a refusal nothing has changed. It is a part of the one place that calls

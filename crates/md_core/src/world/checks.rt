@@ -1,12 +1,11 @@
 //! What is checked of a call when it is submitted, and in which order.
-ghost use Rattle.std.specs.Prelude.{◌≡◌, ◌||◌, not};
-ghost use Rattle.md_name.specs.Names.{is_unique_name as is_unique};
+ghost use Rattle.std.specs.Prelude.{◌≡◌, true, false, None, Some, MatchResult};
 ghost use Rattle.md_jobs.specs.declared.call.Call.TheVariants.{Deliver, Move, Copy, Clean};
 ghost use Rattle.md_core.specs.Submitting.{submit_refusal, no_folder, too_many, is_used as is_used_by, bad_tries, first_met, checks_of_look_up};
 
 use crate::used::{Used, is_among_keys};
 use crate::world::World;
-use crate::world::held::is_held;
+use crate::world::reading::is_held;
 use md_dirs::Dirs;
 use md_jobs::{Call, CoreError};
 use md_name::is_unique_name;
@@ -20,11 +19,14 @@ const MOST_JOBS: usize = 10_000;
 /// The most tries of a call.
 const MOST_TRIES: u64 = 16;
 
-// Whether one of two names is no unique name.
-fn is_bad_pair(unique: &[u8], fresh: &[u8]) -> bool
-    ensures { result ≡ (not (is_unique unique.now) || not (is_unique fresh.now)) }
+// Refuses so what meets a check.
+fn check(is_met: bool, error: CoreError) -> Result<(), CoreError>
+    ensures { MatchResult result (λ _. is_met ≡ false) (λ e. (is_met ≡ true) × (e ≡ error)) }
 {
-    !is_unique_name(unique) || !is_unique_name(fresh)
+    if is_met {
+        return Err(error);
+    }
+    Ok(())
 }
 
 fn is_bad_tries(tries: u64) -> bool
@@ -34,9 +36,9 @@ fn is_bad_tries(tries: u64) -> bool
 }
 
 impl<D: Dirs> World<D> {
-    /// The first check that a call meets, out of memory aside.
-    pub(crate) fn refusal_of(&self, call: &Call) -> Option<CoreError>
-        ensures { result ≡ submit_refusal self.now call.now }
+    /// The checks of a call, out of memory aside. It is refused by the first that it meets.
+    pub(crate) fn check_call(&self, call: &Call) -> Result<(), CoreError>
+        ensures { MatchResult result (λ _. submit_refusal self.now call.now ≡ None) (λ e. submit_refusal self.now call.now ≡ Some e) }
     {
         match call {
             Call::Deliver {
@@ -44,7 +46,7 @@ impl<D: Dirs> World<D> {
                 unique,
                 body,
                 chunk,
-            } => self.deliver_refusal(*folder, unique.as_slice(), body.as_slice(), *chunk),
+            } => self.check_delivery(*folder, unique.as_slice(), body.as_slice(), *chunk),
             Call::Seen {
                 folder,
                 unique,
@@ -61,132 +63,90 @@ impl<D: Dirs> World<D> {
                 folder,
                 unique,
                 tries,
-            } => self.look_up_refusal(*folder, unique.as_slice(), *tries),
+            } => self.check_look_up(*folder, unique.as_slice(), *tries),
             Call::Move {
                 folder,
                 unique,
                 to,
                 tries,
-            } => self.move_refusal(*folder, unique.as_slice(), *to, *tries),
+            } => self.check_move(*folder, unique.as_slice(), *to, *tries),
             Call::Copy {
                 folder,
                 unique,
                 to,
                 fresh,
                 tries,
-            } => self.copy_refusal(*folder, unique.as_slice(), *to, fresh.as_slice(), *tries),
-            Call::Clean { folder } => self.clean_refusal(*folder),
+            } => self.check_copy(*folder, unique.as_slice(), *to, fresh.as_slice(), *tries),
+            Call::Clean { folder } => self.check_clean(*folder),
         }
     }
 
-    fn deliver_refusal(
+    fn check_delivery(
         &self,
         folder: u32,
         unique: &[u8],
         body: &[u8],
         chunk: u64,
-    ) -> Option<CoreError>
-        ensures { result ≡ submit_refusal self.now (Deliver folder unique.now body.now chunk) }
+    ) -> Result<(), CoreError>
+        ensures { MatchResult result (λ _. submit_refusal self.now (Deliver folder unique.now body.now chunk) ≡ None)
+            (λ e. submit_refusal self.now (Deliver folder unique.now body.now chunk) ≡ Some e) }
     {
-        if self.lacks(folder) {
-            return Some(CoreError::NoFolder);
-        }
-        if !is_unique_name(unique) {
-            return Some(CoreError::BadUnique);
-        }
-        if chunk == 0 {
-            return Some(CoreError::BadChunk);
-        }
-        if body.len() > MOST_BYTES {
-            return Some(CoreError::BodyTooLong);
-        }
-        if self.is_full() {
-            return Some(CoreError::TooManyJobs);
-        }
-        if self.is_used(unique) {
-            return Some(CoreError::NameUsed);
-        }
-        None
+        check(self.lacks(folder), CoreError::NoFolder)?;
+        check(!is_unique_name(unique), CoreError::BadUnique)?;
+        check(chunk == 0, CoreError::BadChunk)?;
+        check(body.len() > MOST_BYTES, CoreError::BodyTooLong)?;
+        check(self.is_full(), CoreError::TooManyJobs)?;
+        check(self.is_used(unique), CoreError::NameUsed)
     }
 
-    fn move_refusal(&self, folder: u32, unique: &[u8], to: u32, tries: u64) -> Option<CoreError>
-        ensures { result ≡ submit_refusal self.now (Move folder unique.now to tries) }
+    fn check_move(&self, folder: u32, unique: &[u8], to: u32, tries: u64) -> Result<(), CoreError>
+        ensures { MatchResult result (λ _. submit_refusal self.now (Move folder unique.now to tries) ≡ None)
+            (λ e. submit_refusal self.now (Move folder unique.now to tries) ≡ Some e) }
     {
-        if self.lacks_either(folder, to) {
-            return Some(CoreError::NoFolder);
-        }
-        if to == folder {
-            return Some(CoreError::SameFolder);
-        }
-        if !is_unique_name(unique) {
-            return Some(CoreError::BadUnique);
-        }
-        if is_bad_tries(tries) {
-            return Some(CoreError::BadTries);
-        }
-        if self.is_full() {
-            return Some(CoreError::TooManyJobs);
-        }
-        None
+        check(self.lacks(folder) || self.lacks(to), CoreError::NoFolder)?;
+        check(to == folder, CoreError::SameFolder)?;
+        check(!is_unique_name(unique), CoreError::BadUnique)?;
+        check(is_bad_tries(tries), CoreError::BadTries)?;
+        check(self.is_full(), CoreError::TooManyJobs)
     }
 
-    fn copy_refusal(
+    fn check_copy(
         &self,
         folder: u32,
         unique: &[u8],
         to: u32,
         fresh: &[u8],
         tries: u64,
-    ) -> Option<CoreError>
-        ensures { result ≡ submit_refusal self.now (Copy folder unique.now to fresh.now tries) }
+    ) -> Result<(), CoreError>
+        ensures { MatchResult result (λ _. submit_refusal self.now (Copy folder unique.now to fresh.now tries) ≡ None)
+            (λ e. submit_refusal self.now (Copy folder unique.now to fresh.now tries) ≡ Some e) }
     {
-        if self.lacks_either(folder, to) {
-            return Some(CoreError::NoFolder);
-        }
-        if is_bad_pair(unique, fresh) {
-            return Some(CoreError::BadUnique);
-        }
-        if is_bad_tries(tries) {
-            return Some(CoreError::BadTries);
-        }
-        if self.is_full() {
-            return Some(CoreError::TooManyJobs);
-        }
-        if self.is_used(fresh) {
-            return Some(CoreError::NameUsed);
-        }
-        None
+        check(self.lacks(folder) || self.lacks(to), CoreError::NoFolder)?;
+        check(
+            !is_unique_name(unique) || !is_unique_name(fresh),
+            CoreError::BadUnique,
+        )?;
+        check(is_bad_tries(tries), CoreError::BadTries)?;
+        check(self.is_full(), CoreError::TooManyJobs)?;
+        check(self.is_used(fresh), CoreError::NameUsed)
     }
 
     // The checks of a call that looks for one message and acts on it.
-    fn look_up_refusal(&self, folder: u32, unique: &[u8], tries: u64) -> Option<CoreError>
-        ensures { result ≡ first_met (checks_of_look_up self.now folder unique.now tries) }
+    fn check_look_up(&self, folder: u32, unique: &[u8], tries: u64) -> Result<(), CoreError>
+        ensures { MatchResult result (λ _. first_met (checks_of_look_up self.now folder unique.now tries) ≡ None)
+            (λ e. first_met (checks_of_look_up self.now folder unique.now tries) ≡ Some e) }
     {
-        if self.lacks(folder) {
-            return Some(CoreError::NoFolder);
-        }
-        if !is_unique_name(unique) {
-            return Some(CoreError::BadUnique);
-        }
-        if is_bad_tries(tries) {
-            return Some(CoreError::BadTries);
-        }
-        if self.is_full() {
-            return Some(CoreError::TooManyJobs);
-        }
-        None
+        check(self.lacks(folder), CoreError::NoFolder)?;
+        check(!is_unique_name(unique), CoreError::BadUnique)?;
+        check(is_bad_tries(tries), CoreError::BadTries)?;
+        check(self.is_full(), CoreError::TooManyJobs)
     }
 
-    fn clean_refusal(&self, folder: u32) -> Option<CoreError>
-        ensures { result ≡ submit_refusal self.now (Clean folder) }
+    fn check_clean(&self, folder: u32) -> Result<(), CoreError>
+        ensures { MatchResult result (λ _. submit_refusal self.now (Clean folder) ≡ None) (λ e. submit_refusal self.now (Clean folder) ≡ Some e) }
     {
-        if self.lacks(folder) {
-            return Some(CoreError::NoFolder);
-        }
-        if self.is_full() {
-            return Some(CoreError::TooManyJobs);
-        }
-        None
+        check(self.lacks(folder), CoreError::NoFolder)?;
+        check(self.is_full(), CoreError::TooManyJobs)
     }
 
     // Whether a folder isn't there.
@@ -194,13 +154,6 @@ impl<D: Dirs> World<D> {
         ensures { result ≡ no_folder self.now folder }
     {
         folder >= self.dirs.folders()
-    }
-
-    // Whether one of two folders isn't there.
-    fn lacks_either(&self, folder: u32, to: u32) -> bool
-        ensures { result ≡ (no_folder self.now folder || no_folder self.now to) }
-    {
-        self.lacks(folder) || self.lacks(to)
     }
 
     // Whether no more job may come.

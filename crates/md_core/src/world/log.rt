@@ -1,10 +1,28 @@
-//! The log of steps: events, which of them faulted, and effects.
+//! The log of steps: events, which of them faulted, and effects; and the room that each step and each job takes.
 ghost use Rattle.std.specs.Prelude.{◌≡◌, ◌<◌, ◌++◌, ◌∷◌, [], OnOk, vec_len, vec_capacity};
 ghost use Rattle.md_core.specs.Worlds.{HasRoom};
 
-use crate::world::room::make_room;
 use md_jobs::{Effect, Event};
 use std::alloc::{AllocError, Global};
+
+/// The least room that a growth makes.
+const LEAST_ROOM: usize = 64;
+
+/// The most that a growth makes in place of doubling what there is.
+const MOST_ROOM: usize = 65_536;
+
+/// Makes room for one more. Since each growth moves what is there, few are made: one makes room for seven times as many, and for as many
+/// again where they are more than `MOST_ROOM`.
+pub(crate) fn make_room<T>(items: &mut Vec<T>) -> Result<(), AllocError>
+    ensures items { items.new.items ≡ items.old.items }
+    ensures room { OnOk result (vec_len items.new < vec_capacity items.new) }
+{
+    if items.len() < items.capacity() {
+        return Ok(());
+    }
+    let more = items.len().saturating_mul(7).clamp(LEAST_ROOM, MOST_ROOM);
+    items.reserve(more)
+}
 
 /// The steps so far, and the effects among them.
 #[derive(Drop)]

@@ -1,7 +1,5 @@
 //! A look at all names of directories, before a world begins with them.
-mod unordered;
-
-ghost use Rattle.std.specs.Prelude.{◌≡◌, [], ◌||◌, ◌+◌, max, true, Some, None, IfOk, IfErr, OnOk, MatchResult};
+ghost use Rattle.std.specs.Prelude.{◌≡◌, [], ◌||◌, ◌+◌, max, None, IfOk, IfErr, OnOk, MatchResult};
 ghost use Rattle.std.specs.List.{list_any};
 ghost use Rattle.std.specs.FinMap as finmap;
 ghost use Rattle.md_dirs.specs.Path.{place_index};
@@ -15,11 +13,11 @@ pub(crate) mod names;
 pub(crate) mod quick;
 
 use crate::used::{NameSet, UsedNames};
-use md_dirs::{Dirs, HashSeed, Place, RowRef};
+use crate::world::looking::names::count_all;
+use md_dirs::{Dirs, Place, RowRef};
 use md_jobs::CoreError;
 use md_name::{holds_separator, is_message};
 use std::alloc::{AllocError, Global};
-use unordered::look_unordered;
 
 /// The longest file name of the usual systems, in bytes.
 const MOST_NAME_BYTES: usize = 255;
@@ -43,35 +41,17 @@ struct Seen {
 }
 
 impl Seen {
-    // Nothing was seen, and there is room for so many names, which are hashed by a seed.
-    fn with_room(
-        alloc: Global,
-        seed: HashSeed,
-        messages: usize,
-        tmp: usize,
-    ) -> Result<Seen, AllocError>
+    // Nothing was seen, and there is room for all names of directories.
+    fn for_names<D: Dirs>(alloc: Global, dirs: &D) -> Result<Seen, AllocError>
         ensures { IfOk result (λ seen. (seen.messages ≡ []) × (seen.tmp ≡ []) × (seen.clock ≡ 0)) }
     {
+        let (messages, tmp) = count_all(dirs);
+        let seed = dirs.hash_seed();
         Ok(Seen {
             messages: NameSet::with_room(alloc, seed, messages)?,
             tmp: NameSet::with_room(alloc, seed, tmp)?,
             clock: 0,
         })
-    }
-
-    // Nothing was seen, and there is room for all names of directories.
-    fn for_names<D: Dirs>(alloc: Global, dirs: &D) -> Result<Seen, AllocError>
-        ensures { IfOk result (λ seen. (seen.messages ≡ []) × (seen.tmp ≡ []) × (seen.clock ≡ 0)) }
-    {
-        let mut messages = 0usize;
-        let mut tmp = 0usize;
-        for folder in 0..dirs.folders() {
-            let new = dirs.count(folder, Place::New);
-            let cur = dirs.count(folder, Place::Cur);
-            messages = messages.saturating_add(new).saturating_add(cur);
-            tmp = tmp.saturating_add(dirs.count(folder, Place::Tmp));
-        }
-        Seen::with_room(alloc, dirs.hash_seed(), messages, tmp)
     }
 
     // Looks at one more name, and refuses it where it has a fault. Of the two that call it, one does so at each name of a world that begins.
@@ -161,6 +141,38 @@ fn look_in_order<D: Dirs>(alloc: Global, dirs: &D) -> Result<Seen, CoreError>
         look_in(alloc, dirs, folder, Place::Tmp, &mut seen)?;
         look_in(alloc, dirs, folder, Place::New, &mut seen)?;
         look_in(alloc, dirs, folder, Place::Cur, &mut seen)?;
+    }
+    Ok(seen)
+}
+
+// Looks at all names of a directory.
+fn look_through<D: Dirs>(
+    alloc: Global,
+    dirs: &D,
+    folder: u32,
+    place: Place,
+    seen: &mut Seen,
+) -> Result<(), CoreError>
+    requires { IsLookOf (D.device dirs.now).state (entries_before (D.device dirs.now).state folder (place_index place)) seen.old }
+    ensures { OnOk result (IsLookOf (D.device dirs.now).state (entries_before (D.device dirs.now).state folder (place_index place + 1)) seen.new) }
+{
+    let rows = dirs.rows_unordered(alloc, folder, place)?;
+    for row in 0..rows.len() {
+        seen.add(place, &rows[row])?;
+    }
+    Ok(())
+}
+
+// Looks at all names of directories as they lie, which costs less than in order. It is refused where a name has a fault, by the fault that
+// was met, and when out of memory.
+fn look_unordered<D: Dirs>(alloc: Global, dirs: &D) -> Result<Seen, CoreError>
+    ensures { IfOk result (IsLookOf (D.device dirs.now).state (finmap.entries (D.device dirs.now).state.names)) }
+{
+    let mut seen = Seen::for_names(alloc, dirs)?;
+    for folder in 0..dirs.folders() {
+        look_through(alloc, dirs, folder, Place::Tmp, &mut seen)?;
+        look_through(alloc, dirs, folder, Place::New, &mut seen)?;
+        look_through(alloc, dirs, folder, Place::Cur, &mut seen)?;
     }
     Ok(seen)
 }

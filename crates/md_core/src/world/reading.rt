@@ -1,11 +1,13 @@
-//! The bytes of one message, found by its unique name.
+//! The bytes of one message, found by its unique name, and whether a name is held at all.
 ghost use Rattle.std.specs.Prelude.{◌≡◌, true, false};
+ghost use Rattle.std.specs.List.{list_any};
 ghost use Rattle.std.specs.Option.{option_map};
 ghost use Rattle.std.specs.FinMap as finmap;
 ghost use Rattle.md_dirs.specs.State.{IsSound};
 ghost use Rattle.md_core.specs.Alone.{entry_if, is_in_place};
-ghost use Rattle.md_core.specs.Looking.{is_of};
+ghost use Rattle.md_core.specs.Looking.{is_of, is_tmp_of};
 ghost use Rattle.md_core.specs.Mailbox.{Entry, mailbox_of, is_tmp, HasOnePath};
+ghost use Rattle.md_core.specs.Submitting.{uses};
 
 use md_dirs::{Dirs, Place};
 use md_name::split;
@@ -52,4 +54,25 @@ fn bytes_in<'a, D: Dirs>(dirs: &'a D, folder: u32, place: Place, unique: &[u8]) 
 {
     let row = dirs.look(folder, place, unique)?;
     dirs.read(folder, place, row.name())
+}
+
+// Whether a file in tmp has the name.
+fn is_in_tmp<D: Dirs>(dirs: &D, name: &[u8]) -> bool
+    ensures { result ≡ list_any (λ e. is_tmp_of name.now e.0) (finmap.entries (D.device dirs.now).state.names) }
+{
+    for folder in 0..dirs.folders() {
+        if dirs.read(folder, Place::Tmp, name).is_some() {
+            return true;
+        }
+    }
+    false
+}
+
+/// Whether a message has the unique name, or a file in tmp the name. It takes no memory and makes no directory call: it looks once in each
+/// directory.
+pub(crate) fn is_held<D: Dirs>(dirs: &D, name: &[u8]) -> bool
+    requires { HasOnePath (D.device dirs.now).state }
+    ensures { result ≡ list_any (λ e. uses name.now e.0) (finmap.entries (D.device dirs.now).state.names) }
+{
+    message_bytes(dirs, name).is_some() || is_in_tmp(dirs, name)
 }

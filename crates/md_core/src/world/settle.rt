@@ -1,5 +1,5 @@
 //! Worlds that begin again with their directories.
-ghost use Rattle.std.specs.Prelude.{◌≡◌, ◌<◌, None, IfOk, IfErr, IfSome, IsSome, OnOk, OnErr, length, option_map, position};
+ghost use Rattle.std.specs.Prelude.{◌≡◌, ◌<◌, None, IfOk, IfErr, IfSome, IsSome, OnOk, OnErr, length, position};
 ghost use Rattle.md_core.specs.Interleaving.{Interleaves};
 ghost use Rattle.md_core.specs.Machine.{is_working};
 ghost use Rattle.md_core.specs.Settling.{first_unanswered, settle_error, settled};

@@ -1,12 +1,12 @@
 //! One step of a job.
-ghost use Rattle.std.specs.Prelude.{◌≡◌, ◌≢◌, ◌+◌, ◌<◌, length, MatchResult, Some, None, IfOk, OnOk, OnErr};
+ghost use Rattle.std.specs.Prelude.{◌≡◌, ◌+◌, ◌<◌, length, MatchResult, Some, None, IfOk, OnOk, OnErr};
 ghost use Rattle.md_jobs.specs.Asked.{is_fault};
 ghost use Rattle.md_core.specs.Machine.{occurrence, job_at};
 ghost use Rattle.md_core.specs.Standing.{standings};
-ghost use Rattle.md_core.specs.Runs.{jobs_of, and_event, step_refusal, steps_left, IsRefusal};
+ghost use Rattle.md_core.specs.Runs.{jobs_of, and_event, step_refusal, IsRefusal};
 ghost use Rattle.md_core.specs.Interleaving.{Interleaves};
-ghost use Rattle.md_core.specs.Tracing.{trace_of, GrowsByStep};
-ghost use Rattle.md_core.specs.Stepping.{ShowsStep, Succeeds};
+ghost use Rattle.md_core.specs.Tracing.{trace_of};
+ghost use Rattle.md_core.specs.Stepping.{ShowsStep};
 
 use crate::jobs::job::Job;
 use crate::world::World;
@@ -45,18 +45,12 @@ impl<D: Dirs> World<D> {
     /// It is refused as `NoJob` where there is no such job, and as `Answered` where the job has its answer; then, where a growth is
     /// refused, as `NoMemory`. A refusal took no step, and nothing has changed.
     pub fn step(&mut self, job: JobId, now: u64, own: Option<u64>) -> Result<StepOut, CoreError>
-        // The run goes on by this one event, and by nothing else.
+        // The run goes on by this one event, and by nothing else. `laws` say what follows of that.
         ensures event { IfOk result (λ out. self.new ≡ and_event self.old (occurrence job now own (is_fault out.reply))) }
-        // The trace grows by one step, and that is what is shown.
-        ensures trace { IfOk result (GrowsByStep (trace_of self.old) (trace_of self.new) job) }
         ensures shows { IfOk result (λ out. ShowsStep self.old self.new (occurrence job now own (is_fault out.reply)) out) }
-        ensures success { IfOk result (λ out. Succeeds self.new job out.answer) }
         ensures refused { MatchResult result (λ _. step_refusal (job_at (jobs_of self.old) job) ≡ None)
             (IsRefusal (step_refusal (job_at (jobs_of self.old) job))) }
         ensures unchanged { OnErr result (self.new ≡ self.old) }
-        // Each step leaves its job fewer steps, and the other jobs as they were.
-        ensures nearer { OnOk result (steps_left self.new job < steps_left self.old job) }
-        ensures others { OnOk result ((n : _) → n ≢ job → job_at (jobs_of self.new) n ≡ job_at (jobs_of self.old) n) }
         ensures theorem { OnOk result (Interleaves (trace_of self.new)) }
     {
         let at = unanswered(&self.jobs, job)?;

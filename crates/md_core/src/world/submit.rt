@@ -1,5 +1,5 @@
 //! New jobs.
-ghost use Rattle.std.specs.Prelude.{◌≡◌, ◌+◌, ◌||◌, Some, None, length, vec_len, vec_capacity, MatchResult, IfOk, IfErr, OnOk, OnErr, ◌<◌};
+ghost use Rattle.std.specs.Prelude.{◌≡◌, ◌+◌, ◌||◌, None, length, vec_len, vec_capacity, MatchResult, IfOk, IfErr, OnOk, OnErr, ◌<◌};
 ghost use Rattle.md_core.specs.Runs.{and_call, effects_of, IsRefusal};
 ghost use Rattle.md_core.specs.Submitting.{submit_refusal, makes};
 ghost use Rattle.md_core.specs.Gathering.{KeepsMade, IsSame};
@@ -10,8 +10,8 @@ ghost use Rattle.md_core.specs.Tracing.{trace_of};
 use crate::jobs::job::Job;
 use crate::used::{Used, UsedNames};
 use crate::world::World;
+use crate::world::log::make_room;
 use crate::world::looking::names::{is_for_few, names_with, push_tmp};
-use crate::world::room::make_room;
 use md_dirs::Dirs;
 use md_jobs::{Call, CoreError, JobId};
 use std::alloc::{AllocError, Global};
@@ -31,27 +31,8 @@ fn use_name(used: &mut UsedNames, call: &Call) -> Result<(), AllocError>
     match call {
         Call::Deliver { unique, .. } => used.insert(unique.as_slice())?,
         Call::Copy { fresh, .. } => used.insert(fresh.as_slice())?,
-        Call::Seen { .. } => {}
-        Call::Flag { .. } => {}
-        Call::Move { .. } => {}
-        Call::Expunge { .. } => {}
-        Call::Clean { .. } => {}
+        _ => {}
     }
-    Ok(())
-}
-
-// Uses the name that a call makes, where all names are kept, or gathers them for it.
-fn gather<D: Dirs>(alloc: Global, dirs: &D, used: &mut Used, call: &Call) -> Result<(), AllocError>
-    ensures used { OnOk result (KeepsMade (D.device dirs.now).state call.now used.old used.new) }
-    ensures same { OnErr result (IsSame used.old used.new) }
-{
-    let leaving = match used {
-        Used::All(names) => return use_name(names, call),
-        Used::Leaving(leaving) => leaving,
-    };
-    let mut names = names_with(alloc, dirs, leaving.as_slice())?;
-    use_name(&mut names, call)?;
-    *used = Used::All(names);
     Ok(())
 }
 
@@ -66,19 +47,23 @@ fn keep_names<D: Dirs>(
     ensures used { OnOk result (KeepsMade (D.device dirs.now).state call.now used.old used.new) }
     ensures same { OnErr result (IsSame used.old used.new) }
 {
-    match used {
+    let leaving = match used {
         Used::All(names) => return use_name(names, call),
-        Used::Leaving(leaving) => match call {
-            Call::Seen { .. } | Call::Flag { .. } | Call::Move { .. } => return Ok(()),
-            Call::Clean { folder } => {
-                if is_for_few(dirs, *folder, leaving.len()) {
-                    return push_tmp(alloc, dirs, *folder, leaving);
-                }
+        Used::Leaving(leaving) => leaving,
+    };
+    match call {
+        Call::Seen { .. } | Call::Flag { .. } | Call::Move { .. } => return Ok(()),
+        Call::Clean { folder } => {
+            if is_for_few(dirs, *folder, leaving.len()) {
+                return push_tmp(alloc, dirs, *folder, leaving);
             }
-            Call::Deliver { .. } | Call::Copy { .. } | Call::Expunge { .. } => {}
-        },
+        }
+        Call::Deliver { .. } | Call::Copy { .. } | Call::Expunge { .. } => {}
     }
-    gather(alloc, dirs, used, call)
+    let mut names = names_with(alloc, dirs, leaving.as_slice())?;
+    use_name(&mut names, call)?;
+    *used = Used::All(names);
+    Ok(())
 }
 
 // Makes room for the job, and uses the name that its call makes.
@@ -115,7 +100,7 @@ impl<D: Dirs> World<D> {
         ensures theorem { OnOk result (Interleaves (trace_of self.new)) }
     {
         self.gather_for(&call);
-        if let Some(error) = self.refusal_of(&call) {
+        if let Err(error) = self.check_call(&call) {
             return Err(SubmitRefused { error, call });
         }
         let prepared = prepare(
@@ -133,22 +118,16 @@ impl<D: Dirs> World<D> {
     }
 
     // Gathers all names before a call is checked that makes one, where some may have left: else each of many such calls that are refused would
-    // look through those.
+    // look through those, as they do where memory runs out.
     fn gather_for(&mut self, call: &Call)
-        ensures { self.new ≡ self.old }
-    {
-        if self.used.is_leaving() && matches!(call, Call::Deliver { .. } | Call::Copy { .. }) {
-            self.gather_leaving();
-        }
-    }
-
-    // Gathers all names. Where memory runs out, those that may have left are looked through.
-    fn gather_leaving(&mut self)
         ensures { self.new ≡ self.old }
     {
         let Used::Leaving(leaving) = &self.used else {
             return;
         };
+        if leaving.is_empty() || !matches!(call, Call::Deliver { .. } | Call::Copy { .. }) {
+            return;
+        }
         if let Ok(names) = names_with(self.alloc, &self.dirs, leaving.as_slice()) {
             self.used = Used::All(names);
         }

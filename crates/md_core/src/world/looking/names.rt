@@ -1,7 +1,6 @@
 //! The names that directories use up, gathered without a look for faults.
-ghost use Rattle.std.specs.Prelude.{◌≡◌, ◌+◌, ◌||◌, ◌++◌, ◌∷◌, [], false, is_some, IfOk, OnOk, OnErr, MatchOption};
+ghost use Rattle.std.specs.Prelude.{◌≡◌, ◌+◌, ◌||◌, ◌++◌, ◌∷◌, [], is_some, IfOk, OnOk, OnErr};
 ghost use Rattle.std.specs.FinMap as finmap;
-ghost use Rattle.std.specs.Str.{bytes_eq};
 ghost use Rattle.md_dirs.specs.Path.{path_of, place_index};
 ghost use Rattle.md_dirs.specs.State.{file_at};
 ghost use Rattle.md_dirs.specs.declared.paths.Place.TheVariants.{Tmp as PlaceTmp};
@@ -15,29 +14,18 @@ use md_dirs::{Dirs, NameKey, Place, RowRef};
 use md_name::is_message;
 use std::alloc::{AllocError, Global};
 
-// The name that a file uses up: all of it in tmp, and the unique part of a message.
-fn used_part<'a>(place: Place, row: &RowRef<'a>) -> Option<&'a [u8]>
-    ensures { MatchOption result ((u : _) → uses u (somewhere place row.now) ≡ false)
-        (λ part. (u : _) → uses u (somewhere place row.now) ≡ bytes_eq part.now u) }
-{
-    if matches!(place, Place::Tmp) {
-        return Some(row.name());
-    }
-    let unique = row.unique();
-    if !is_message(row.name(), unique) {
-        return None;
-    }
-    Some(unique)
-}
-
-// Uses the name of one more file.
+// Uses the name of one more file: all of it in tmp, and the unique part of a message.
 fn use_part(used: &mut UsedNames, place: Place, row: &RowRef<'_>) -> Result<(), AllocError>
     ensures { OnOk result ((u : _) → is_among u used.new ≡ (uses u (somewhere place row.now) || is_among u used.old)) }
 {
-    match used_part(place, row) {
-        Some(part) => used.insert(part),
-        None => Ok(()),
+    if matches!(place, Place::Tmp) {
+        return used.insert(row.name());
     }
+    let unique = row.unique();
+    if !is_message(row.name(), unique) {
+        return Ok(());
+    }
+    used.insert(unique)
 }
 
 // Uses the names of a directory, as they lie.
@@ -92,26 +80,25 @@ pub(crate) fn push_tmp<D: Dirs>(
     Ok(())
 }
 
-// How many names directories have, or as many as can be counted.
-fn count_all<D: Dirs>(dirs: &D) -> usize {
-    let mut count = 0usize;
+/// How many names directories have in new and cur, and in tmp, or as many as can be counted.
+pub(super) fn count_all<D: Dirs>(dirs: &D) -> (usize, usize) {
+    let mut messages = 0usize;
+    let mut tmp = 0usize;
     for folder in 0..dirs.folders() {
-        let tmp = dirs.count(folder, Place::Tmp);
         let new = dirs.count(folder, Place::New);
         let cur = dirs.count(folder, Place::Cur);
-        count = count
-            .saturating_add(tmp)
-            .saturating_add(new)
-            .saturating_add(cur);
+        messages = messages.saturating_add(new).saturating_add(cur);
+        tmp = tmp.saturating_add(dirs.count(folder, Place::Tmp));
     }
-    count
+    (messages, tmp)
 }
 
 /// Whether a clean of a folder adds no name to so many, or so few that all are no more than the names of the directories: a folder may be
 /// cleaned again and again.
 pub(crate) fn is_for_few<D: Dirs>(dirs: &D, folder: u32, leaving: usize) -> bool {
     let more = dirs.count(folder, Place::Tmp);
-    more == 0 || leaving.saturating_add(more) <= count_all(dirs)
+    let (messages, tmp) = count_all(dirs);
+    more == 0 || leaving.saturating_add(more) <= messages.saturating_add(tmp)
 }
 
 // The names that directories use up: the unique names of messages, and the names in tmp. It makes no directory call, and is refused only
@@ -119,7 +106,9 @@ pub(crate) fn is_for_few<D: Dirs>(dirs: &D, folder: u32, leaving: usize) -> bool
 fn names_in<D: Dirs>(alloc: Global, dirs: &D) -> Result<UsedNames, AllocError>
     ensures { IfOk result (λ used. AreOf (finmap.entries (D.device dirs.now).state.names) used) }
 {
-    let mut used = UsedNames::with_room(alloc, dirs.hash_seed(), count_all(dirs))?;
+    let (messages, tmp) = count_all(dirs);
+    let count = messages.saturating_add(tmp);
+    let mut used = UsedNames::with_room(alloc, dirs.hash_seed(), count)?;
     for folder in 0..dirs.folders() {
         use_directory(alloc, dirs, folder, Place::Tmp, &mut used)?;
         use_directory(alloc, dirs, folder, Place::New, &mut used)?;

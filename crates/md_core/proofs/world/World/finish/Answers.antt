@@ -1,6 +1,6 @@
 use Rattle.std.proofs.Common.{refl, ◌∙◌}
 use Rattle.md_core.proofs.Values.{Event, is_fault, occurrence}
-use Rattle.md_core.proofs.Calling.Going.{goes-more, run-more, there-more}
+use Rattle.md_core.proofs.Calling.Going.{goes-more, run-more, there-more, less-more, others-more}
 use Rattle.md_core.proofs.world.World.finish.Goals as goal
 
 pub loop-own-preserved : goal.loop-own-preserved
@@ -16,5 +16,11 @@ loop-own-preserved g c =
       run = run-more event r' r'' faulted before.run step.event step.refused;
       there = there-more event r' r'' faulted before.run step.event step.refused;
       goes = goes-more event r r' r'' (occurrence c.args.job c.args.now c.args.own faulted) refl before.goes step.event;
-      others = λ n differ. step.others n differ ∙ before.others n differ;
+      others = λ n differ. others-more event r' r'' faulted before.run step.event step.refused n differ ∙ before.others n differ;
     }
+
+pub loop-own-smaller : goal.loop-own-smaller
+loop-own-smaller g c =
+    let step = c.in_default.ensures in
+    less-more (record { job = c.args.job; now = c.args.now; own = c.args.own }) c.loop-own.self c.step.new.self (is_fault c.in_default.field-0.reply)
+    c.loop-own.invariant.run step.event step.refused

@@ -1,13 +1,10 @@
 use Rattle.std.proofs.Common.{◌≡◌, ◌<◌, ◌++◌, ◌∷◌, [], Some, None, refl, sym, ap, subst, ◌∙◌, length, unwrap_or, slice_set}
 use Rattle.std.proofs.lemmas.Option.{slice_get_read}
-use Rattle.md_core.proofs.Values.{Event, Moment, is_fault, Occurrence, occurrence, job_at, step_of, step_out, IsRun, ShowsStep, Succeeds, trace_of, GrowsByStep, option_to_list, option_map, TakesTurn, run_of}
-use Rattle.md_core.specs.Runs.{Run, machine_of, jobs_of, and_event, step_refusal, steps_left}
+use Rattle.md_core.proofs.Values.{Event, Moment, is_fault, Occurrence, occurrence, job_at, step_of, step_out, IsRun, ShowsStep, option_to_list, option_map, TakesTurn, run_of}
+use Rattle.md_core.specs.Runs.{Run, machine_of, jobs_of, and_event, step_refusal}
 use Rattle.md_core.proofs.Machines.EachTurn.{each-turn}
-use Rattle.md_core.proofs.Theorem.Bounds.{steps_left-less, jobs-same}
-use Rattle.md_core.proofs.Theorem.LawHolds.{run-law}
 use Rattle.md_core.proofs.Traces.All.{interleaves}
-use Rattle.md_core.proofs.Traces.Grown.{grows-by-step}
-use Rattle.md_core.proofs.Worlds.Steps.{shows, succeeds}
+use Rattle.md_core.proofs.Worlds.Steps.{shows}
 use Rattle.md_core.proofs.Worlds.Stepping.{working-at, moment-is, Stepped, steps}
 use Rattle.md_core.proofs.world.World.step.Goals.{After-push}
 use Rattle.md_core.proofs.world.World.step.Goals as goal
@@ -80,37 +77,6 @@ returns-clause-shows g c =
     let old = before g (goal.at.returns-clause-shows g c).After-push in
     subst (λ (x : Run). ShowsStep c.args.self.now x what out) (sym (returns-clause-event g c))
     (shows each-turn c.args.self.now old.0 what old.1.0 out old.1.1)
-
--- what is shown is the step by which the trace grows
-pub returns-clause-trace : goal.returns-clause-trace
-returns-clause-trace g c =
-    let what : Occurrence = occurrence c.args.job c.args.now c.args.own (is_fault c.in_ok-turned.turned.out.reply) in
-    subst (λ (x : Run). GrowsByStep (trace_of c.args.self.now) (trace_of x) c.args.job c.in_ok-turned.turned.out) (sym (returns-clause-event g c))
-    (grows-by-step c.args.self.now what c.in_ok-turned.turned.out
-    (subst (λ (x : Run). ShowsStep c.args.self.now x what c.in_ok-turned.turned.out) (returns-clause-event g c) (returns-clause-shows g c)))
-
-pub returns-clause-success : goal.returns-clause-success
-returns-clause-success g c =
-    let out = c.in_ok-turned.turned.out in
-    let what : Occurrence = occurrence c.args.job c.args.now c.args.own (is_fault out.reply) in
-    let old = before g (goal.at.returns-clause-success g c).After-push in
-    let event = returns-clause-event g c in
-    let later : IsRun (and_event c.args.self.now what) = subst (λ (x : Run). IsRun x) event (invariant_of-self-2 g c).run in
-    subst (λ (x : Run). Succeeds x c.args.job out.answer) (sym event)
-    (succeeds each-turn c.args.self.now old.0 what old.1.0 out old.1.1 (run-law each-turn (and_event c.args.self.now what) later))
-
-pub returns-clause-nearer : goal.returns-clause-nearer
-returns-clause-nearer g c =
-    let what = occurrence c.args.job c.args.now c.args.own (is_fault c.in_ok-turned.turned.out.reply) in
-    let old = before g (goal.at.returns-clause-nearer g c).After-push in
-    subst (λ (a : Run). steps_left a c.args.job < steps_left c.args.self.now c.args.job) (sym (returns-clause-event g c))
-    (steps_left-less c.args.self.now old.0 each-turn what old.1.0)
-
-pub returns-clause-others : goal.returns-clause-others
-returns-clause-others g c =
-    let what = occurrence c.args.job c.args.now c.args.own (is_fault c.in_ok-turned.turned.out.reply) in
-    let old = before g (goal.at.returns-clause-others g c).After-push in
-    λ k differ. ap (λ (a : Run). job_at (jobs_of a) k) (returns-clause-event g c) ∙ jobs-same c.args.self.now old.0 each-turn what old.1.0 k differ
 
 pub returns-clause-theorem : goal.returns-clause-theorem
 returns-clause-theorem g c = interleaves _ (invariant_of-self-2 g c).run

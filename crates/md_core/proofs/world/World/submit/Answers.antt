@@ -10,7 +10,7 @@ invariant_of-self-2 g c =
     let first = g.D.Dirs.device s.image.value in
     let held = g.D.Dirs.device s.dirs in
     let goes : submit_refusal (run_of first s.began s.jobs.items s.log.events.items s.log.marks.items) c.args.call ≡ None =
-    ap (λ (r : Run). submit_refusal r c.args.call) c.self.view_is ∙ sym c.in_default.ensures in
+    ap (λ (r : Run). submit_refusal r c.args.call) c.self.view_is ∙ c.in_default.ensures in
     rw (c.push_reserved.ensures.items, c.new.ensures, c.prepare-prepared.ensures.jobs)
     (submit-kept first s.began s.jobs.items s.log.events.items s.log.marks.items held s.clock s.log.effects.items s.used c.args.call c.self.invariant goes
     c.prepare-prepared.new.used c.in_default-prepared.ensures.used)

@@ -1,5 +1,5 @@
 use Rattle.md_core.specs.Looking.{IsLookOf, entries_before}
-use Rattle.md_core.proofs.world.looking.unordered.look_unordered.Given as goal
+use Rattle.md_core.proofs.world.looking.look_unordered.Given as goal
 
 abbrev pub invariant-loop-folder : goal.invariant-loop-folder
 invariant-loop-folder g l =

@@ -2,7 +2,7 @@ use Rattle.std.proofs.Common.{◌≡◌, subst, arith}
 use Rattle.md_core.specs.Looking.{IsLookOf}
 use Rattle.md_core.proofs.Worlds.Loading.Order.{before-next}
 use Rattle.md_core.proofs.Worlds.Loading.Whole.{look-none, look-all}
-use Rattle.md_core.proofs.world.looking.unordered.look_unordered.Goals as goal
+use Rattle.md_core.proofs.world.looking.look_unordered.Goals as goal
 
 pub loop-folder-init : goal.loop-folder-init
 loop-folder-init g c =

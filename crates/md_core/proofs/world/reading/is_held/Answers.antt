@@ -2,7 +2,7 @@ use Rattle.std.proofs.Common.{◌∙◌}
 use Rattle.md_core.proofs.Values.{entries, list_any, is_message_of, is_tmp_of}
 use Rattle.md_core.proofs.Worlds.Held.{bytes-tell, at-first, at-last}
 use Rattle.md_core.proofs.Worlds.Loading.Whole.{either_use}
-use Rattle.md_core.proofs.world.held.is_held.Goals as goal
+use Rattle.md_core.proofs.world.reading.is_held.Goals as goal
 
 pub returns-then-is_some : goal.returns-then-is_some
 returns-then-is_some g c =

@@ -1,7 +1,7 @@
 use Rattle.std.proofs.Common.{◌≡◌, ◌<◌, ◌≤◌, ◌∙◌, Some, length, slice_get, sym, ap, arith}
 use Rattle.std.proofs.lemmas.Option.{slice_get-get_or}
 use Rattle.md_core.proofs.Worlds.Loading.Unordered.{through-none, through-row, through-all}
-use Rattle.md_core.proofs.world.looking.unordered.look_through.Goals as goal
+use Rattle.md_core.proofs.world.looking.look_through.Goals as goal
 
 pub loop-row-init : goal.loop-row-init
 loop-row-init g c =

@@ -1,6 +1,6 @@
 use Rattle.std.proofs.Common.{◌≡◌, ◌∙◌, sym, subst, arith}
 use Rattle.md_core.proofs.Worlds.Held.{NotInTmp, tmp-more, read-in-tmp, none-read, none-in-tmp}
-use Rattle.md_core.proofs.world.held.is_in_tmp.Goals as goal
+use Rattle.md_core.proofs.world.reading.is_in_tmp.Goals as goal
 
 pub returns-then-is_some : goal.returns-then-is_some
 returns-then-is_some g c =
