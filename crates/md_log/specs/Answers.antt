@@ -14,15 +14,6 @@ use Rattle.md_log.specs.Words.{word_at, end_at}
 use Rattle.md_log.specs.Names.{unique_name_of}
 use Rattle.md_log.specs.Folders.{folder_of}
 
--- an answer of one word
-unfoldable pub bare_of : List ℕ → Result Said LineFault
-bare_of word =
-    if bytes_eq word (codes "delivered") then Ok said.Delivered
-    else (if bytes_eq word (codes "expunged") then Ok said.Expunged
-    else (if bytes_eq word (codes "done") then Ok said.Done
-    else (if bytes_eq word (codes "failed") then Ok said.Failed
-    else (if bytes_eq word (codes "notthere") then Ok said.NotThere else Err BadLine))))
-
 -- the words after what is said of the message: a folder and a unique name
 unfoldable pub about_line : List (List ℕ) → Said → Rest → Result Call LineFault
 about_line folders answer rest = do
@@ -34,28 +25,27 @@ about_line folders answer rest = do
   Ok (call.Answer answer folder unique)
 
 -- the words after `flags`
-unfoldable pub flags_line : List (List ℕ) → Rest → Result Call LineFault
+abbrev pub flags_line : List (List ℕ) → Rest → Result Call LineFault
 flags_line folders rest = do
   word ← word_at rest
   flags ← ok_or (flags_in word.0) BadFlags
   about_line folders (said.Flags flags) word.1
 
 -- the words after `moved`
-unfoldable pub moved_line : List (List ℕ) → Rest → Result Call LineFault
+abbrev pub moved_line : List (List ℕ) → Rest → Result Call LineFault
 moved_line folders rest = do
   word ← word_at rest
   to ← folder_of folders word.0
   about_line folders (said.Moved to) word.1
-
--- the words after an answer of one word
-unfoldable pub bare_line : List (List ℕ) → List ℕ → Rest → Result Call LineFault
-bare_line folders first rest = do
-  answer ← bare_of first
-  about_line folders answer rest
 
 -- the words of `answer` after it
 unfoldable pub answer_line : List (List ℕ) → Rest → Result Call LineFault
 answer_line folders rest = do
   first ← word_at rest
   if bytes_eq first.0 (codes "flags") then flags_line folders first.1
-      else (if bytes_eq first.0 (codes "moved") then moved_line folders first.1 else bare_line folders first.0 first.1)
+      else (if bytes_eq first.0 (codes "moved") then moved_line folders first.1
+      else (if bytes_eq first.0 (codes "delivered") then about_line folders said.Delivered first.1
+      else (if bytes_eq first.0 (codes "expunged") then about_line folders said.Expunged first.1
+      else (if bytes_eq first.0 (codes "done") then about_line folders said.Done first.1
+      else (if bytes_eq first.0 (codes "failed") then about_line folders said.Failed first.1
+      else (if bytes_eq first.0 (codes "notthere") then about_line folders said.NotThere first.1 else Err BadLine))))))

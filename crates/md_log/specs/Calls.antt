@@ -1,5 +1,5 @@
 -- The lines of steps.
-use Rattle.std.specs.Prelude.{ℕ, Bool, true, false, List, Result, Ok, Err, if◌then◌else◌, codes}
+use Rattle.std.specs.Prelude.{ℕ, Bool, true, false, ◌&&◌, List, Result, Ok, Err, if◌then◌else◌, codes}
 use Rattle.std.specs.Str.{bytes_eq}
 use Rattle.md_log.specs.declared.error.LineFault.{LineFault}
 use Rattle.md_log.specs.declared.error.LineFault.TheVariants.{BadLine, BadReply}
@@ -12,9 +12,7 @@ use Rattle.md_log.specs.declared.line.Naming.TheVariants as naming
 use Rattle.md_log.specs.declared.line.Call.{Call}
 use Rattle.md_log.specs.declared.line.Call.TheVariants as call
 use Rattle.md_log.specs.declared.line.Step.{Step}
-use Rattle.md_log.specs.declared.line.calls.Verb.{Verb}
-use Rattle.md_log.specs.declared.line.calls.Verb.TheVariants as verb
-use Rattle.md_text.specs.Bind.{◌>>=◌, require}
+use Rattle.md_text.specs.Bind.{◌>>=◌}
 use Rattle.md_text.specs.Words.{Rest}
 use Rattle.md_log.specs.Words.{word_at, end_at}
 use Rattle.md_log.specs.Names.{names_at}
@@ -23,58 +21,30 @@ use Rattle.md_log.specs.Paths.{directory_of, path_at}
 use Rattle.md_log.specs.Answers.{answer_line}
 use Rattle.md_log.specs.Ticks.{when_of}
 
--- what a step's third word asks for
-unfoldable pub verb_of : List ℕ → Result Verb LineFault
-verb_of word =
-    if bytes_eq word (codes "create") then Ok (verb.At deed.Create)
-    else (if bytes_eq word (codes "write") then Ok (verb.At deed.Write)
-    else (if bytes_eq word (codes "flush") then Ok (verb.At deed.Flush)
-    else (if bytes_eq word (codes "unlink") then Ok (verb.At deed.Unlink)
-    else (if bytes_eq word (codes "link") then Ok (verb.Between naming.Link)
-    else (if bytes_eq word (codes "rename") then Ok (verb.Between naming.Rename)
-    else (if bytes_eq word (codes "list") then Ok verb.List
-    else (if bytes_eq word (codes "answer") then Ok verb.Answer else Err BadLine)))))))
-
-unfoldable pub reply_of : List ℕ → Result Reply LineFault
-reply_of word =
-    if bytes_eq word (codes "ok") then Ok reply.Ok
-    else (if bytes_eq word (codes "more") then Ok reply.More
-    else (if bytes_eq word (codes "exists") then Ok reply.Exists
-    else (if bytes_eq word (codes "notfound") then Ok reply.NotFound
-    else (if bytes_eq word (codes "fault") then Ok reply.Fault else Err BadReply))))
-
--- the next word as a reply
-unfoldable pub reply_at : Rest → Result (Reply × Rest) LineFault
-reply_at rest = do
+-- The next word as the reply of a call that may find that a name exists, or not, and that may go on, or not: EEXIST is the answer of a
+-- create or a link alone, and a reading of a directory alone goes on.
+unfoldable pub reply_at : Bool → Bool → Rest → Result (Reply × Rest) LineFault
+reply_at may_exist may_go_on rest = do
   word ← word_at rest
-  answer ← reply_of word.0
-  Ok (answer, word.1)
+  if bytes_eq word.0 (codes "ok") then Ok (reply.Ok, word.1)
+      else (if bytes_eq word.0 (codes "more") && may_go_on then Ok (reply.More, word.1)
+      else (if bytes_eq word.0 (codes "exists") && may_exist then Ok (reply.Exists, word.1)
+      else (if bytes_eq word.0 (codes "notfound") then Ok (reply.NotFound, word.1)
+      else (if bytes_eq word.0 (codes "fault") then Ok (reply.Fault, word.1) else Err BadReply))))
 
--- what a call on one path may answer: EEXIST is a create's alone
-abbrev pub may_answer_at : Deed → Reply → Bool
-may_answer_at deed.Create reply.Exists = true
-may_answer_at d reply.Exists = false
-may_answer_at d reply.More = false
-may_answer_at d r = true
+abbrev pub is_create : Deed → Bool
+is_create deed.Create = true
+is_create d = false
 
--- what a call on two paths may answer: EEXIST is a link's alone
-abbrev pub may_answer_between : Naming → Reply → Bool
-may_answer_between naming.Link reply.Exists = true
-may_answer_between n reply.Exists = false
-may_answer_between n reply.More = false
-may_answer_between n r = true
-
--- what a reading of a directory may answer
-abbrev pub may_answer_list : Reply → Bool
-may_answer_list reply.Exists = false
-may_answer_list r = true
+abbrev pub is_link : Naming → Bool
+is_link naming.Link = true
+is_link naming.Rename = false
 
 -- the words of a call on one path after it
 unfoldable pub at_line : List (List ℕ) → Deed → Rest → Result Call LineFault
 at_line folders d rest = do
   path ← path_at folders rest
-  answer ← reply_at path.1
-  _ ← require (may_answer_at d answer.0) BadReply
+  answer ← reply_at (is_create d) false path.1
   _ ← end_at answer.1
   Ok (call.At d path.0 answer.0)
 
@@ -83,8 +53,7 @@ unfoldable pub between_line : List (List ℕ) → Naming → Rest → Result Cal
 between_line folders n rest = do
   old ← path_at folders rest
   new ← path_at folders old.1
-  answer ← reply_at new.1
-  _ ← require (may_answer_between n answer.0) BadReply
+  answer ← reply_at (is_link n) false new.1
   _ ← end_at answer.1
   Ok (call.Between n old.0 new.0 answer.0)
 
@@ -95,24 +64,27 @@ list_line folders rest = do
   folder ← folder_of folders first.0
   second ← word_at first.1
   place ← directory_of second.0
-  answer ← reply_at second.1
-  _ ← require (may_answer_list answer.0) BadReply
+  answer ← reply_at false true second.1
   shown ← names_at answer.1
   Ok (call.List folder place answer.0 shown)
 
--- the words after the call
-abbrev pub call_line : List (List ℕ) → Verb → Rest → Result Call LineFault
-call_line folders (verb.At d) rest = at_line folders d rest
-call_line folders (verb.Between n) rest = between_line folders n rest
-call_line folders verb.List rest = list_line folders rest
-call_line folders verb.Answer rest = answer_line folders rest
+-- the words after the actor: a call, its paths and its reply
+unfoldable pub call_line : List (List ℕ) → Rest → Result Call LineFault
+call_line folders rest = do
+  verb ← word_at rest
+  if bytes_eq verb.0 (codes "create") then at_line folders deed.Create verb.1
+      else (if bytes_eq verb.0 (codes "write") then at_line folders deed.Write verb.1
+      else (if bytes_eq verb.0 (codes "flush") then at_line folders deed.Flush verb.1
+      else (if bytes_eq verb.0 (codes "unlink") then at_line folders deed.Unlink verb.1
+      else (if bytes_eq verb.0 (codes "link") then between_line folders naming.Link verb.1
+      else (if bytes_eq verb.0 (codes "rename") then between_line folders naming.Rename verb.1
+      else (if bytes_eq verb.0 (codes "list") then list_line folders verb.1
+      else (if bytes_eq verb.0 (codes "answer") then answer_line folders verb.1 else Err BadLine)))))))
 
 -- a step, whose first word was read
 unfoldable pub step_line : List (List ℕ) → List ℕ → Rest → Result Step LineFault
 step_line folders first rest = do
   when ← when_of first
   actor ← word_at rest
-  third ← word_at actor.1
-  v ← verb_of third.0
-  c ← call_line folders v third.1
-  Ok (record { moment = when.moment; ticks = when.ticks; actor = actor.0; call = c })
+  c ← call_line folders actor.1
+  Ok (record { moment = when.0; ticks = when.1; actor = actor.0; call = c })

@@ -1,18 +1,14 @@
 -- The folders that a log names.
-use Rattle.std.specs.Prelude.{ℕ, List, [], ◌∷◌, ◌++◌, length, nat_lt, position, Option, Result, Ok, is_none, ok_or}
-use Rattle.std.specs.Str.{bytes_eq}
+use Rattle.std.specs.Prelude.{ℕ, List, [], ◌∷◌, ◌++◌, length, nat_lt, Result, Ok, is_none, ok_or}
 use Rattle.md_log.specs.declared.error.LineFault.{LineFault}
 use Rattle.md_log.specs.declared.error.LineFault.TheVariants.{SameFolder, TooManyFolders, UnknownFolder}
 use Rattle.md_text.specs.Bind.{◌>>=◌, require}
+use Rattle.md_text.specs.Folders.{place_of}
 use Rattle.md_log.specs.Names.{name_of}
 
 -- the most folders of a log
 abbrev pub most_folders : ℕ
 most_folders = 1000
-
--- the number of the folder with a name
-unfoldable pub place_of : List (List ℕ) → List ℕ → Option ℕ
-place_of folders name = position (λ other. bytes_eq other name) folders
 
 -- the folders with one more: not one that is there, and not one too many
 unfoldable pub with_folder : List (List ℕ) → List ℕ → Result (List (List ℕ)) LineFault

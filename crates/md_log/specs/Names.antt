@@ -1,6 +1,7 @@
 -- The names of folders, files and messages, which a log writes with escapes.
-use Rattle.std.specs.Prelude.{ℕ, Bool, true, not, ◌&&◌, ◌||◌, ◌==◌, List, [], ◌∷◌, ◌++◌, length, nat_le, nat_lt, Some, None, Result, Ok, Err, ok_or}
-use Rattle.std.specs.List.{list_any, list_all, slice_split}
+use Rattle.std.specs.Prelude.{ℕ, Bool, true, not, ◌&&◌, ◌||◌, ◌==◌, List, [], ◌∷◌, ◌++◌, length, nat_le, nat_lt, codes, Some, None, Result, Ok, Err, ok_or}
+use Rattle.std.specs.List.{list_any, slice_split}
+use Rattle.std.specs.Str.{bytes_eq}
 use Rattle.md_name.specs.Names.{begins_with_dot, is_colon}
 use Rattle.md_log.specs.declared.error.LineFault.{LineFault}
 use Rattle.md_log.specs.declared.error.LineFault.TheVariants.{BadLine, BadEscape, BadName}
@@ -8,17 +9,15 @@ use Rattle.md_text.specs.Bind.{◌>>=◌, require}
 use Rattle.md_text.specs.Words.{Rest, is_space}
 use Rattle.md_text.specs.Escapes.{unescaped}
 
--- `.` and `..`
-abbrev pub is_dots : List ℕ → Bool
-is_dots name = nat_le (length name) 2 && list_all (λ b. b == 46) name
-
 -- POSIX, 3.169: a file's name has neither a slash nor NUL
 abbrev pub is_barred : ℕ → Bool
 is_barred b = b == 47 || b == 0
 
 -- a file can have the name: 1 to 255 bytes, no slash, no NUL, and neither `.` nor `..`
 unfoldable pub is_name : List ℕ → Bool
-is_name name = nat_lt 0 (length name) && nat_le (length name) 255 && not (is_dots name) && not (list_any is_barred name)
+is_name name =
+    nat_lt 0 (length name) && nat_le (length name) 255 && not (bytes_eq name (codes ".") || bytes_eq name (codes ".."))
+    && not (list_any is_barred name)
 
 -- the name that a word spells
 unfoldable pub name_of : List ℕ → Result (List ℕ) LineFault

@@ -8,13 +8,13 @@ use Rattle.md_log.specs.declared.error.LineFault.TheVariants.{BadLine, BadNumber
 unfoldable pub word_at : Rest → Result (List ℕ × Rest) LineFault
 word_at rest = ok_or (next_word rest) BadLine
 
-abbrev pub piece_by : List ℕ × Rest → Result (List ℕ × List ℕ) LineFault
-piece_by (piece, None) = Err BadLine
-piece_by (piece, Some left) = Ok (piece, left)
+abbrev pub parted_by : LineFault → List ℕ × Rest → Result (List ℕ × List ℕ) LineFault
+parted_by fault (front, None) = Err fault
+parted_by fault (front, Some left) = Ok (front, left)
 
--- the piece of a word before its next slash, and what is left of the word
-unfoldable pub piece_at : List ℕ → Result (List ℕ × List ℕ) LineFault
-piece_at word = piece_by (cut_at 47 word)
+-- what is before the first of such bytes, and what is left after it; or this fault, where there is none
+unfoldable pub parted : ℕ → LineFault → List ℕ → Result (List ℕ × List ℕ) LineFault
+parted byte fault text = parted_by fault (cut_at byte text)
 
 -- no word is left
 unfoldable pub end_at : Rest → Result (Unit {0}) LineFault

@@ -12,6 +12,7 @@ mod words;
 
 pub use clause::{CLAUSES, Clause};
 pub use error::{LineFault, LogFault};
-pub use folders::Folders;
+pub use folders::name_folder;
 pub use line::{Call, Deed, Line, Naming, Reply, Said, Step, Ticks, read_line};
+pub use md_text::Folders;
 pub use names::Names;

@@ -3,7 +3,7 @@ ghost use Rattle.std.specs.Prelude.{◌≡◌};
 ghost use Rattle.std.specs.Option.{option_copied};
 ghost use Rattle.md_log.specs.Words.{Gives};
 ghost use Rattle.md_log.specs.Folders.{folder_of};
-ghost use Rattle.md_log.specs.Paths.{directory_of, path_at};
+ghost use Rattle.md_log.specs.Paths.{path_at};
 ghost use Rattle.md_log.specs.Lines.{line_of};
 
 mod answers;
@@ -13,14 +13,13 @@ mod ticks;
 
 use crate::clause::Clause;
 use crate::error::LineFault;
-use crate::folders::Folders;
 use crate::names::{Names, name};
-use crate::words::{piece, word};
+use crate::words::{parted, word};
 use calls::step_line;
 use head::{head_line, head_word};
 use md_dirs::{Bytes, FileName, Path, Place};
 use md_name::Flags;
-use md_text::{Rest, place_from};
+use md_text::{Folders, Rest, place_from};
 use std::alloc::Global;
 pub use ticks::Ticks;
 
@@ -139,33 +138,21 @@ fn folder(alloc: Global, folders: &Folders, word: &[u8]) -> Result<u32, LineFaul
     ensures { Gives (λ n. n) result (folder_of folders.now word.now) }
 {
     let name = name(alloc, word)?;
-    match folders.place(name.as_slice()) {
-        None => Err(LineFault::UnknownFolder),
-        Some(at) => Ok(at),
-    }
-}
-
-/// The directory of a maildir that a word names.
-#[tactic(auto, unfolding(crate::specs::Paths::directory_of))]
-fn place(word: &[u8]) -> Result<Place, LineFault>
-    ensures { result ≡ directory_of word.now }
-{
-    match place_from(word) {
-        None => Err(LineFault::BadPlace),
-        Some(place) => Ok(place),
-    }
+    folders
+        .place(name.as_slice())
+        .ok_or(LineFault::UnknownFolder)
 }
 
 /// The next word as a path, `FOLDER/PLACE/NAME`.
-#[tactic(auto, unfolding(crate::specs::Paths::path_at))]
+#[tactic(auto, unfolding(crate::specs::Paths::path_at, crate::specs::Paths::directory_of))]
 fn path<'a>(alloc: Global, folders: &Folders, rest: Rest<'a>) -> Result<(Path, Rest<'a>), LineFault>
     ensures { Gives (λ read. (read.0, option_copied read.1)) result (path_at folders.now (option_copied rest.entry)) }
 {
     let (word, rest) = word(rest)?;
-    let (first, left) = piece(word)?;
-    let (second, last) = piece(left)?;
+    let (first, left) = parted(word, b'/', LineFault::BadLine)?;
+    let (second, last) = parted(left, b'/', LineFault::BadLine)?;
     let folder = folder(alloc, folders, first)?;
-    let place = place(second)?;
+    let place = place_from(second).ok_or(LineFault::BadPlace)?;
     let name = FileName::of(name(alloc, last)?);
     let path = Path {
         folder,

@@ -1,9 +1,10 @@
 //! The names of folders, files and messages, as words with escapes spell them.
-ghost use Rattle.std.specs.Prelude.{◌≡◌, List, ℕ};
+ghost use Rattle.std.specs.Prelude.{◌≡◌, ◌||◌, List, ℕ, codes};
 ghost use Rattle.std.specs.List.{list_any};
 ghost use Rattle.std.specs.Option.{option_copied};
+ghost use Rattle.std.specs.Str.{bytes_eq};
 ghost use Rattle.md_log.specs.Words.{Gives};
-ghost use Rattle.md_log.specs.Names.{is_dots, is_barred, is_name, name_of, unique_name_of, names_at};
+ghost use Rattle.md_log.specs.Names.{is_barred, is_name, name_of, unique_name_of, names_at};
 
 use crate::error::LineFault;
 use crate::words::word;
@@ -14,12 +15,6 @@ use std::marker::Model;
 
 /// The longest name, in bytes.
 const LONGEST_NAME: usize = 255;
-
-const SLASH: u8 = b'/';
-
-const DOT: u8 = b'.';
-
-const COLON: u8 = b':';
 
 /// Names, in their order. Contracts see the list of them.
 #[derive(Drop)]
@@ -47,9 +42,7 @@ impl Names {
 pub(crate) fn name(alloc: Global, word: &[u8]) -> Result<Bytes, LineFault>
     ensures { Gives (λ name. name) result (name_of word.now) }
 {
-    let Some(bytes) = unescape(alloc, true, word)? else {
-        return Err(LineFault::BadEscape);
-    };
+    let bytes = unescape(alloc, true, word)?.ok_or(LineFault::BadEscape)?;
     if !is_name(&bytes) {
         return Err(LineFault::BadName);
     }
@@ -63,7 +56,7 @@ pub(crate) fn unique(alloc: Global, word: &[u8]) -> Result<Bytes, LineFault>
 {
     let bytes = name(alloc, word)?;
     let name = bytes.as_slice();
-    if name.starts_with(b".") || name.contains(&COLON) {
+    if name.starts_with(b".") || name.contains(&b':') {
         return Err(LineFault::BadName);
     }
     Ok(bytes)
@@ -91,13 +84,13 @@ fn is_name(name: &[u8]) -> bool
 }
 
 fn is_dots(name: &[u8]) -> bool
-    ensures { result ≡ is_dots name.now }
+    ensures { result ≡ (bytes_eq name.now (codes ".") || bytes_eq name.now (codes "..")) }
 {
-    name.len() <= 2 && name.iter().all(|b| *b == DOT)
+    name == b".".as_slice() || name == b"..".as_slice()
 }
 
 fn has_barred(name: &[u8]) -> bool
     ensures { result ≡ list_any is_barred name.now }
 {
-    name.iter().any(|b| *b == SLASH || *b == 0)
+    name.iter().any(|b| *b == b'/' || *b == 0)
 }

@@ -1,17 +1,14 @@
 //! The words of a line, read from left to right, and how a log refuses them.
 ghost use Rattle.std.specs.Prelude.{◌≡◌, ◌<◌, length, IfOk};
 ghost use Rattle.std.specs.Option.{option_copied};
-ghost use Rattle.std.specs.Str.{bytes_eq};
 ghost use Rattle.md_text.specs.Bind.{Reads};
-ghost use Rattle.md_log.specs.Words.{word_at, piece_at, end_at, number_of};
+ghost use Rattle.md_log.specs.Words.{word_at, parted, end_at, number_of};
 
 use crate::error::LineFault;
 use md_text::{Rest, cut};
 
 /// The most digits of a number.
 const MOST_DIGITS: usize = 19;
-
-const SLASH: u8 = b'/';
 
 /// The next word, which isn't empty.
 #[tactic(auto, unfolding(crate::specs::Words::word_at))]
@@ -25,22 +22,15 @@ pub(crate) fn word(rest: Rest<'_>) -> Result<(&[u8], Rest<'_>), LineFault>
     }
 }
 
-/// The piece of a word before its next slash, and what is left of the word.
-#[tactic(auto, unfolding(crate::specs::Words::piece_at))]
-pub(crate) fn piece(word: &[u8]) -> Result<(&[u8], &[u8]), LineFault>
-    ensures { Reads (λ read. (read.0.now, read.1.now)) result (piece_at word.now) }
+/// What is before the first such byte, and what is left after it; or this fault, where there is none.
+#[tactic(auto, unfolding(crate::specs::Words::parted))]
+pub(crate) fn parted(text: &[u8], byte: u8, fault: LineFault) -> Result<(&[u8], &[u8]), LineFault>
+    ensures { Reads (λ read. (read.0.now, read.1.now)) result (parted byte fault text.now) }
 {
-    match cut(word, SLASH) {
-        (piece, Some(left)) => Ok((piece, left)),
-        (_, None) => Err(LineFault::BadLine),
+    match cut(text, byte) {
+        (front, Some(left)) => Ok((front, left)),
+        (_, None) => Err(fault),
     }
-}
-
-/// Whether a word is this one.
-pub(crate) fn equals(word: &[u8], other: &[u8]) -> bool
-    ensures { result ≡ bytes_eq word.now other.now }
-{
-    word == other
 }
 
 /// Refuses a word too many.
@@ -59,8 +49,5 @@ pub(crate) fn end(rest: Rest<'_>) -> Result<(), LineFault>
 pub(crate) fn number(word: &[u8]) -> Result<u64, LineFault>
     ensures { result ≡ number_of word.now }
 {
-    match md_text::number(word, MOST_DIGITS) {
-        None => Err(LineFault::BadNumber),
-        Some(n) => Ok(n),
-    }
+    md_text::number(word, MOST_DIGITS).ok_or(LineFault::BadNumber)
 }

@@ -1,5 +1,4 @@
 pub mod Chunks
-pub mod Places
 pub mod Numbers
 pub mod Decimals
 pub mod Runs

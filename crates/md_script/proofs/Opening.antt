@@ -1,14 +1,8 @@
 -- The store of a session, opened where it was not.
-use Rattle.std.proofs.Common.{◌≡◌, ℕ, List, Option, Some, None, true, false, is_some, length, Result, Ok, refl, sym, ap, subst, ◌∙◌}
+use Rattle.std.proofs.Common.{◌≡◌, ℕ, List, [], ◌∷◌, ◌++◌, Option, Some, None, true, false, is_some, length, Result, Ok, refl, sym, ap, subst, ◌∙◌}
 use Rattle.md_dirs.specs.declared.image.ImageFile.{ImageFile}
 use Rattle.md_core.specs.Runs.{Run}
-use Rattle.md_script.specs.declared.verb.Mode.{Mode}
-use Rattle.md_script.specs.declared.verb.Mode.TheVariants.{Playing, SettingUp}
-use Rattle.md_script.specs.declared.verb.Verb.{Verb}
-use Rattle.md_script.specs.declared.verb.Verb.TheVariants.{File}
-use Rattle.md_script.specs.Verb.{admitted}
-use Rattle.md_script.specs.Held.{files_beside, TakesFiles}
-use Rattle.md_script.specs.Sessions.{Session, ScriptStore, new_store, store_of, with_store, run_over}
+use Rattle.md_script.specs.Sessions.{Session, ScriptStore, files_beside, new_store, store_of, with_store, run_over}
 use Rattle.md_text.specs.Bind.{◌>>=◌}
 use Rattle.md_script.specs.declared.error.PlayKind.{PlayKind}
 
@@ -34,12 +28,10 @@ is_opened s t folders files None r is none count taken all same made after =
     subst (λ (u : Session). Opened u t) is (new_store r, ap (λ (x : Result Run PlayKind). x >>= (λ r. Ok (new_store r))) opens, after)
 is_opened s t folders files (Some other) r is none count taken all same made after = cc
 
--- a line that may name a file is read before the store is open
-pub takes_files : (mode : Mode) (verb : Verb) → verb ≡ File → Ok tt ≡ admitted mode verb → TakesFiles mode
-unfolding admitted
-takes_files mode verb is accepted = by mode (accepted ∙ ap (admitted mode) is)
-  where
-    by : (mode : Mode) → Ok tt ≡ admitted mode File → TakesFiles mode
-    by (Playing true) wrong = cc
-    by (Playing false) is = refl
-    by (SettingUp with_jobs) is = tt
+-- a session with a file more
+pub with_file : (s : Session) (folders : List (List ℕ)) (files : List ImageFile) (store : Option ScriptStore) (file : ImageFile) → held folders files store ≡ s
+    → held folders (files ++ file ∷ []) store ≡ record s { files = files_beside s.store (s.files ++ file ∷ []) }
+with_file s folders files None file is =
+    subst (λ (t : Session). held folders (files ++ file ∷ []) None ≡ record t { files = files_beside t.store (t.files ++ file ∷ []) }) is refl
+with_file s folders files (Some u) file is =
+    subst (λ (t : Session). held folders (files ++ file ∷ []) (Some u) ≡ record t { files = files_beside t.store (t.files ++ file ∷ []) }) is refl

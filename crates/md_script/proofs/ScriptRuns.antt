@@ -22,7 +22,8 @@ use Rattle.md_script.specs.Sessions.{Session, ScriptStore, unless_refused, image
 use Rattle.md_script.specs.Sessions.{steps_of, submit_in, step_in, finish_in, list_in, read_in, on_run, first_of, read_first, read_second, act, made_name, in_store, printing, obey, session_line, new_session, transcript}
 use Rattle.md_head.specs.Summaries.{summary_of}
 use Rattle.md_script.specs.Texts.{summary_text}
-use Rattle.md_script.specs.Step.{line_step, is_passed_over}
+use Rattle.md_text.specs.Words.{is_passed_over}
+use Rattle.md_script.specs.Step.{line_step}
 use Rattle.md_script.specs.Transcript.{go_on, run_from}
 use Rattle.md_head.specs.Header.{lines_of}
 use Rattle.md_script.proofs.Acts.{was_done}

@@ -15,7 +15,7 @@ use Rattle.md_text.specs.Places.{place_named}
 use Rattle.md_script.specs.Words.{word_at, end_at, number_at, body_at}
 use Rattle.md_script.specs.Folders.{can_add}
 use Rattle.md_script.specs.Verb.{verb_of, admitted}
-use Rattle.md_script.specs.Jobs.{folder_at, job_line}
+use Rattle.md_script.specs.Jobs.{folder_at, call_line}
 
 -- A command. Folders are numbered from 0 in the order in which they were named, and jobs from 1.
 pub data Command : Type 0 where
@@ -47,14 +47,21 @@ place_at rest = do
   Ok (place, word.1)
 
 -- the words of `file` after the first
-unfoldable pub file_of : List (List ℕ) → Rest → Result ImageFile PlayKind
-file_of folders rest = do
+unfoldable pub file_line : List (List ℕ) → Rest → Result Command PlayKind
+file_line folders rest = do
   folder ← folder_at folders rest
   place ← place_at folder.1
   name ← word_at place.1
   stamp ← number_at name.1
   body ← body_at stamp.1
-  Ok (record { path = record { folder = folder.0; place = place.0; name = name.0 }; bytes = body; stamp = stamp.0 })
+  Ok (make_file (record { path = record { folder = folder.0; place = place.0; name = name.0 }; bytes = body; stamp = stamp.0 }))
+
+-- the words of `job` after the first
+unfoldable pub submit_line : List (List ℕ) → Rest → Result Command PlayKind
+submit_line folders rest = do
+  word ← word_at rest
+  call ← call_line folders word.0 word.1
+  Ok (submit call)
 
 -- the last word as a number, where it is not left out
 unfoldable pub own_at : Rest → Result (Option ℕ) PlayKind
@@ -72,7 +79,7 @@ event_at rest = do
   own ← own_at now.1
   Ok (record { job = job.0; now = now.0; own = own })
 
--- the words of `list`, `first` and `second` after the first: a folder
+-- the last word, a folder
 unfoldable pub only_folder : List (List ℕ) → Rest → Result ℕ PlayKind
 only_folder folders rest = do
   folder ← folder_at folders rest
@@ -97,51 +104,19 @@ unique_line rest = do
   _ ← end_at host.1
   Ok (make_name sec.0 micro.0 pid.0 count.0 host.0)
 
--- the words of `file` after the first, as a command
-abbrev pub file_line : List (List ℕ) → Rest → Result Command PlayKind
-file_line folders rest = file_of folders rest >>= (λ file. Ok (make_file file))
-
--- the words of `job` after the first, as a command
-abbrev pub submit_line : List (List ℕ) → Rest → Result Command PlayKind
-submit_line folders rest = job_line folders rest >>= (λ call. Ok (submit call))
-
--- the words of `step` after the first
-abbrev pub step_line : Rest → Result Command PlayKind
-step_line rest = event_at rest >>= (λ event. Ok (step event))
-
--- the words of `finish` after the first
-abbrev pub finish_line : Rest → Result Command PlayKind
-finish_line rest = event_at rest >>= (λ event. Ok (finish event))
-
--- the words of `list` after the first
-abbrev pub list_line : List (List ℕ) → Rest → Result Command PlayKind
-list_line folders rest = only_folder folders rest >>= (λ folder. Ok (list folder))
-
--- the words of `first` after the first
-abbrev pub first_line : List (List ℕ) → Rest → Result Command PlayKind
-first_line folders rest = only_folder folders rest >>= (λ folder. Ok (first folder))
-
--- the words of `second` after the first
-abbrev pub second_line : List (List ℕ) → Rest → Result Command PlayKind
-second_line folders rest = only_folder folders rest >>= (λ folder. Ok (second folder))
-
--- the words of `summary` after the first
-abbrev pub summary_line : Rest → Result Command PlayKind
-summary_line rest = body_at rest >>= (λ message. Ok (summarize message))
-
 -- the words of a line after its first, by which command that names
-abbrev pub verb_line : List (List ℕ) → Mode → Verb → Rest → Result Command PlayKind
-verb_line folders mode verb.Folder rest = folder_line folders rest
-verb_line folders mode verb.File rest = file_line folders rest
-verb_line folders mode verb.Job rest = submit_line folders rest
-verb_line folders mode verb.Step rest = step_line rest
-verb_line folders mode verb.Finish rest = finish_line rest
-verb_line folders mode verb.List rest = list_line folders rest
-verb_line folders mode verb.First rest = first_line folders rest
-verb_line folders mode verb.Second rest = second_line folders rest
-verb_line folders mode verb.Read rest = read_line rest
-verb_line folders mode verb.Unique rest = unique_line rest
-verb_line folders mode verb.Summary rest = summary_line rest
+abbrev pub verb_line : List (List ℕ) → Verb → Rest → Result Command PlayKind
+verb_line folders verb.Folder rest = folder_line folders rest
+verb_line folders verb.File rest = file_line folders rest
+verb_line folders verb.Job rest = submit_line folders rest
+verb_line folders verb.Step rest = event_at rest >>= (λ event. Ok (step event))
+verb_line folders verb.Finish rest = event_at rest >>= (λ event. Ok (finish event))
+verb_line folders verb.List rest = only_folder folders rest >>= (λ folder. Ok (list folder))
+verb_line folders verb.First rest = only_folder folders rest >>= (λ folder. Ok (first folder))
+verb_line folders verb.Second rest = only_folder folders rest >>= (λ folder. Ok (second folder))
+verb_line folders verb.Read rest = read_line rest
+verb_line folders verb.Unique rest = unique_line rest
+verb_line folders verb.Summary rest = body_at rest >>= (λ message. Ok (summarize message))
 
 -- the command that a line spells, from the folders that were named before it and what the line is read for
 unfoldable pub command_at : List (List ℕ) → Mode → List ℕ → Result Command PlayKind
@@ -149,4 +124,4 @@ command_at folders mode line = do
   word ← word_at (Some line)
   verb ← ok_or (verb_of word.0) BadCommand
   _ ← admitted mode verb
-  verb_line folders mode verb word.1
+  verb_line folders verb word.1

@@ -1,6 +1,5 @@
 -- The program's commands, as contracts see them.
-use Rattle.std.specs.Prelude.{◌≡◌, ◌≢◌, ◌<◌, ℕ, false, List, [], length, Option, Some, None, Result, Ok, Err}
-use Rattle.md_dirs.specs.declared.image.ImageFile.{ImageFile}
+use Rattle.std.specs.Prelude.{◌≡◌, ◌≢◌, ℕ, List, Result, Ok, Err}
 use Rattle.md_core.specs.Runs.{Run}
 use Rattle.md_view.specs.declared.listing.BegunListing.{BegunListing}
 use Rattle.md_view.specs.Law.{HasBegun}
@@ -8,9 +7,6 @@ use Rattle.md_script.specs.declared.error.PlayKind.{PlayKind}
 use Rattle.md_script.specs.declared.error.PlayKind.TheVariants.{NoMemory}
 use Rattle.md_script.specs.declared.command.Command.{Command as Held}
 use Rattle.md_script.specs.declared.command.Command.TheVariants as held
-use Rattle.md_script.specs.declared.verb.Mode.{Mode}
-use Rattle.md_script.specs.declared.verb.Mode.TheVariants.{Playing, SettingUp}
-use Rattle.md_script.specs.Folders.{most_folders}
 use Rattle.md_name.specs.declared.unique.UniqueParts.{UniqueParts}
 use Rattle.md_script.specs.Sessions.{Session, ScriptStore, First, store_of, with_store, made_name}
 use Rattle.md_script.specs.Commands.{Command, make_folder, make_file, submit, step, finish, list, first, second, read, make_name, summarize}
@@ -33,22 +29,6 @@ command_of (held.Summary message) = summarize message.items
 abbrev pub named_of : UniqueParts → Result (List ℕ) PlayKind
 named_of parts = made_name parts.sec parts.micro parts.pid parts.count parts.host.now
 
--- files can be added to the store
-abbrev pub TakesFiles : Mode → Type 0
-TakesFiles (Playing is_loaded) = is_loaded ≡ false
-TakesFiles (SettingUp with_jobs) = Unit {0}
-
--- a folder that a command makes can be added to these, and a file to the store
-abbrev pub IsFit : List (List ℕ) → Mode → Held → Type 0
-IsFit folders mode (held.Folder name) = length folders < most_folders
-IsFit folders mode (held.File file) = TakesFiles mode
-IsFit folders mode command = Unit {0}
-
--- The files of a session, as it holds them: an open store has none beside it.
-abbrev pub files_beside : Option ScriptStore → List ImageFile → List ImageFile
-files_beside None files = files
-files_beside (Some t) files = []
-
 -- a listing that has begun, as a kept reading
 abbrev pub first_by : BegunListing → First
 first_by l = record { folder = l.folder; moment = l.begun }
@@ -61,8 +41,3 @@ MayWait r r' = (l : BegunListing) → HasBegun r l → HasBegun r' l
 abbrev pub Opens : Session → Session → Result (Unit {0}) PlayKind → Type 0
 Opens old new (Ok done) = (t : ScriptStore) × (store_of old ≡ Ok t) × (new ≡ with_store old t)
 Opens old new (Err kind) = kind ≢ NoMemory → store_of old ≡ Err kind
-
--- A reader that takes no memory returned this command, or this refusal.
-abbrev pub Spells : Result Held PlayKind → Result Command PlayKind → Type 0
-Spells (Ok command) answer = answer ≡ Ok (command_of command)
-Spells (Err kind) answer = answer ≡ Err kind

@@ -7,13 +7,11 @@ use Rattle.md_jobs.specs.declared.call.Call.{Call}
 use Rattle.md_jobs.specs.declared.call.Call.TheVariants as call
 use Rattle.md_script.specs.declared.error.PlayKind.{PlayKind}
 use Rattle.md_script.specs.declared.error.PlayKind.TheVariants.{BadCommand, UnknownFolder, Name}
-use Rattle.md_script.specs.declared.verb.JobVerb.{JobVerb}
-use Rattle.md_script.specs.declared.verb.JobVerb.TheVariants.{Deliver, Seen, Flag, Move, Expunge, Copy, Clean}
 use Rattle.md_text.specs.Bind.{◌>>=◌}
 use Rattle.md_text.specs.Words.{Rest}
 use Rattle.md_text.specs.Flags.{flags_in}
+use Rattle.md_text.specs.Folders.{place_of}
 use Rattle.md_script.specs.Words.{word_at, end_at, number_at, body_at}
-use Rattle.md_script.specs.Folders.{place_of}
 
 -- the next word as the number of a folder
 unfoldable pub folder_at : List (List ℕ) → Rest → Result (ℕ × Rest) PlayKind
@@ -98,30 +96,13 @@ clean_line folders rest = do
   _ ← end_at folder.1
   Ok (call.Clean folder.0)
 
--- the word after `job`, as a call
-unfoldable pub job_verb_of : List ℕ → Option JobVerb
-job_verb_of word =
-    if bytes_eq word (codes "deliver") then Some Deliver
-    else (if bytes_eq word (codes "seen") then Some Seen
-    else (if bytes_eq word (codes "flag") then Some Flag
-    else (if bytes_eq word (codes "move") then Some Move
-    else (if bytes_eq word (codes "expunge") then Some Expunge
-    else (if bytes_eq word (codes "copy") then Some Copy
-    else (if bytes_eq word (codes "clean") then Some Clean else None))))))
-
 -- the words after `job` and the word after it
-abbrev pub call_line : List (List ℕ) → JobVerb → Rest → Result Call PlayKind
-call_line folders Deliver rest = deliver_line folders rest
-call_line folders Seen rest = seen_line folders rest
-call_line folders Flag rest = flag_line folders rest
-call_line folders Move rest = move_line folders rest
-call_line folders Expunge rest = expunge_line folders rest
-call_line folders Copy rest = copy_line folders rest
-call_line folders Clean rest = clean_line folders rest
-
--- the words of `job` after the first
-unfoldable pub job_line : List (List ℕ) → Rest → Result Call PlayKind
-job_line folders rest = do
-  word ← word_at rest
-  verb ← ok_or (job_verb_of word.0) BadCommand
-  call_line folders verb word.1
+abbrev pub call_line : List (List ℕ) → List ℕ → Rest → Result Call PlayKind
+call_line folders verb rest =
+    if bytes_eq verb (codes "deliver") then deliver_line folders rest
+    else (if bytes_eq verb (codes "seen") then seen_line folders rest
+    else (if bytes_eq verb (codes "flag") then flag_line folders rest
+    else (if bytes_eq verb (codes "move") then move_line folders rest
+    else (if bytes_eq verb (codes "expunge") then expunge_line folders rest
+    else (if bytes_eq verb (codes "copy") then copy_line folders rest
+    else (if bytes_eq verb (codes "clean") then clean_line folders rest else Err BadCommand))))))

@@ -47,6 +47,11 @@ pub record Session : Type 0 where
   pub files : List ImageFile
   pub store : Option ScriptStore
 
+-- the files of a session: an open store has none beside it
+abbrev pub files_beside : Option ScriptStore → List ImageFile → List ImageFile
+files_beside None files = files
+files_beside (Some t) files = []
+
 -- refused by the store, or done
 abbrev pub unless_refused : {X : Type 0} → Option CoreError → X → Result X PlayKind
 unless_refused None step_of = Ok step_of
@@ -184,7 +189,7 @@ printing s answer = answer >>= (λ text. Ok (s, text))
 -- store does.
 abbrev pub obey : Session → Command → Result (Session × List ℕ) PlayKind
 obey s (make_folder name) = Ok (record s { folders = s.folders ++ name ∷ [] }, [])
-obey s (make_file file) = Ok (record s { files = s.files ++ file ∷ [] }, [])
+obey s (make_file file) = Ok (record s { files = files_beside s.store (s.files ++ file ∷ []) }, [])
 obey s (make_name sec micro pid count host) = printing s (made_name sec micro pid count host)
 obey s (summarize message) = printing s (Ok (summary_text (summary_of message)))
 obey s other = in_store s (λ t. act t other)

@@ -7,7 +7,7 @@ use Rattle.md_script.specs.declared.error.PlayKind.TheVariants.{NotInThisRun}
 use Rattle.md_script.specs.declared.setup.Setup.{Setup}
 use Rattle.md_script.specs.declared.verb.Mode.TheVariants.{SettingUp}
 use Rattle.md_text.specs.Bind.{◌>>=◌}
-use Rattle.md_script.specs.Folders.{names_of}
+use Rattle.md_text.specs.Folders.{names_of}
 use Rattle.md_script.specs.Commands.{Command, make_folder, make_file, submit, command_at}
 use Rattle.md_script.specs.Transcript.{Transcript, transcript_of}
 

@@ -1,11 +1,8 @@
 -- What one line does.
-use Rattle.std.specs.Prelude.{◌≡◌, ◌≢◌, ℕ, Bool, ◌||◌, ◌==◌, List, [], ◌++◌, length, slice_index, Result, Ok, Err, if◌then◌else◌}
+use Rattle.std.specs.Prelude.{◌≡◌, ◌≢◌, ℕ, List, [], ◌++◌, Result, Ok, Err, if◌then◌else◌}
+use Rattle.md_text.specs.Words.{is_passed_over}
 use Rattle.md_script.specs.declared.error.PlayKind.{PlayKind}
 use Rattle.md_script.specs.declared.error.PlayKind.TheVariants.{NoMemory}
-
--- an empty line, or one that begins with a number sign
-abbrev pub is_passed_over : List ℕ → Bool
-is_passed_over line = length line == 0 || slice_index line 0 == 35
 
 -- a line's session and text, or its refusal, by the step of the lines that are not passed over
 unfoldable pub line_step : {S : Type 0} → (S → List ℕ → Result (S × List ℕ) PlayKind) → S → List ℕ → Result (S × List ℕ) PlayKind

@@ -32,15 +32,6 @@ pub(crate) fn read_behind<S: Source>(source: &mut S, script: &mut Vec<u8>, fille
     ensures read { Reads (S.state source.old) (S.state source.new) (drop filled script.new.items) result }
     ensures counted { (S.state source.new).reads ≤ (S.state source.old).reads + 1 }
 {
-    read_at(source, script.as_mut_slice(), filled)
-}
-
-fn read_at<S: Source>(source: &mut S, script: &mut [u8], filled: usize) -> Got
-    requires { filled + LEAST_ROOM ≤ length script.old }
-    ensures front { take filled script.new ≡ take filled script.old }
-    ensures read { Reads (S.state source.old) (S.state source.new) (drop filled script.new) result }
-    ensures counted { (S.state source.new).reads ≤ (S.state source.old).reads + 1 }
-{
     source.read(&mut script[filled..])
 }
 

@@ -1,26 +1,23 @@
 //! The commands of a script, as its lines spell them.
-ghost use Rattle.std.specs.Prelude.{◌≡◌, IfOk};
+ghost use Rattle.std.specs.Prelude.{◌≡◌};
+ghost use Rattle.std.specs.Option.{option_copied};
+ghost use Rattle.md_text.specs.Bind.{Reads};
 ghost use Rattle.md_script.specs.Words.{Gives};
-ghost use Rattle.md_script.specs.Held.{command_of, IsFit};
-ghost use Rattle.md_script.specs.Commands.{command_at};
+ghost use Rattle.md_script.specs.Held.{command_of};
+ghost use Rattle.md_script.specs.Commands.{command_at, own_at, event_at, only_folder, read_line, unique_line};
 
 mod image;
 mod jobs;
-mod others;
 
 use crate::error::PlayKind;
-use crate::folders::Folders;
 use crate::verb::{Mode, Verb, admit, verb_from};
-use crate::words::word;
-use image::{file_line, folder_line};
+use crate::words::{body, end, number_word, word};
+use image::{file_line, folder, folder_line};
 use jobs::submit_line;
 use md_core::{Call, Event};
 use md_dirs::ImageFile;
 use md_name::UniqueParts;
-use others::{
-    finish_line, first_line, list_line, read_line, second_line, step_line, summary_line,
-    unique_line,
-};
+use md_text::{Folders, Rest};
 use std::alloc::Global;
 
 /// A command, as the words of a line spell it. Folders are numbered from 0 in the order in which they were named, and
@@ -62,26 +59,93 @@ pub fn read_command<'a>(
     mode: Mode,
     line: &'a [u8],
 ) -> Result<Command<'a>, PlayKind>
-    ensures command { Gives command_of result (command_at folders.now mode line.now) }
-    ensures fit { IfOk result (IsFit folders.now mode) }
+    ensures { Gives command_of result (command_at folders.now mode line.now) }
 {
     let (first, rest) = word(Some(line))?;
-    let Some(verb) = verb_from(first) else {
-        return Err(PlayKind::BadCommand);
-    };
+    let verb = verb_from(first).ok_or(PlayKind::BadCommand)?;
     admit(mode, verb)?;
-    // Each command is made in a function of its own, so that no line makes room for what the others would hold.
+    // Large commands are made in functions of their own, so that no line makes room for what the others would hold.
     match verb {
         Verb::Folder => folder_line(folders, rest),
         Verb::File => file_line(alloc, folders, rest),
         Verb::Job => submit_line(alloc, folders, rest),
-        Verb::Step => step_line(rest),
-        Verb::Finish => finish_line(rest),
-        Verb::List => list_line(folders, rest),
-        Verb::First => first_line(folders, rest),
-        Verb::Second => second_line(folders, rest),
+        Verb::Step => Ok(Command::Step(event(rest)?)),
+        Verb::Finish => Ok(Command::Finish(event(rest)?)),
+        Verb::List => Ok(Command::List {
+            folder: only_folder(folders, rest)?,
+        }),
+        Verb::First => Ok(Command::First {
+            folder: only_folder(folders, rest)?,
+        }),
+        Verb::Second => Ok(Command::Second {
+            folder: only_folder(folders, rest)?,
+        }),
         Verb::Read => read_line(rest),
         Verb::Unique => unique_line(rest),
-        Verb::Summary => summary_line(alloc, rest),
+        Verb::Summary => Ok(Command::Summary {
+            message: body(alloc, rest)?,
+        }),
     }
+}
+
+/// The last words: a job, a moment, and perhaps the job's own moment.
+#[tactic(auto, unfolding(crate::specs::Commands::event_at))]
+fn event(rest: Rest<'_>) -> Result<Event, PlayKind>
+    ensures { result ≡ event_at (option_copied rest.entry) }
+{
+    let (job, rest) = number_word(rest)?;
+    let (now, rest) = number_word(rest)?;
+    let own = own(rest)?;
+    Ok(Event { job, now, own })
+}
+
+/// The last word as a number, where it is not left out.
+#[tactic(auto, unfolding(crate::specs::Commands::own_at))]
+fn own(rest: Rest<'_>) -> Result<Option<u64>, PlayKind>
+    ensures { result ≡ own_at (option_copied rest.entry) }
+{
+    if rest.is_none() {
+        return Ok(None);
+    }
+    let (own, rest) = number_word(rest)?;
+    end(rest)?;
+    Ok(Some(own))
+}
+
+/// The last word, a folder, by its number.
+#[tactic(auto, unfolding(crate::specs::Commands::only_folder))]
+fn only_folder(folders: &Folders, rest: Rest<'_>) -> Result<u32, PlayKind>
+    ensures { result ≡ only_folder folders.now (option_copied rest.entry) }
+{
+    let (folder, rest) = folder(folders, rest)?;
+    end(rest)?;
+    Ok(folder)
+}
+
+#[tactic(auto, unfolding(crate::specs::Commands::read_line))]
+fn read_line(rest: Rest<'_>) -> Result<Command<'_>, PlayKind>
+    ensures { Reads command_of result (read_line (option_copied rest.entry)) }
+{
+    let (unique, rest) = word(rest)?;
+    end(rest)?;
+    Ok(Command::Read { unique })
+}
+
+#[tactic(auto, unfolding(crate::specs::Commands::unique_line))]
+fn unique_line(rest: Rest<'_>) -> Result<Command<'_>, PlayKind>
+    ensures { Reads command_of result (unique_line (option_copied rest.entry)) }
+{
+    let (sec, rest) = number_word(rest)?;
+    let (micro, rest) = number_word(rest)?;
+    let (pid, rest) = number_word(rest)?;
+    let (count, rest) = number_word(rest)?;
+    let (host, rest) = word(rest)?;
+    end(rest)?;
+    Ok(Command::Unique(UniqueParts {
+        sec,
+        micro,
+        pid,
+        count,
+        host,
+    }))
 }

@@ -4,7 +4,8 @@ ghost use Rattle.std.specs.Fmt.{decimal};
 ghost use Rattle.md_text.specs.Places.{place_text};
 ghost use Rattle.md_script.specs.Texts.{letters_text, line_end, entry_line};
 
-use crate::flags::written_flags;
+use crate::digits::MOST_DIGITS;
+use crate::flags::{NO_FLAGS, written_flags};
 use itoa::write_digits;
 use md_dirs::Place;
 use md_view::EntryRef;
@@ -14,9 +15,6 @@ const USUAL_UNIQUE: usize = 128;
 
 /// The most letters of the flags of a usual line.
 const USUAL_LETTERS: usize = 7;
-
-/// The most digits of a number of 64 bits.
-const MOST_DIGITS: usize = 20;
 
 /// The most bytes of a usual line.
 pub(crate) const LONGEST_USUAL: usize = 4 + USUAL_UNIQUE + 1 + USUAL_LETTERS + 1 + MOST_DIGITS + 1;
@@ -51,15 +49,11 @@ fn lay_place(buffer: &mut [u8], at: usize, place: Place) -> usize
     ensures length { length buffer.new ≡ length buffer.old }
 {
     let word = match place {
-        Place::Tmp => *b"tmp ",
-        Place::New => *b"new ",
-        Place::Cur => *b"cur ",
+        Place::Tmp => b"tmp ",
+        Place::New => b"new ",
+        Place::Cur => b"cur ",
     };
-    buffer[at] = word[0];
-    buffer[at + 1] = word[1];
-    buffer[at + 2] = word[2];
-    buffer[at + 3] = word[3];
-    at + 4
+    lay(buffer, at, word)
 }
 
 /// Lays letters, and a hyphen where there are none, between two spaces.
@@ -72,29 +66,14 @@ fn lay_letters(buffer: &mut [u8], at: usize, letters: &[u8]) -> usize
 {
     // One letter is its byte, with no call to copy it.
     match letters {
-        [] => lay_spaced(buffer, at, b'-'),
-        [letter] => lay_spaced(buffer, at, *letter),
+        [] => lay(buffer, at, &[b' ', NO_FLAGS, b' ']),
+        [letter] => lay(buffer, at, &[b' ', *letter, b' ']),
         _ => {
-            buffer[at] = b' ';
-            let end = lay(buffer, at + 1, letters);
-            buffer[end] = b' ';
-            end + 1
+            let at = lay(buffer, at, b" ");
+            let at = lay(buffer, at, letters);
+            lay(buffer, at, b" ")
         }
     }
-}
-
-/// Lays a byte between two spaces.
-#[inline(always)]
-fn lay_spaced(buffer: &mut [u8], at: usize, byte: u8) -> usize
-    requires { at + 3 ≤ length buffer.old }
-    ensures after { result ≡ at + 3 }
-    ensures front { take result buffer.new ≡ take at buffer.old ++ codes " " ++ byte ∷ codes " " }
-    ensures length { length buffer.new ≡ length buffer.old }
-{
-    buffer[at] = b' ';
-    buffer[at + 1] = byte;
-    buffer[at + 2] = b' ';
-    at + 3
 }
 
 /// Lays a number in decimal, and a line feed.
@@ -108,25 +87,12 @@ fn lay_size(buffer: &mut [u8], at: usize, size: u64) -> usize
 {
     // One digit is its byte, with no digits to count.
     if size < 10 {
-        return lay_two(buffer, at, b'0' + size as u8, b'\n');
+        return lay(buffer, at, &[b'0' + size as u8, b'\n']);
     }
     // The digits come in front of the line feed.
     let mut digits = [b'\n'; MOST_DIGITS + 1];
     let start = write_digits(size, &mut digits, MOST_DIGITS);
     lay(buffer, at, &digits[start..])
-}
-
-/// Lays two bytes.
-#[inline(always)]
-fn lay_two(buffer: &mut [u8], at: usize, first: u8, second: u8) -> usize
-    requires { at + 2 ≤ length buffer.old }
-    ensures after { result ≡ at + 2 }
-    ensures front { take result buffer.new ≡ take at buffer.old ++ first ∷ second ∷ [] }
-    ensures length { length buffer.new ≡ length buffer.old }
-{
-    buffer[at] = first;
-    buffer[at + 1] = second;
-    at + 2
 }
 
 /// Lays bytes, and gives the position after them.

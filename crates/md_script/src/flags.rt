@@ -1,41 +1,36 @@
 //! The flags of a message, as they print.
-ghost use Rattle.std.specs.Prelude.{ℕ, suc, ◌≡◌, ◌<◌, ◌++◌, length, position, slice_index, IfSome, IsTrue, OnOk, codes};
+ghost use Rattle.std.specs.Prelude.{ℕ, suc, ◌≡◌, ◌<◌, ◌++◌, length, position, slice_index, IfSome, IsTrue, OnOk};
 ghost use mathlib.Core.List.{IsPrefix};
 ghost use Rattle.std.specs.List.{list_all};
 ghost use Rattle.md_name.specs.Letters.{is_letter, spelling};
 ghost use Rattle.md_name.specs.Names.{is_colon, split_of, flags_of, info_by};
 ghost use Rattle.md_script.specs.Texts.{letters_text, flags_by, flags_text};
 
-use crate::few::{push_few, push_spaced_byte};
 use md_name::{Flags, Info, split};
 use std::alloc::AllocError;
 
 /// What flags print as where there are none.
-const NO_FLAGS: u8 = b'-';
+pub(crate) const NO_FLAGS: u8 = b'-';
 
 /// What other info than flags prints as.
 const OTHER_INFO: u8 = b'?';
 
-/// Appends the flags of a message by its name, whose first colon is there, or that its info is other than flags: between two spaces, which
-/// are appended with them at once where there is one flag or none.
+/// Appends the flags of a message by its name, whose first colon is there, or that its info is other than flags.
 #[tactic(auto, using(md_text::proofs::Growing::grown, md_text::proofs::Growing::grown_if, md_text::proofs::Growing::grown_on))]
-pub(crate) fn push_spaced_flags(
+pub(crate) fn push_flags(
     out: &mut Vec<u8>,
     name: &[u8],
     colon: Option<usize>,
 ) -> Result<(), AllocError>
     requires colon { colon ≡ position is_colon name.now }
     requires within { IfSome colon (λ at. at < length name.now) }
-    ensures text { OnOk result (out.new.items ≡ out.old.items ++ codes " " ++ flags_text (flags_by (split_of name.now)) ++ codes " ") }
+    ensures text { OnOk result (out.new.items ≡ out.old.items ++ flags_text (flags_by (split_of name.now))) }
     ensures kept { IsPrefix out.old.items out.new.items }
 {
     match written_flags(name, colon) {
-        Some(letters) => push_spaced(out, letters),
-        None => {
-            out.push(b' ')?;
-            push_read_flags(out, name)?;
-            Ok(out.push(b' ')?)
-        }
+        Some([]) => Ok(out.push(NO_FLAGS)?),
+        Some(letters) => out.extend_from_slice(letters),
+        None => push_read_flags(out, name),
     }
 }
 
@@ -68,23 +63,6 @@ pub(crate) fn push_letters(out: &mut Vec<u8>, flags: Flags) -> Result<(), AllocE
         out.push(NO_FLAGS)?;
     }
     Ok(())
-}
-
-/// Appends letters, and a hyphen where there are none, between two spaces.
-#[tactic(auto, using(md_text::proofs::Growing::grown, md_text::proofs::Growing::grown_if, md_text::proofs::Growing::grown_on))]
-fn push_spaced(out: &mut Vec<u8>, letters: &[u8]) -> Result<(), AllocError>
-    ensures text { OnOk result (out.new.items ≡ out.old.items ++ codes " " ++ letters_text letters.now ++ codes " ") }
-    ensures kept { IsPrefix out.old.items out.new.items }
-{
-    match letters {
-        [] => push_spaced_byte(out, NO_FLAGS),
-        [letter] => push_spaced_byte(out, *letter),
-        _ => {
-            out.push(b' ')?;
-            push_few(out, letters)?;
-            Ok(out.push(b' ')?)
-        }
-    }
 }
 
 /// The letters of a message's flags where they stand in its name as they print: in ASCII order, each once. They nearly always do, and

@@ -30,7 +30,7 @@ pub(crate) fn run_source<R: Source, S: Session>(
     let mut incoming = Incoming::new(alloc);
     for _ in 0..MOST_READS {
         if incoming.read_on(source, session)? {
-            return Ok(incoming.into_progress());
+            return Ok(incoming.progress);
         }
     }
     Err(PlayKind::TooManyReads)
@@ -56,18 +56,6 @@ impl Incoming {
             given: 0,
             progress: Progress::new(alloc),
         }
-    }
-
-    fn into_progress(self) -> Progress
-        ensures { result ≡ self.progress }
-    {
-        let Incoming {
-            room: _,
-            filled: _,
-            given: _,
-            progress,
-        } = self;
-        progress
     }
 
     // Reads once, and runs the lines that are whole then. It is true where the script has ended, and its last line was run too.

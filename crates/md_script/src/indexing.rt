@@ -1,7 +1,7 @@
 //! The index of a script: the lines of each message, with the summary of its header. Its parts are for whoever makes the summaries side by
 //! side.
 ghost use Rattle.std.specs.Prelude.{◌≡◌, ◌≢◌, ◌⊎◌, ◌++◌, ℕ, List, Ok, Err, IfOk, OnOk, MatchResult};
-ghost use Rattle.md_script.specs.Folders.{names_of};
+ghost use Rattle.md_text.specs.Folders.{names_of};
 ghost use Rattle.md_script.specs.Kinds.{at_no_line};
 ghost use Rattle.md_script.specs.declared.error.PlayKind.TheVariants.{NoMemory};
 ghost use Rattle.md_script.specs.Indexing.{index_of_script, index_over, of_folders};

@@ -1,14 +1,12 @@
 //! The lines of listings.
-ghost use Rattle.std.specs.Prelude.{◌≡◌, ◌≤◌, ◌++◌, IfOk, OnOk, take, length, codes};
+ghost use Rattle.std.specs.Prelude.{◌≡◌, ◌≤◌, ◌++◌, IfOk, OnOk, take, length};
 ghost use mathlib.Core.List.{IsPrefix};
-ghost use Rattle.md_text.specs.Places.{place_text};
 ghost use Rattle.md_script.specs.Texts.{entry_line, entries_text};
 
-use crate::digits::push_number_and;
+use crate::digits::push_line;
 use crate::entry_line::{LONGEST_USUAL, lay_line};
-use crate::few::push_word;
-use crate::flags::push_spaced_flags;
-use md_dirs::Place;
+use crate::flags::push_flags;
+use md_text::place_text;
 use md_view::{Entry, EntryRef, Listing};
 use std::alloc::AllocError;
 
@@ -83,21 +81,11 @@ fn push_entry(out: &mut Vec<u8>, entry: &EntryRef<'_>) -> Result<(), AllocError>
     ensures text { OnOk result (out.new.items ≡ out.old.items ++ entry_line entry.now) }
     ensures kept { IsPrefix out.old.items out.new.items }
 {
-    push_place(out, entry.place())?;
+    out.extend_from_slice(place_text(entry.place()))?;
+    out.push(b' ')?;
     out.extend_from_slice(entry.unique())?;
-    push_spaced_flags(out, entry.name(), entry.colon())?;
-    push_number_and(out, entry.size(), b'\n')
-}
-
-/// Appends the name of a directory of a maildir, and a space.
-#[tactic(auto, using(md_text::proofs::Growing::grown, md_text::proofs::Growing::grown_if, md_text::proofs::Growing::grown_on))]
-fn push_place(out: &mut Vec<u8>, place: Place) -> Result<(), AllocError>
-    ensures text { OnOk result (out.new.items ≡ out.old.items ++ place_text place ++ codes " ") }
-    ensures kept { IsPrefix out.old.items out.new.items }
-{
-    match place {
-        Place::Tmp => push_word(out, b't', b'm', b'p'),
-        Place::New => push_word(out, b'n', b'e', b'w'),
-        Place::Cur => push_word(out, b'c', b'u', b'r'),
-    }
+    out.push(b' ')?;
+    push_flags(out, entry.name(), entry.colon())?;
+    out.push(b' ')?;
+    push_line(out, entry.size(), *b"00000000000000000000\n")
 }

@@ -31,7 +31,7 @@ pub fn play<S: Source, T: Sink>(
     ensures play { Plays (S.state source.old) (S.state source.new) (T.state sink.old) (T.state sink.new) result }
     ensures reads { (S.state source.new).reads ≤ (S.state source.old).reads + most_reads }
 {
-    let mut session = unobserved(alloc, HashSeed::fixed());
+    let mut session = StoreSession::new(alloc, HashSeed::fixed(), Unobserved);
     play_in(&mut session, alloc, source, sink)
 }
 
@@ -47,17 +47,10 @@ pub fn play_last<S: Source, T: Sink>(
     ensures play { Plays (S.state source.old) (S.state source.new) (T.state sink.old) (T.state sink.new) result }
     ensures reads { (S.state source.new).reads ≤ (S.state source.old).reads + most_reads }
 {
-    let mut session = unobserved(alloc, seed);
+    let mut session = StoreSession::new(alloc, seed, Unobserved);
     let played = play_in(&mut session, alloc, source, sink);
     forget(session);
     played
-}
-
-// A session that nobody observes.
-fn unobserved<D: Storage>(alloc: Global, seed: HashSeed) -> StoreSession<D, Unobserved>
-    ensures { result ≡ new_session }
-{
-    StoreSession::new(alloc, seed, Unobserved)
 }
 
 fn play_in<S: Source, T: Sink>(
@@ -70,7 +63,7 @@ fn play_in<S: Source, T: Sink>(
     ensures play { Plays (S.state source.old) (S.state source.new) (T.state sink.old) (T.state sink.new) result }
     ensures reads { (S.state source.new).reads ≤ (S.state source.old).reads + most_reads }
 {
-    let printed = run_source(alloc, source, session)?.into_printed();
+    let printed = run_source(alloc, source, session)?.printed;
     write_whole(sink, &printed.text)?;
     match printed.refusal {
         None => Ok(()),
@@ -91,7 +84,7 @@ pub fn observe<D: Storage, O: Observer<D>, S: Source>(
     ensures reads { (S.state source.new).reads ≤ (S.state source.old).reads + most_reads }
 {
     let mut session = StoreSession::<D, O>::new(alloc, seed, observer);
-    let printed = run_source(alloc, source, &mut session)?.into_printed();
+    let printed = run_source(alloc, source, &mut session)?.printed;
     Ok((printed, session.into_observer()))
 }
 
@@ -112,7 +105,8 @@ pub fn transcript_over<D: Storage>(
 ) -> Result<Printed, AllocError>
     ensures { IfOk result (Prints (transcript script.now)) }
 {
-    run(alloc, &mut unobserved::<D>(alloc, seed), script)
+    let mut session = StoreSession::<D, Unobserved>::new(alloc, seed, Unobserved);
+    run(alloc, &mut session, script)
 }
 
 /// Writes a text whole. Refused `WriteFault`, after which nothing is known of what was written, or `NoMemory`, after which nothing was.

@@ -9,10 +9,8 @@ ghost use Rattle.md_script.specs.Progress.{GoesOn, IsFresh};
 use crate::error::{PlayError, PlayKind};
 use crate::session::Session;
 use md_head::cut_line;
+use md_text::is_passed_over;
 use std::alloc::{AllocError, Global};
-
-/// The byte that a line begins with that is passed over.
-const COMMENT: u8 = b'#';
 
 /// How many bytes there is room for at least when lines begin to print.
 const ROOM: usize = 4_096;
@@ -24,11 +22,11 @@ pub struct Printed {
     pub refusal: Option<PlayError>,
 }
 
-/// How far the run of a script has come: how many lines were passed, and what they printed.
+/// How far the run of a script has come: how many lines were passed, those that are passed over included, and what they printed.
 #[derive(Drop)]
 pub(crate) struct Progress {
-    passed: u64,
-    printed: Printed,
+    pub(crate) passed: u64,
+    pub(crate) printed: Printed,
 }
 
 impl Progress {
@@ -50,21 +48,6 @@ impl Progress {
         ensures { result ≡ is_some self.now.printed.refusal }
     {
         self.printed.refusal.is_some()
-    }
-
-    /// How many lines were passed, those that are passed over included.
-    pub(crate) fn passed(&self) -> u64
-        ensures { result ≡ self.now.passed }
-    {
-        self.passed
-    }
-
-    /// What was printed so far.
-    pub(crate) fn into_printed(self) -> Printed
-        ensures { result ≡ self.printed }
-    {
-        let Progress { passed: _, printed } = self;
-        printed
     }
 
     /// Runs the next lines, up to the first that is refused; none where one was refused before. The only error is out of memory.
@@ -111,7 +94,7 @@ pub(crate) fn run<S: Session>(
 {
     let mut progress = Progress::new(alloc);
     progress.run_lines(session, script)?;
-    Ok(progress.into_printed())
+    Ok(progress.printed)
 }
 
 /// Runs a line, unless it is passed over.
@@ -124,7 +107,7 @@ fn run_line<S: Session>(
 ) -> Result<(), PlayKind>
     ensures { Steps (line_step S.step session.old line.now) session.new out.old.items out.new.items result }
 {
-    if line.is_empty() || line[0] == COMMENT {
+    if is_passed_over(line) {
         return Ok(());
     }
     session.run_line(number, line, out)

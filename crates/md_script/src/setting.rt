@@ -1,18 +1,17 @@
 //! The session of a script that sets a store up.
 ghost use Rattle.std.specs.Prelude.{◌≡◌};
-ghost use Rattle.md_script.specs.declared.verb.Mode.TheVariants.{SettingUp};
 ghost use Rattle.md_script.specs.Step.{Steps};
-ghost use Rattle.md_script.specs.Held.{command_of, IsFit};
+ghost use Rattle.md_script.specs.Held.{command_of};
 ghost use Rattle.md_script.specs.Setups.{IsSetup, set_up, setting_line, new_setting};
 
 use crate::command::{Command, read_command};
 use crate::error::PlayKind;
-use crate::folders::Folders;
 use crate::session::Session;
 use crate::setup::Setup;
 use crate::verb::Mode;
 use md_core::Call;
 use md_dirs::ImageFile;
+use md_text::Folders;
 use std::alloc::Global;
 use std::marker::Model;
 
@@ -56,23 +55,15 @@ impl Setting {
     pub(crate) fn into_setup(self) -> Setup
         ensures { IsSetup self result }
     {
-        let Setting {
-            alloc: _,
-            with_jobs: _,
-            folders,
-            files,
-            calls,
-        } = self;
         Setup {
-            folders: folders.into_names(),
-            files,
-            calls,
+            folders: self.folders.into_names(),
+            files: self.files,
+            calls: self.calls,
         }
     }
 
     // Does what a command says.
     fn obey(&mut self, command: Command<'_>, out: &mut Vec<u8>) -> Result<(), PlayKind>
-        requires { IsFit self.old.folders (SettingUp self.old.with_jobs) command }
         ensures { Steps (set_up self.old (command_of command.entry)) self.new out.old.items out.new.items result }
     {
         match command {

@@ -61,11 +61,10 @@ pub fn read_image<S: Source>(
 {
     let mut setting = Setting::new(alloc, jobs_allowed);
     let progress = run_source(alloc, source, &mut setting)?;
-    let lines = progress.passed();
-    match progress.into_printed().refusal {
+    match progress.printed.refusal {
         None => Ok(ReadSetup {
             setup: setting.into_setup(),
-            lines,
+            lines: progress.passed,
         }),
         Some(refused) => Err(refused),
     }

@@ -51,8 +51,7 @@ impl InMemory {
     pub fn into_text(self) -> Vec<u8>
         ensures { result ≡ self.text }
     {
-        let InMemory { text, refusals: _ } = self;
-        text
+        self.text
     }
 }
 
@@ -93,8 +92,7 @@ impl<W: Write> Writer<W> {
     pub fn into_inner(self) -> W
         ensures { result ≡ self.inner }
     {
-        let Writer { inner, failures: _ } = self;
-        inner
+        self.inner
     }
 }
 

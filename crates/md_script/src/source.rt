@@ -63,13 +63,7 @@ impl<R: Read> Reader<R> {
     pub fn into_inner(self) -> R
         ensures { result ≡ self.inner }
     {
-        let Reader {
-            inner,
-            reads: _,
-            ends: _,
-            failures: _,
-        } = self;
-        inner
+        self.inner
     }
 }
 

@@ -1,10 +1,9 @@
 //! The session of a store: the folders and files that a script names, and the store over them once a command needs it.
-ghost use Rattle.std.specs.Prelude.{◌≡◌, ◌++◌, ◌∷◌, [], true, false, OnOk, Ok, is_some};
+ghost use Rattle.std.specs.Prelude.{◌≡◌, ◌++◌, ◌∷◌, [], false, OnOk, Ok, is_some};
 ghost use Rattle.md_head.specs.Summaries.{summary_of};
-ghost use Rattle.md_script.specs.declared.verb.Mode.TheVariants.{Playing};
 ghost use Rattle.md_script.specs.Step.{Steps};
-ghost use Rattle.md_script.specs.Held.{command_of, named_of, IsFit, Opens};
-ghost use Rattle.md_script.specs.Sessions.{act, obey, session_line, new_session, in_store, printing};
+ghost use Rattle.md_script.specs.Held.{command_of, named_of, Opens};
+ghost use Rattle.md_script.specs.Sessions.{act, files_beside, obey, session_line, new_session, in_store, printing};
 ghost use Rattle.md_script.specs.Texts.{summary_text};
 
 mod acts;
@@ -15,7 +14,6 @@ mod printing;
 
 use crate::command::{Command, read_command};
 use crate::error::PlayKind;
-use crate::folders::Folders;
 use crate::observer::Observer;
 use crate::session::Session;
 use crate::storage::Storage;
@@ -24,6 +22,7 @@ use crate::verb::Mode;
 use md_dirs::{HashSeed, ImageFile};
 use md_head::summary;
 use md_name::{UniqueParts, make_unique};
+use md_text::Folders;
 use open::OpenStore;
 pub use opening::open_store;
 pub use printing::push_answer_line;
@@ -47,8 +46,7 @@ impl<D: Storage, O: Observer<D>> Model for StoreSession<D, O> {
     ghost use Rattle.std.specs.Coded.{codes};
     ghost use Rattle.md_dirs.specs.State.{state_code};
     ghost use Rattle.md_name.specs.contracts.flags.Flags as flags;
-    ghost use Rattle.md_script.specs.Held.{files_beside};
-    ghost use Rattle.md_script.specs.Sessions.{Session};
+    ghost use Rattle.md_script.specs.Sessions.{Session, files_beside};
 
     ghost Value = { Session };
 
@@ -74,21 +72,12 @@ impl<D: Storage, O: Observer<D>> StoreSession<D, O> {
 
     /// The observer. The store is left as it is, and not given back: the process is to end soon, and the system takes its memory at once.
     pub(crate) fn into_observer(self) -> O {
-        let StoreSession {
-            alloc: _,
-            seed: _,
-            folders: _,
-            files: _,
-            store,
-            observer,
-        } = self;
-        mem::forget(store);
-        observer
+        mem::forget(self.store);
+        self.observer
     }
 
     // Does what a command says.
     fn obey(&mut self, command: Command<'_>, out: &mut Vec<u8>) -> Result<(), PlayKind>
-        requires { IsFit self.old.folders (Playing (is_some self.old.store)) command }
         ensures { Steps (obey self.old (command_of command.entry)) self.new out.old.items out.new.items result }
     {
         match command {
@@ -108,8 +97,7 @@ impl<D: Storage, O: Observer<D>> StoreSession<D, O> {
 impl<D: Storage, O: Observer<D>> StoreSession<D, O> {
     // Adds a file that the store will begin with.
     fn add_file(&mut self, file: ImageFile) -> Result<(), AllocError>
-        requires { is_some self.old.store ≡ false }
-        ensures { OnOk result (self.new ≡ record self.old { files = self.old.files ++ file ∷ [] }) }
+        ensures { OnOk result (self.new ≡ record self.old { files = files_beside self.old.store (self.old.files ++ file ∷ []) }) }
     {
         Ok(self.files.push(file)?)
     }

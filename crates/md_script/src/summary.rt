@@ -28,9 +28,7 @@ pub fn push_summary(out: &mut Vec<u8>, summary: &Summary) -> Result<(), AllocErr
 {
     push_values(out, summary)?;
     push_seconds(out, summary.seconds)?;
-    out.extend_from_slice(b"end")?;
-    out.push(b'\n')?;
-    Ok(())
+    out.extend_from_slice(b"end\n")
 }
 
 #[tactic(auto, using(md_text::proofs::Growing::grown, md_text::proofs::Growing::grown_if, md_text::proofs::Growing::grown_on))]

@@ -1,7 +1,6 @@
 //! The first words of a command, and what a line is read for.
 ghost use Rattle.std.specs.Prelude.{◌≡◌};
 ghost use Rattle.md_script.specs.Verb.{verb_of, admitted};
-ghost use Rattle.md_script.specs.Jobs.{job_verb_of};
 
 use crate::error::PlayKind;
 
@@ -30,18 +29,6 @@ pub(crate) enum Verb {
     Summary,
 }
 
-/// The word after `job`.
-#[derive(Clone, Copy)]
-pub(crate) enum JobVerb {
-    Deliver,
-    Seen,
-    Flag,
-    Move,
-    Expunge,
-    Copy,
-    Clean,
-}
-
 #[tactic(auto, unfolding(crate::specs::Verb::verb_of))]
 pub(crate) fn verb_from(word: &[u8]) -> Option<Verb>
     ensures { result ≡ verb_of word.now }
@@ -68,29 +55,6 @@ pub(crate) fn verb_from(word: &[u8]) -> Option<Verb>
         Some(Verb::Unique)
     } else if word == b"summary".as_slice() {
         Some(Verb::Summary)
-    } else {
-        None
-    }
-}
-
-#[tactic(auto, unfolding(crate::specs::Jobs::job_verb_of))]
-pub(crate) fn job_verb_from(word: &[u8]) -> Option<JobVerb>
-    ensures { result ≡ job_verb_of word.now }
-{
-    if word == b"deliver".as_slice() {
-        Some(JobVerb::Deliver)
-    } else if word == b"seen".as_slice() {
-        Some(JobVerb::Seen)
-    } else if word == b"flag".as_slice() {
-        Some(JobVerb::Flag)
-    } else if word == b"move".as_slice() {
-        Some(JobVerb::Move)
-    } else if word == b"expunge".as_slice() {
-        Some(JobVerb::Expunge)
-    } else if word == b"copy".as_slice() {
-        Some(JobVerb::Copy)
-    } else if word == b"clean".as_slice() {
-        Some(JobVerb::Clean)
     } else {
         None
     }

@@ -54,10 +54,8 @@ fn any_number(rest: Rest<'_>) -> Result<(u64, Rest<'_>), PlayKind>
     ensures { Reads (λ read. (read.0, option_copied read.1)) result (number_at (option_copied rest.entry)) }
 {
     let (word, rest) = word(rest)?;
-    match number(word, MOST_DIGITS) {
-        None => Err(PlayKind::BadNumber),
-        Some(n) => Ok((n, rest)),
-    }
+    let n = number(word, MOST_DIGITS).ok_or(PlayKind::BadNumber)?;
+    Ok((n, rest))
 }
 
 /// The rest of the line, which may hold spaces, with its escapes read; empty where it is left out.
@@ -68,8 +66,6 @@ pub(crate) fn body(alloc: Global, rest: Rest<'_>) -> Result<Vec<u8>, PlayKind>
     let Some(text) = rest else {
         return Ok(Vec::new(alloc));
     };
-    match unescape(alloc, false, text)? {
-        None => Err(PlayKind::BadEscape),
-        Some(bytes) => Ok(bytes),
-    }
+    let bytes = unescape(alloc, false, text)?.ok_or(PlayKind::BadEscape)?;
+    Ok(bytes)
 }

@@ -5,3 +5,4 @@ pub mod Growing
 pub mod Printing
 pub mod Escaping
 pub mod Digits
+pub mod Numbered

@@ -3,3 +3,4 @@ pub mod Words
 pub mod Escapes
 pub mod Places
 pub mod Flags
+pub mod Folders

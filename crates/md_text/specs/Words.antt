@@ -1,5 +1,6 @@
--- The words of a line, read from left to right. Where one is missing, or isn't what is asked for, None is read: each language has refusals of its own.
-use Rattle.std.specs.Prelude.{◌≡◌, ℕ, Bool, ◌&&◌, ◌^◌, List, [], ◌∷◌, length, nat_le, nat_lt, Option, Some, None, if◌then◌else◌}
+-- The words of a line, read from left to right. Where one is missing, or isn't what is asked for, None is read: each language has refusals
+-- of its own.
+use Rattle.std.specs.Prelude.{◌≡◌, ℕ, Bool, true, ◌&&◌, ◌==◌, ◌^◌, List, [], ◌∷◌, length, nat_le, nat_lt, Option, Some, None, if◌then◌else◌}
 use Rattle.std.specs.List.{list_any, before_first, after_first}
 use Rattle.std.specs.Str.{all_ascii_digits}
 use Rattle.std.specs.Str.Parse.{digits_value}
@@ -8,6 +9,11 @@ use Rattle.memchr.specs.Find.{is_byte}
 -- what is left of a line: None at its end, and else what follows a space
 abbrev pub Rest : Type 0
 Rest = Option (List ℕ)
+
+-- an empty line and one that begins with `#` say nothing
+abbrev pub is_passed_over : List ℕ → Bool
+is_passed_over [] = true
+is_passed_over (b ∷ line) = b == 35
 
 -- the byte of a space
 abbrev pub is_space : ℕ → Bool

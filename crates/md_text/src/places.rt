@@ -9,14 +9,11 @@ use md_dirs::Place;
 pub fn place_from(word: &[u8]) -> Option<Place>
     ensures { result ≡ place_named word.now }
 {
-    if word == b"tmp".as_slice() {
-        Some(Place::Tmp)
-    } else if word == b"new".as_slice() {
-        Some(Place::New)
-    } else if word == b"cur".as_slice() {
-        Some(Place::Cur)
-    } else {
-        None
+    match word {
+        b"tmp" => Some(Place::Tmp),
+        b"new" => Some(Place::New),
+        b"cur" => Some(Place::Cur),
+        _ => None,
     }
 }
 

@@ -1,7 +1,7 @@
 //! The words of a line, read from left to right.
 ghost use Rattle.std.specs.Prelude.{◌≡◌, ◌<◌, length, IfSome, option_map};
 ghost use Rattle.std.specs.Option.{option_copied};
-ghost use Rattle.md_text.specs.Words.{cut_at, next_word};
+ghost use Rattle.md_text.specs.Words.{cut_at, is_passed_over, next_word};
 ghost use Rattle.memchr.specs.Find.{IsFirstByte, is_byte};
 
 use md_name::blocks::{Wanted, first};
@@ -26,6 +26,13 @@ impl Wanted for Space {
     fn marks(block: u8x16) -> u64 {
         block.simd_eq(u8x16::splat(b' ')).to_bitmask()
     }
+}
+
+/// Whether a line says nothing: it is empty, or a comment.
+pub fn is_passed_over(line: &[u8]) -> bool
+    ensures { result ≡ is_passed_over line.now }
+{
+    matches!(line, [] | [b'#', ..])
 }
 
 /// The next word, which isn't empty. Exactly one space parts two words.

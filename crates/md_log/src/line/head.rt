@@ -8,10 +8,9 @@ ghost use Rattle.md_log.specs.Heads.{head_of, head_line, folder_line, allowed_by
 use super::{Line, path};
 use crate::clause::Clause;
 use crate::error::LineFault;
-use crate::folders::Folders;
 use crate::names::name;
-use crate::words::{end, equals, number, word};
-use md_text::Rest;
+use crate::words::{end, number, word};
+use md_text::{Folders, Rest};
 use std::alloc::Global;
 
 /// The first word of such a line.
@@ -27,13 +26,13 @@ pub(super) enum HeadWord {
 pub(super) fn head_word(word: &[u8]) -> Option<HeadWord>
     ensures { result ≡ head_of word.now }
 {
-    if equals(word, b"folder") {
+    if word == b"folder".as_slice() {
         Some(HeadWord::Folder)
-    } else if equals(word, b"allow") {
+    } else if word == b"allow".as_slice() {
         Some(HeadWord::Allow)
-    } else if equals(word, b"file") {
+    } else if word == b"file".as_slice() {
         Some(HeadWord::File)
-    } else if equals(word, b"also") {
+    } else if word == b"also".as_slice() {
         Some(HeadWord::Also)
     } else {
         None

@@ -1,55 +1,63 @@
 //! The words of the calls that become jobs.
-ghost use Rattle.std.specs.Prelude.{◌≡◌, IfOk, ok_or};
+ghost use Rattle.std.specs.Prelude.{◌≡◌, ok_or};
 ghost use Rattle.std.specs.Option.{option_copied};
 ghost use Rattle.md_name.specs.declared.error.NameError.TheVariants.{BadFlag};
 ghost use Rattle.md_text.specs.Flags.{flags_in};
 ghost use Rattle.md_script.specs.declared.error.PlayKind.TheVariants.{Name};
 ghost use Rattle.md_script.specs.Words.{Gives};
-ghost use Rattle.md_script.specs.Held.{IsFit, command_of};
+ghost use Rattle.md_script.specs.Held.{command_of};
 ghost use Rattle.md_script.specs.Commands.{submit_line};
-ghost use Rattle.md_script.specs.Jobs.{tries_at, deliver_line, seen_line, flag_line, move_line, expunge_line, copy_line, clean_line, job_line};
+ghost use Rattle.md_script.specs.Jobs.{call_line, tries_at, deliver_line, seen_line, flag_line, move_line, expunge_line, copy_line, clean_line};
 
 use crate::command::Command;
 use crate::command::image::folder;
 use crate::error::PlayKind;
-use crate::folders::Folders;
-use crate::verb::{JobVerb, job_verb_from};
 use crate::words::{body, end, number_word, word};
 use md_core::Call;
 use md_dirs::Bytes;
 use md_name::{Flags, NameError};
-use md_text::{Rest, flags_from};
+use md_text::{Folders, Rest, flags_from};
 use std::alloc::Global;
 
 /// The words of `job` after the first.
+#[tactic(auto, unfolding(crate::specs::Commands::submit_line))]
 pub(super) fn submit_line<'a>(
     alloc: Global,
     folders: &Folders,
     rest: Rest<'a>,
 ) -> Result<Command<'a>, PlayKind>
-    ensures command { Gives command_of result (submit_line folders.now (option_copied rest.entry)) }
-    ensures fit { (mode : _) → IfOk result (IsFit folders.now mode) }
+    ensures { Gives command_of result (submit_line folders.now (option_copied rest.entry)) }
 {
-    let call = job_line(alloc, folders, rest)?;
+    let (word, rest) = word(rest)?;
+    let call = call_line(alloc, folders, word, rest)?;
     Ok(Command::Submit(call))
 }
 
-#[tactic(auto, unfolding(crate::specs::Jobs::job_line))]
-fn job_line(alloc: Global, folders: &Folders, rest: Rest<'_>) -> Result<Call, PlayKind>
-    ensures { Gives (λ call. call) result (job_line folders.now (option_copied rest.entry)) }
+// The words of a call after the first.
+fn call_line(
+    alloc: Global,
+    folders: &Folders,
+    word: &[u8],
+    rest: Rest<'_>,
+) -> Result<Call, PlayKind>
+    ensures { Gives (λ call. call) result (call_line folders.now word.now (option_copied rest.entry)) }
 {
-    let (word, rest) = word(rest)?;
-    let Some(verb) = job_verb_from(word) else {
-        return Err(PlayKind::BadCommand);
-    };
-    match verb {
-        JobVerb::Deliver => deliver_line(alloc, folders, rest),
-        JobVerb::Seen => seen_line(alloc, folders, rest),
-        JobVerb::Flag => flag_line(alloc, folders, rest),
-        JobVerb::Move => move_line(alloc, folders, rest),
-        JobVerb::Expunge => expunge_line(alloc, folders, rest),
-        JobVerb::Copy => copy_line(alloc, folders, rest),
-        JobVerb::Clean => clean_line(folders, rest),
+    if word == b"deliver".as_slice() {
+        deliver_line(alloc, folders, rest)
+    } else if word == b"seen".as_slice() {
+        seen_line(alloc, folders, rest)
+    } else if word == b"flag".as_slice() {
+        flag_line(alloc, folders, rest)
+    } else if word == b"move".as_slice() {
+        move_line(alloc, folders, rest)
+    } else if word == b"expunge".as_slice() {
+        expunge_line(alloc, folders, rest)
+    } else if word == b"copy".as_slice() {
+        copy_line(alloc, folders, rest)
+    } else if word == b"clean".as_slice() {
+        clean_line(folders, rest)
+    } else {
+        Err(PlayKind::BadCommand)
     }
 }
 

@@ -30,10 +30,7 @@ pub fn list_folder<'a, D: Dirs>(
 pub fn bytes_of<'a, D: Dirs>(world: &'a World<D>, unique: &[u8]) -> &'a [u8]
     ensures { result.now ≡ bytes_in (mailbox_of (dirs_of world.now)) unique.now }
 {
-    match world.read(unique) {
-        Some(bytes) => bytes,
-        None => b"",
-    }
+    world.read(unique).unwrap_or(b"")
 }
 
 /// Appends the lines of a message: `FOLDER UNIQUE`, the lines of its summary (RFC 5322), and `end`. Where it is refused, memory was, and

@@ -40,22 +40,11 @@ fn push_messages<D: Dirs>(
     ensures { OnOk result (out.new.items ≡ out.old.items ++ flat_map (message_text (mailbox_of (dirs_of world.now)) name.now) entries.now) }
 {
     for entry in entries {
-        push_message(alloc, world, name, entry, out)?;
+        let unique = entry.unique();
+        let made = summary(alloc, bytes_of(world, unique)).map_err(
+            |HeadError::NoMemory| AllocError,
+        )?;
+        push_indexed(out, name, unique, &made)?;
     }
     Ok(())
-}
-
-// Appends a message of a folder of this name.
-fn push_message<D: Dirs>(
-    alloc: Global,
-    world: &World<D>,
-    name: &[u8],
-    entry: &EntryRef<'_>,
-    out: &mut Vec<u8>,
-) -> Result<(), AllocError>
-    ensures { OnOk result (out.new.items ≡ out.old.items ++ message_text (mailbox_of (dirs_of world.now)) name.now entry.now) }
-{
-    let unique = entry.unique();
-    let made = summary(alloc, bytes_of(world, unique)).map_err(|HeadError::NoMemory| AllocError)?;
-    push_indexed(out, name, unique, &made)
 }

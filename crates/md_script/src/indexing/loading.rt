@@ -1,6 +1,6 @@
 //! The store that a script sets up, and the line that it is refused at.
 ghost use Rattle.std.specs.Prelude.{◌≡◌, ◌≢◌, ◌⊎◌, length};
-ghost use Rattle.md_script.specs.Folders.{names_of};
+ghost use Rattle.md_text.specs.Folders.{names_of};
 ghost use Rattle.md_script.specs.Kinds.{at_no_line};
 ghost use Rattle.md_script.specs.Sessions.{run_over};
 ghost use Rattle.md_script.specs.Words.{Gives};

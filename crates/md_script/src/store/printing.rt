@@ -3,8 +3,7 @@ ghost use Rattle.std.specs.Prelude.{◌≡◌, ◌++◌, Some, OnOk, codes, deci
 ghost use mathlib.Core.List.{IsPrefix};
 ghost use Rattle.md_script.specs.Texts.{line_end, job_text, call_text, reply_text, answer_text, answer_line, out_text, bytes_text};
 
-use crate::digits::{push_line, push_number, push_number_and};
-use crate::few::push_word;
+use crate::digits::push_line;
 use crate::flags::push_letters;
 use md_core::{Answer, DirCall, DirReply, JobId, StepOut};
 use md_dirs::Place;
@@ -15,8 +14,8 @@ use std::alloc::AllocError;
 pub(super) fn push_job(out: &mut Vec<u8>, job: JobId) -> Result<(), AllocError>
     ensures { OnOk result (out.new.items ≡ out.old.items ++ job_text job) }
 {
-    push_word(out, b'j', b'o', b'b')?;
-    push_number_and(out, job, b'\n')
+    out.extend_from_slice(b"job ")?;
+    push_line(out, job, *b"00000000000000000000\n")
 }
 
 /// `J CALL REPLY`, for a step of the job, and `J answer A` where it answers the job.
@@ -43,7 +42,7 @@ fn push_call_line(
     if let DirReply::Ok = reply {
         return push_done(out, job, call);
     }
-    push_number_and(out, job, b' ')?;
+    push_line(out, job, *b"00000000000000000000 ")?;
     push_call(out, call)?;
     out.extend_from_slice(reply_end(reply))
 }
@@ -96,7 +95,7 @@ pub fn push_answer_line(out: &mut Vec<u8>, job: JobId, answer: Answer) -> Result
         Answer::Expunged => push_line(out, job, *b"00000000000000000000 answer expunged\n"),
         Answer::Cleaned(count) => {
             push_line(out, job, *b"00000000000000000000 answer cleaned ")?;
-            push_number_and(out, count, b'\n')
+            push_line(out, count, *b"00000000000000000000\n")
         }
         Answer::NotThere => push_line(out, job, *b"00000000000000000000 answer notthere\n"),
         Answer::NotTrashed => push_line(out, job, *b"00000000000000000000 answer nottrashed\n"),
@@ -109,34 +108,36 @@ pub fn push_answer_line(out: &mut Vec<u8>, job: JobId, answer: Answer) -> Result
     }
 }
 
+/// `CALL` and a space.
 fn push_call(out: &mut Vec<u8>, call: DirCall) -> Result<(), AllocError>
-    ensures { OnOk result (out.new.items ≡ out.old.items ++ call_text call) }
+    ensures { OnOk result (out.new.items ≡ out.old.items ++ call_text call ++ codes " ") }
 {
     match call {
-        DirCall::Create => out.extend_from_slice(b"create"),
+        DirCall::Create => out.extend_from_slice(b"create "),
         DirCall::Append(count) => {
             out.extend_from_slice(b"append ")?;
-            push_number(out, count)
+            push_line(out, count, *b"00000000000000000000 ")
         }
-        DirCall::Link => out.extend_from_slice(b"link"),
-        DirCall::Rename => out.extend_from_slice(b"rename"),
-        DirCall::Unlink => out.extend_from_slice(b"unlink"),
+        DirCall::Link => out.extend_from_slice(b"link "),
+        DirCall::Rename => out.extend_from_slice(b"rename "),
+        DirCall::Unlink => out.extend_from_slice(b"unlink "),
         DirCall::List(place) => {
             out.extend_from_slice(b"list ")?;
-            out.extend_from_slice(place_text(place))
+            out.extend_from_slice(place_text(place))?;
+            Ok(out.push(b' ')?)
         }
     }
 }
 
-/// The end of a step's line: a space, the reply and a line's end.
+/// `REPLY`, the end of a step's line.
 fn reply_end(reply: DirReply) -> &'static [u8]
-    ensures { result.now ≡ codes " " ++ reply_text reply ++ line_end }
+    ensures { result.now ≡ reply_text reply ++ line_end }
 {
     match reply {
-        DirReply::Ok => b" ok\n",
-        DirReply::Exists => b" exists\n",
-        DirReply::NotFound => b" notfound\n",
-        DirReply::Fault => b" fault\n",
+        DirReply::Ok => b"ok\n",
+        DirReply::Exists => b"exists\n",
+        DirReply::NotFound => b"notfound\n",
+        DirReply::Fault => b"fault\n",
     }
 }
 
@@ -145,9 +146,7 @@ pub(super) fn push_bytes(out: &mut Vec<u8>, bytes: Option<&[u8]>) -> Result<(), 
     ensures { OnOk result (out.new.items ≡ out.old.items ++ bytes_text (option_map (λ b. b.now) bytes.entry)) }
 {
     let Some(bytes) = bytes else {
-        out.extend_from_slice(b"none")?;
-        out.push(b'\n')?;
-        return Ok(());
+        return out.extend_from_slice(b"none\n");
     };
     out.extend_from_slice(b"bytes=")?;
     push_escaped(out, bytes)?;

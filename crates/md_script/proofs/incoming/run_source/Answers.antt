@@ -10,7 +10,7 @@ returns-in_err-read_on-clause-runs g c =
 pub returns-then-branch-clause-runs : goal.returns-then-branch-clause-runs
 returns-then-branch-clause-runs g c =
     let reached = c.in_ok-read_on.ensures.on _ _ c.loop.invariant.underway in
-    rw c.into_progress.ensures (rw c.if-branch.true at reached)
+    rw c.if-branch.true at reached
 
 pub loop-preserved : goal.loop-preserved
 loop-preserved g c =

@@ -1,5 +1,5 @@
 use Rattle.std.proofs.Common.{◌≡◌, ◌++◌, ℕ, List, OnOk, length}
-use Rattle.md_script.specs.Folders.{names_of}
+use Rattle.md_text.specs.Folders.{names_of}
 use Rattle.md_script.specs.Indexing.{of_folders}
 use Rattle.md_script.proofs.indexing.folders_text.Given as goal
 

@@ -1,6 +1,5 @@
-use Rattle.std.proofs.Common.{◌≡◌, ◌+◌, [], length, ◌∙◌, ap, sym, subst, append-nil}
+use Rattle.std.proofs.Common.{◌≡◌, ◌+◌, [], length, ◌∙◌, ap, append-nil}
 use Rattle.md_head.specs.Header.{lines_of}
-use Rattle.md_script.specs.Printed.{Tells}
 use Rattle.md_script.specs.Progress.{outcome, usable, usable_of}
 use Rattle.md_script.specs.Transcript.{transcript_of, run_from}
 use Rattle.md_script.proofs.Runs.{outcome_fresh, tells}
@@ -12,5 +11,4 @@ returns g c =
     let all : outcome step c.run_lines.new.self c.run_lines.new.session [] ≡ usable_of step c.args.session.now c.args.script.now =
     c.in_ok-run_lines.ensures.lines [] ∙ outcome_fresh step _ _ _ c.new-progress.ensures
     ∙ ap (λ lines. usable (1 + length lines) (run_from step 1 c.args.session.now lines)) (append-nil (lines_of c.args.script.now)) in
-    subst (λ printed. Tells (transcript_of step c.args.session.now c.args.script.now) printed c.run_lines.new.session) (sym c.into_printed.ensures)
-    (tells step c.run_lines.new.self c.run_lines.new.session _ (transcript_of step c.args.session.now c.args.script.now) all)
+    tells step c.run_lines.new.self c.run_lines.new.session _ (transcript_of step c.args.session.now c.args.script.now) all

@@ -12,11 +12,11 @@ returns-in_err-command c =
     c.from_residual.ensures.1
     (unread command_of (setting_line c.args.self.now c.args.line.now) (command_at c.self.inside.folders (SettingUp c.self.inside.with_jobs) c.args.line.now)
     (set_up c.args.self.now) c.args.self.now c.args.out.now.items c.in_err-command.field-0.0
-    (setting-is c.args.self.now c.self.inside.folders c.self.inside.with_jobs c.args.line.now reads) c.in_err-command.ensures.command)
+    (setting-is c.args.self.now c.self.inside.folders c.self.inside.with_jobs c.args.line.now reads) c.in_err-command.ensures)
 
 pub returns : goal.returns
 returns c =
     let reads = sets_by c.args.self.now c.self.inside.folders c.self.inside.with_jobs c.self.inside.files.items c.self.inside.calls.items c.self.view_is in
     obeyed (setting_line c.args.self.now c.args.line.now) (command_at c.self.inside.folders (SettingUp c.self.inside.with_jobs) c.args.line.now)
     (set_up c.args.self.now) (command_of c.in_ok-command.command) c.obey.new.self c.args.out.now.items c.obey.new.out.items c.obey.result
-    (setting-is c.args.self.now c.self.inside.folders c.self.inside.with_jobs c.args.line.now reads) c.in_ok-command.ensures.command c.obey.ensures
+    (setting-is c.args.self.now c.self.inside.folders c.self.inside.with_jobs c.args.line.now reads) c.in_ok-command.ensures c.obey.ensures

@@ -16,13 +16,13 @@ returns-in_err-command g c =
     c.from_residual.ensures.1
     (unread command_of (session_line c.args.self.now c.args.line.now) (command_at c.self.inside.folders (Playing c.is_some.result) c.args.line.now)
     (obey c.args.self.now) now c.args.out.now.items c.in_err-command.field-0.0
-    (line-is c.args.self.now c.self.inside.folders c.is_some.result c.args.line.now reads) c.in_err-command.ensures.command)
+    (line-is c.args.self.now c.self.inside.folders c.is_some.result c.args.line.now reads) c.in_err-command.ensures)
 
 pub returns : goal.returns
 returns g c =
     let reads = reads_by c.args.self.now c.self.inside.folders _ c.self.inside.store c.is_some.result c.self.view_is c.is_some.ensures in
     obeyed (session_line c.args.self.now c.args.line.now) (command_at c.self.inside.folders (Playing c.is_some.result) c.args.line.now)
     (obey c.args.self.now) (command_of c.in_ok-command.command) c.obey.new.self c.args.out.now.items c.obey.new.out.items c.obey.result
-    (line-is c.args.self.now c.self.inside.folders c.is_some.result c.args.line.now reads) c.in_ok-command.ensures.command
+    (line-is c.args.self.now c.self.inside.folders c.is_some.result c.args.line.now reads) c.in_ok-command.ensures
     (subst (λ (s : Session). Steps (obey s (command_of c.in_ok-command.command)) c.obey.new.self c.args.out.now.items c.obey.new.out.items c.obey.result)
     c.self.view_is c.obey.ensures)

@@ -1,4 +1,5 @@
 use Rattle.std.proofs.Common.{◌∙◌, sym}
+use Rattle.md_core.proofs.Calling.Going.{less-more}
 use Rattle.md_script.proofs.Acts.{taken, stepped-ok, stepped-refused}
 use Rattle.md_script.proofs.Waits.{waits-event}
 use Rattle.md_script.proofs.store.acts.step.Goals as goal
@@ -19,8 +20,12 @@ returns g c = record {
     c.in_ok-push_step.ensures,
   );
   waits = waits-event c.a_listing_may_wait.ensures _ _ _ c.interleaves.ensures.run c.interleaves-2.ensures.run c.in-Ok.ensures.event;
-  nearer = c.in-Ok.ensures.nearer;
+  nearer = less-more c.args.event _ _ _ c.interleaves.ensures.run c.in-Ok.ensures.event c.in-Ok.ensures.refused;
 }
+
+pub returns-in_err-push_step-clause-waits : goal.returns-in_err-push_step-clause-waits
+returns-in_err-push_step-clause-waits g c =
+    waits-event c.a_listing_may_wait.ensures _ _ _ c.interleaves.ensures.run c.interleaves-2.ensures.run c.in-Ok.ensures.event
 
 pub returns-in-Err-clause-step : goal.returns-in-Err-clause-step
 returns-in-Err-clause-step g c =

@@ -1,7 +1,7 @@
 use Rattle.std.proofs.Common.{◌≡◌, ◌∙◌, sym}
-use Rattle.md_script.specs.Folders.{place_of}
-use Rattle.md_script.proofs.Places.{place_of-names_of}
-use Rattle.md_script.proofs.folders.Folders.place.Goals as goal
+use Rattle.md_text.specs.Folders.{place_of}
+use Rattle.md_text.proofs.Numbered.{place_of-names_of}
+use Rattle.md_text.proofs.folders.Folders.place.Goals as goal
 
 pub returns-in_err-at : goal.returns-in_err-at
 returns-in_err-at c =

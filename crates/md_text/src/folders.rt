@@ -1,28 +1,19 @@
-//! The folders that a script names.
-ghost use Rattle.std.specs.Prelude.{◌≡◌, ◌<◌, ◌≤◌, ◌++◌, ◌∷◌, [], ℕ, List, length, vec_len, Some, None, OnOk, OnErr, IfSome, position, if◌then◌else◌};
-ghost use Rattle.std.specs.List.{list_any};
+//! Folders, by their names and their numbers.
+ghost use Rattle.std.specs.Prelude.{◌≡◌, ◌<◌, ◌^◌, ◌++◌, ◌∷◌, [], ℕ, List, length, vec_len, Some, None, OnOk, OnErr, IfSome, position, if◌then◌else◌};
 ghost use Rattle.std.specs.Option.{option_or};
 ghost use Rattle.std.specs.Str.{bytes_eq};
 ghost use Rattle.md_dirs.specs.Index.{get_name};
-ghost use Rattle.md_script.specs.Folders.{names_of, place_of, can_add, is_barred, most_folders, ArePlaces};
+ghost use Rattle.md_text.specs.Folders.{names_of, place_of, ArePlaces};
 
 use indexmap::IndexMap;
 use md_dirs::NameKey;
 use std::alloc::{AllocError, Global};
 use std::marker::Model;
 
-/// The most folders that a script may name.
-pub(crate) const MOST_FOLDERS: usize = 64;
-
-/// The longest name of a folder, in bytes.
-pub(crate) const LONGEST_NAME: usize = 100;
-
 /// How many names are looked at one by one. Where there are more, a look-up by hash costs less.
 const FEW: usize = 4;
 
-const DOT: u8 = b'.';
-
-/// The names of a script's folders, at most `MOST_FOLDERS`, in the order in which they were named, and where each name is, by its hash.
+/// The names of folders, in the order in which they were named, and where each name is, by its hash. Contracts see the list of the names.
 #[derive(Drop)]
 pub struct Folders {
     alloc: Global,
@@ -35,7 +26,7 @@ impl Model for Folders {
 
     ghost view = { λ f. names_of f.names.items };
 
-    ghost invariant = { λ f. (vec_len f.names ≤ most_folders) × ArePlaces f.names.items f.places.entries };
+    ghost invariant = { λ f. (vec_len f.names < 2 ^ 32) × ArePlaces f.names.items f.places.entries };
 }
 
 impl Folders {
@@ -58,7 +49,7 @@ impl Folders {
     }
 
     /// The number of the folder with this name, counted from 0.
-    pub(crate) fn place(&self, name: &[u8]) -> Option<u32>
+    pub fn place(&self, name: &[u8]) -> Option<u32>
         ensures { result ≡ place_of self.now name.now }
     {
         if self.names.len() > FEW {
@@ -68,39 +59,22 @@ impl Folders {
         Some(at as u32)
     }
 
-    /// Whether a folder can be made under this name: it has at most `LONGEST_NAME` bytes, none of them a slash, a
-    /// NUL or a carriage return, and doesn't begin with a dot, no folder has it, and there is room for one more.
-    pub(crate) fn can_add(&self, name: &[u8]) -> bool
-        ensures { result ≡ can_add self.now name.now }
-    {
-        if name.len() > LONGEST_NAME || has_barred(name) {
-            return false;
-        }
-        if !name.is_empty() && name[0] == DOT {
-            return false;
-        }
-        self.place(name).is_none() && self.names.len() < MOST_FOLDERS
-    }
-
     /// The names, in their order. It takes no memory.
-    pub(crate) fn into_names(self) -> Vec<Vec<u8>>
+    pub fn into_names(self) -> Vec<Vec<u8>>
         ensures { names_of result.items ≡ self }
     {
-        let Folders {
-            alloc: _,
-            names,
-            places: _,
-        } = self;
-        names
+        self.names
     }
 
-    /// Adds a folder after the others.
+    /// Adds a folder after the others. No memory holds 2^32 of them.
     pub fn add(&mut self, name: &[u8]) -> Result<(), AllocError>
-        requires { length self.old < MOST_FOLDERS }
         ensures ok { OnOk result (self.new ≡ self.old ++ name.now ∷ []) }
         ensures err { OnErr result (self.new ≡ self.old) }
     {
-        let at = self.names.len() as u32;
+        let at = self.count();
+        if at == u32::MAX {
+            return Err(AllocError);
+        }
         self.names.reserve(1)?;
         let held = Vec::from_slice(self.alloc, name)?;
         note_place(&mut self.places, self.alloc, name, at)?;
@@ -143,15 +117,9 @@ fn note_place(
     Ok(())
 }
 
-/// Whether two names are the same. Those of a script mostly differ in their last byte, which is looked at first.
+// Whether two names are the same. Those of a script mostly differ in their last byte, which is looked at first.
 fn is_same(first: &[u8], second: &[u8]) -> bool
     ensures { result ≡ bytes_eq first.now second.now }
 {
     first.last() == second.last() && first == second
-}
-
-fn has_barred(name: &[u8]) -> bool
-    ensures { result ≡ list_any is_barred name.now }
-{
-    name.iter().any(|b| *b == b'/' || *b == 0 || *b == b'\r')
 }

@@ -8,7 +8,7 @@ use Rattle.std.proofs.lemmas.Iterator.Adapters.{position_from-zero}
 use Rattle.std.specs.Global.{Vec}
 use Rattle.std.specs.Str.{bytes_eq}
 use Rattle.md_dirs.specs.Index.{get_name}
-use Rattle.md_script.specs.Folders.{names_of, place_of, ArePlaces}
+use Rattle.md_text.specs.Folders.{names_of, place_of, ArePlaces}
 
 prefix_len-names_of : (p : List ℕ → Bool) (names : List (Vec ℕ)) → prefix_len p (names_of names) ≡ prefix_len (λ other. p other.items) names
 prefix_len-names_of p [] = refl
