@@ -5,9 +5,8 @@ use crate::reading::read_log;
 use crate::refusal::{Fault, tell};
 use crate::text::{push_long, push_short, push_shown};
 use crate::words::{Asked, Form, WrongWords, read_words};
-use md_clauses::Clauses;
-use md_judge::{CLAUSES, Session};
-use std::alloc::{AllocError, Global};
+use md_judge::Session;
+use std::alloc::AllocError;
 use std::io::Print;
 
 /// The status of a lawful log, and of help.
@@ -53,24 +52,18 @@ docs/JUDGE.md has the log's language and the law.
 /// writing or memory is told on standard error as `line N: TEXT`, where N is 0 for one that is of no line, and the status is 2. Wrong
 /// words are answered with one line and the status 2.
 pub(crate) fn program(rt: &HostRuntime, words: &[String]) -> u8 {
-    match read_words(words) {
-        Ok(Asked::Help) => report(rt, print(rt, HELP.as_bytes()), LAWFUL),
-        Ok(Asked::Version) => report(rt, print(rt, VERSION.as_bytes()), LAWFUL),
-        Ok(Asked::Judge { form, allowed }) => {
-            let (answer, status) = judge(rt, &allowed, form);
-            report(rt, answer, status)
-        }
+    let mut session = Session::new(rt.alloc());
+    let answer = match read_words(words, &mut session) {
+        Ok(Asked::Help) => print(rt, HELP.as_bytes()).map(|()| LAWFUL),
+        Ok(Asked::Version) => print(rt, VERSION.as_bytes()).map(|()| LAWFUL),
+        Ok(Asked::Judge(form)) => judge(rt, &mut session, form),
         Err(wrong) => {
             let _told = complain(rt, wrong);
-            REFUSED
+            return REFUSED;
         }
-    }
-}
-
-/// The status of an answer, once its refusal was told.
-fn report(rt: &HostRuntime, answer: Result<(), Fault>, status: u8) -> u8 {
+    };
     match answer {
-        Ok(()) => status,
+        Ok(status) => status,
         Err(fault) => {
             tell(rt, fault);
             REFUSED
@@ -78,37 +71,27 @@ fn report(rt: &HostRuntime, answer: Result<(), Fault>, status: u8) -> u8 {
     }
 }
 
-fn judge(rt: &HostRuntime, allowed: &Clauses, form: Form) -> (Result<(), Fault>, u8) {
-    let mut session = Session::new(rt.alloc());
-    let answer = judge_in(rt, &mut session, allowed, form);
-    let status = if session.findings().is_empty() {
-        LAWFUL
-    } else {
-        FOUND
-    };
-    (answer, status)
-}
-
-fn judge_in(
-    rt: &HostRuntime,
-    session: &mut Session,
-    allowed: &Clauses,
-    form: Form,
-) -> Result<(), Fault> {
-    for clause in CLAUSES.as_slice() {
-        if allowed.contains(*clause) {
-            session.allow(*clause);
-        }
-    }
+/// Judges the log, prints the findings, and gives the status.
+fn judge(rt: &HostRuntime, session: &mut Session, form: Form) -> Result<u8, Fault> {
     read_log(rt, session)?;
-    show(rt, session, form)
+    show(rt, session, form)?;
+    if session.findings().is_empty() {
+        return Ok(LAWFUL);
+    }
+    Ok(FOUND)
 }
 
 /// Prints the findings.
 fn show(rt: &HostRuntime, session: &Session, form: Form) -> Result<(), Fault> {
-    let mut out = Vec::new(rt.alloc());
-    for at in 0..session.findings().len() {
-        if push_finding(rt.alloc(), &mut out, session, form, at).is_err() {
+    let alloc = rt.alloc();
+    let mut out = Vec::new(alloc);
+    for (at, finding) in session.findings().iter().copied().enumerate() {
+        let pushed = match form {
+            Form::People => push_long(alloc, &mut out, session, at, finding),
+            Form::Lines => push_short(alloc, &mut out, finding),
+            Form::Json => push_json(alloc, &mut out, session, at, finding),
+        };
+        if pushed.is_err() {
             return Err(Fault::no_memory(0));
         }
         if out.len() >= MOST_GATHERED {
@@ -119,47 +102,17 @@ fn show(rt: &HostRuntime, session: &Session, form: Form) -> Result<(), Fault> {
     print(rt, &out)
 }
 
-fn push_finding(
-    alloc: Global,
-    out: &mut Vec<u8>,
-    session: &Session,
-    form: Form,
-    at: usize,
-) -> Result<(), AllocError> {
-    let Some(finding) = session.findings().get(at).copied() else {
-        return Ok(());
-    };
-    match form {
-        Form::People => push_long(alloc, out, session, at, finding),
-        Form::Lines => push_short(alloc, out, finding),
-        Form::Json => push_json(alloc, out, session, at, finding),
-    }
-}
-
 fn print(rt: &HostRuntime, text: &[u8]) -> Result<(), Fault> {
-    match rt.write_all(text) {
-        Ok(()) => Ok(()),
-        Err(_) => Err(Fault::Write),
-    }
+    rt.write_all(text).map_err(|_| Fault::Write)
 }
 
 /// Says in one line why the words are wrong.
 fn complain(rt: &HostRuntime, wrong: WrongWords<'_>) -> Result<(), AllocError> {
-    let mut line = Vec::new(rt.alloc());
-    push_complaint(&mut line, wrong)?;
+    let WrongWords(why, word) = wrong;
+    let mut line = Vec::from_slice(rt.alloc(), b"maildir_judge: ")?;
+    line.extend_from_slice(why.as_bytes())?;
+    push_shown(&mut line, word.as_bytes())?;
+    line.extend_from_slice(b"; try 'maildir_judge --help'\n")?;
     let _told = rt.stderr().write_all(&line);
     Ok(())
-}
-
-fn push_complaint(line: &mut Vec<u8>, wrong: WrongWords<'_>) -> Result<(), AllocError> {
-    let (why, word) = match wrong {
-        WrongWords::Unknown(word) => ("no such word: ", word),
-        WrongWords::NoClause => ("--allow lacks a clause", ""),
-        WrongWords::BadClause(word) => ("no clause that may be allowed: ", word),
-        WrongWords::TwoForms => ("--lines and --json exclude each other", ""),
-    };
-    line.extend_from_slice(b"maildir_judge: ")?;
-    line.extend_from_slice(why.as_bytes())?;
-    push_shown(line, word.as_bytes())?;
-    line.extend_from_slice(b"; try 'maildir_judge --help'\n")
 }

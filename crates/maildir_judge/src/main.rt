@@ -12,33 +12,30 @@ mod why;
 mod words;
 
 use entry::program;
-use std::env;
 use std::io::ErrorKind;
 use std::process::ExitCode;
+use std::{env, io};
 
 /// The status where nothing was judged.
 const REFUSED: u8 = 2;
 
 fn main(rt: HostRuntime) -> ExitCode {
-    let mut args = match env::args(&rt) {
-        Ok(args) => args,
-        Err(error) if error.kind() == ErrorKind::OutOfMemory => return refuse(&rt),
-        Err(_) => return refuse_words(&rt),
-    };
-    // The first is the program's name.
-    let _ = args.next();
-    let Ok(words) = args.collect::<Vec<String>>(rt.alloc()) else {
-        return refuse(&rt);
-    };
-    ExitCode::from(program(&rt, &words))
+    match read_words(&rt) {
+        Ok(words) => ExitCode::from(program(&rt, &words)),
+        Err(error) if error.kind() == ErrorKind::OutOfMemory => refuse(&rt, "line 0: no memory"),
+        Err(_) => refuse(
+            &rt,
+            "maildir_judge: a word is not UTF-8; try 'maildir_judge --help'",
+        ),
+    }
 }
 
-fn refuse(rt: &HostRuntime) -> ExitCode {
-    let _ = eprintln!(rt; "line 0: no memory");
-    ExitCode::from(REFUSED)
+// The words after the program's name.
+fn read_words(rt: &HostRuntime) -> io::Result<Vec<String>> {
+    Ok(env::args(rt)?.skip(1).collect::<Vec<String>>(rt.alloc())?)
 }
 
-fn refuse_words(rt: &HostRuntime) -> ExitCode {
-    let _ = eprintln!(rt; "maildir_judge: a word is not UTF-8; try 'maildir_judge --help'");
+fn refuse(rt: &HostRuntime, why: &str) -> ExitCode {
+    let _ = eprintln!(rt; "{why}");
     ExitCode::from(REFUSED)
 }

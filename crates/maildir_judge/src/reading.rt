@@ -8,8 +8,6 @@ use std::io::{BufRead, BufReader, ErrorKind, StdinLock};
 /// Bytes that a read is asked for.
 const ROOM: usize = 65_536;
 
-const LF: u8 = b'\n';
-
 /// Hands each line of standard input to the session. The longest line is held in memory, and no other.
 pub(crate) fn read_log(rt: &HostRuntime, session: &mut Session) -> Result<(), Fault> {
     let mut line = Vec::new(rt.alloc());
@@ -43,9 +41,10 @@ fn read_line(
     line: &mut Vec<u8>,
     number: u64,
 ) -> Result<usize, Fault> {
-    match reader.read_until(LF, line) {
-        Ok(count) => Ok(count),
-        Err(error) if error.kind() == ErrorKind::OutOfMemory => Err(Fault::no_memory(number)),
-        Err(_) => Err(Fault::Read(number)),
-    }
+    reader
+        .read_until(b'\n', line)
+        .map_err(|error| match error.kind() {
+            ErrorKind::OutOfMemory => Fault::no_memory(number),
+            _ => Fault::Read(number),
+        })
 }

@@ -25,14 +25,13 @@ pub(crate) fn push_long(
     finding: Finding,
 ) -> Result<(), AllocError> {
     let (actor, call) = session.words(at);
-    push_line(alloc, out, b"line ", finding.line)?;
+    out.extend_from_slice(format!(in alloc; "line {}", finding.line)?.as_bytes())?;
     push_part(out, actor)?;
     push_part(out, call)?;
     push_part(out, finding.clause.name().as_bytes())?;
     push_part(out, why(finding.clause).as_bytes())?;
     if let Some(before) = finding.before {
-        push_line(alloc, out, b" (see line ", before)?;
-        out.extend_from_slice(b")")?;
+        out.extend_from_slice(format!(in alloc; " (see line {before})")?.as_bytes())?;
     }
     out.extend_from_slice(b"\n")
 }
@@ -41,13 +40,6 @@ pub(crate) fn push_long(
 fn push_part(out: &mut Vec<u8>, words: &[u8]) -> Result<(), AllocError> {
     out.extend_from_slice(b": ")?;
     push_shown(out, words)
-}
-
-// A word and the number of a line.
-fn push_line(alloc: Global, out: &mut Vec<u8>, word: &[u8], line: u64) -> Result<(), AllocError> {
-    out.extend_from_slice(word)?;
-    let number = format!(in alloc; "{line}")?;
-    out.extend_from_slice(number.as_bytes())
 }
 
 /// Words as a terminal may show them: a control byte is `\xNN`, and so is each byte past ASCII where the words are not UTF-8.

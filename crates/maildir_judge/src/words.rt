@@ -1,7 +1,6 @@
 //! The words of the command line.
 
-use md_clauses::Clauses;
-use md_judge::{CLAUSES, Clause};
+use md_judge::{CLAUSES, Clause, Session};
 
 /// How findings are printed.
 #[derive(Clone, Copy, PartialEq, Eq)]
@@ -17,34 +16,27 @@ pub(crate) enum Form {
 /// What is asked for.
 #[derive(Clone, Copy)]
 pub(crate) enum Asked {
-    Judge { form: Form, allowed: Clauses },
+    Judge(Form),
     Help,
     Version,
 }
 
-/// Why words are wrong.
+/// Why words are wrong, and the word that is, where one is to be shown.
 #[derive(Clone, Copy)]
-pub(crate) enum WrongWords<'a> {
-    /// The program has no such word.
-    Unknown(&'a str),
-    /// Nothing comes after `--allow`.
-    NoClause,
-    /// No clause has this name, or it is always judged.
-    BadClause(&'a str),
-    /// Both forms for programs are asked for.
-    TwoForms,
-}
+pub(crate) struct WrongWords<'a>(pub &'static str, pub &'a str);
 
 /// Reads the words after the program's name, from left to right: the first wrong word, or the first that asks for help or the version,
-/// decides.
-pub(crate) fn read_words(words: &[String]) -> Result<Asked, WrongWords<'_>> {
+/// decides. The session doesn't judge the clauses that are allowed.
+pub(crate) fn read_words<'a>(
+    words: &'a [String],
+    session: &mut Session,
+) -> Result<Asked, WrongWords<'a>> {
     let mut form = Form::People;
-    let mut allowed = Clauses::none();
     let mut is_after_allow = false;
     for word in words {
         let word = word.as_str();
         if is_after_allow {
-            allowed.add(clause_named(word)?);
+            session.allow(clause_named(word)?);
             is_after_allow = false;
             continue;
         }
@@ -56,9 +48,9 @@ pub(crate) fn read_words(words: &[String]) -> Result<Asked, WrongWords<'_>> {
         }
     }
     if is_after_allow {
-        return Err(WrongWords::NoClause);
+        return Err(WrongWords("--allow lacks a clause", ""));
     }
-    Ok(Asked::Judge { form, allowed })
+    Ok(Asked::Judge(form))
 }
 
 /// The form that a word asks for after those before it.
@@ -66,20 +58,19 @@ fn form_of(form: Form, word: &str) -> Result<Form, WrongWords<'_>> {
     let next = match word {
         "--lines" => Form::Lines,
         "--json" => Form::Json,
-        _ => return Err(WrongWords::Unknown(word)),
+        _ => return Err(WrongWords("no such word: ", word)),
     };
     if form != Form::People && form != next {
-        return Err(WrongWords::TwoForms);
+        return Err(WrongWords("--lines and --json exclude each other", ""));
     }
     Ok(next)
 }
 
 /// The clause of a name, unless it is always judged.
 fn clause_named(name: &str) -> Result<Clause, WrongWords<'_>> {
-    for clause in CLAUSES.as_slice() {
-        if *clause != Clause::NotADirectory && clause.name() == name {
-            return Ok(*clause);
-        }
-    }
-    Err(WrongWords::BadClause(name))
+    CLAUSES
+        .iter()
+        .copied()
+        .find(|clause| *clause != Clause::NotADirectory && clause.name() == name)
+        .ok_or(WrongWords("no clause that may be allowed: ", name))
 }

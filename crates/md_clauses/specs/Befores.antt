@@ -1,5 +1,5 @@
 -- The earlier lines that clauses go back to, and lines as tables keep them, in four bytes.
-use Rattle.std.specs.Prelude.{ℕ, ◌-◌, ◌==◌, nat_lt, Option, None, Some, if◌then◌else◌, slice_get, unwrap_or}
+use Rattle.std.specs.Prelude.{ℕ, ◌-◌, ◌==◌, nat_lt, Option, None, Some, if◌then◌else◌, slice_get, unwrap_or, min}
 use Rattle.std.specs.Option.{option_and_then}
 use Rattle.md_log.specs.declared.clause.Clause.{Clause}
 use Rattle.md_log.specs.declared.line.Said.{Said}
@@ -8,6 +8,10 @@ use Rattle.md_clauses.specs.declared.befores.Befores.{Befores}
 use Rattle.md_clauses.specs.declared.claims.Claim.{Claim}
 use Rattle.md_clauses.specs.declared.claims.Presence.{Presence}
 use Rattle.md_clauses.specs.Found.{clause_index}
+
+-- a moment as tables keep it
+abbrev pub kept_moment : ℕ → ℕ
+kept_moment n = min n 4294967295
 
 -- the mark of a line: its number, or 0 where four bytes are too few
 abbrev pub mark : ℕ → ℕ

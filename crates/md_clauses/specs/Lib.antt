@@ -1,5 +1,4 @@
 pub mod Found
-pub mod Moments
 pub mod Befores
 pub mod Facts
 pub mod Changes

@@ -2,8 +2,7 @@
 ghost use Rattle.std.specs.Prelude.{◌≡◌, ◌<◌, None};
 ghost use Rattle.std.specs.Option.{option_or};
 ghost use Rattle.md_log.specs.declared.clause.Clause.{Clause};
-ghost use Rattle.md_clauses.specs.Befores.{mark, marked_line, line_making, before_in};
-ghost use Rattle.md_clauses.specs.Moments.{kept_moment};
+ghost use Rattle.md_clauses.specs.Befores.{mark, marked_line, line_making, before_in, kept_moment};
 
 use super::clauses::number_of;
 use md_log::Clause;

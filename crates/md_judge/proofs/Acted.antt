@@ -16,10 +16,9 @@ use Rattle.md_log.specs.declared.line.Reply.{Reply}
 use Rattle.md_clauses.specs.declared.changes.Spot.{Spot}
 use Rattle.md_judge.specs.declared.judge.known.Act.{Act}
 use Rattle.md_judge.specs.declared.judge.tables.Names.{Names}
-use Rattle.md_judge.specs.declared.judge.tables.NameFacts.{NameFacts}
 use Rattle.md_judge.specs.Actors.{reply_to_name, acted_at, acted}
 use Rattle.md_judge.specs.Acts.{NamesFirst}
-use Rattle.md_judge.specs.Files.{no_facts, facts_by, unique_by, unique_in}
+use Rattle.md_judge.specs.Files.{unique_from, unique_by, unique_in}
 use Rattle.md_judge.specs.Names.{StandFor}
 use Rattle.md_judge.specs.Recalled.{IsSpotOf}
 use Rattle.md_judge.specs.Told.{is_tmp, is_message, IsOf, ActsOn}
@@ -35,14 +34,14 @@ module _ (names : Names) where
   Says (Some u) (Some parts) = slice_get names.uniques u ≡ Some parts.0
 
   says : (name : List ℕ) (o : Option (List ℕ × Info)) (front ending : ℕ) → StandFor names name o front ending
-      → Says (facts_by front ending).unique o
+      → Says (unique_from front ending) o
   says name None front ending s =
-      subst (λ (b : Bool). Says (cond b no_facts (record { unique = Some front })).unique None)
+      subst (λ (b : Bool). Says (cond b None (Some front)) None)
       (sym (eq-eqb ending 4294967295 s.0)) tt
   says name (Some parts) front ending s =
       let low = s.0 in
       let some : nat_eq ending 4294967295 ≡ false = grind (arith, nat_tests, low) in
-      subst (λ (b : Bool). Says (cond b no_facts (record { unique = Some front })).unique (Some parts))
+      subst (λ (b : Bool). Says (cond b None (Some front)) (Some parts))
       (sym some) s.1
 
   -- a path of a message has the number of its unique name, and another has none
@@ -50,17 +49,17 @@ module _ (names : Names) where
   IsOfPath p None = is_message p ≡ true → ⊥
   IsOfPath p (Some u) = (is_message p ≡ true) × (slice_get names.uniques u ≡ Some (unique_of p.name))
 
-  by-name : (p : Path) (place : Place) (f : NameFacts) → place ≡ p.place → (b : Bool) → is_message_name p.name ≡ b
-      → Says f.unique (cond b (Some (unique_of p.name, info_of p.name)) None) → IsOfPath p (unique_by place f)
+  by-name : (p : Path) (place : Place) (f : Option ℕ) → place ≡ p.place → (b : Bool) → is_message_name p.name ≡ b
+      → Says f (cond b (Some (unique_of p.name, info_of p.name)) None) → IsOfPath p (unique_by place f)
   by-name p Tmp f at b is holds = λ shown. false≢true (sym (ap (λ q. not (is_tmp q) && is_message_name p.name) (sym at)) ∙ shown)
-  by-name p New f at b is holds = by f.unique b (ap (λ q. not (is_tmp q) && is_message_name p.name) (sym at) ∙ is) holds
+  by-name p New f at b is holds = by f b (ap (λ q. not (is_tmp q) && is_message_name p.name) (sym at) ∙ is) holds
     where
       by : (o : Option ℕ) (b : Bool) → is_message p ≡ b → Says o (cond b (Some (unique_of p.name, info_of p.name)) None) → IsOfPath p o
       by None false is holds = λ shown. false≢true (sym is ∙ shown)
       by None true is holds = absurd holds
       by (Some u) false is holds = absurd holds
       by (Some u) true is holds = (is, holds)
-  by-name p Cur f at b is holds = by f.unique b (ap (λ q. not (is_tmp q) && is_message_name p.name) (sym at) ∙ is) holds
+  by-name p Cur f at b is holds = by f b (ap (λ q. not (is_tmp q) && is_message_name p.name) (sym at) ∙ is) holds
     where
       by : (o : Option ℕ) (b : Bool) → is_message p ≡ b → Says o (cond b (Some (unique_of p.name, info_of p.name)) None) → IsOfPath p o
       by None false is holds = λ shown. false≢true (sym is ∙ shown)
@@ -70,7 +69,7 @@ module _ (names : Names) where
 
   pub path-unique : (p : Path) (s : Spot) → IsSpotOf names p s → IsOfPath p (unique_in names s)
   path-unique p s of =
-      by-name p s.place (facts_by (s.name / 4294967296) (s.name % 4294967296)) of.place (is_message_name p.name) refl
+      by-name p s.place (unique_from (s.name / 4294967296) (s.name % 4294967296)) of.place (is_message_name p.name) refl
       (says p.name (split_of p.name) (s.name / 4294967296) (s.name % 4294967296) of.number)
 
   -- ---- calls

@@ -15,11 +15,10 @@ use Rattle.md_clauses.specs.declared.found.Found.{Found}
 use Rattle.md_judge.specs.declared.judge.known.Known.{Known}
 use Rattle.md_clauses.specs.declared.changes.Change.{Change}
 use Rattle.md_judge.specs.declared.judge.known.Act.{Act}
-use Rattle.md_judge.specs.Acts.{ReadsNone, IsWrongAsk, IsActOf, Does}
+use Rattle.md_judge.specs.Acts.{ReadsNone, IsWrongAsk, IsActOf, Does, Leads}
 use Rattle.md_clauses.specs.Found.{Has, Keeps, NotesOne}
 use Rattle.md_judge.specs.Known.{EachSpot, Leaves}
 use Rattle.md_judge.specs.Law.{Turn, turn, IsWrongReply, IsWrongCall, NotADirectory, Overwrites, Overwritten}
-use Rattle.md_judge.specs.Changes.{Leads}
 use Rattle.md_judge.specs.Logs.{Log}
 use Rattle.md_judge.specs.Recalled.{IsSpotOf}
 use Rattle.md_judge.specs.declared.judge.tables.Names.{Names}

@@ -14,12 +14,10 @@ use Rattle.md_judge.specs.declared.judge.about.Actors.{Actors}
 use Rattle.std.specs.BTreeMap.{get, is_at, IsEmpty}
 use Rattle.std.specs.Map.{lookup}
 use Rattle.md_judge.specs.Listings.{message_cmp}
-use Rattle.md_judge.specs.Actors.{begun_by, done_by, moved_by, move_cmp, no_about, looked_of, looked_by, IsOther, SameAct, Tells, NotesAct, NotesLook, NotesMoves, HasTold, RecallsBegun, RecallsDone, LookedAt, MovedAt, MayStand, AreActing}
+use Rattle.md_judge.specs.Actors.{begun_by, done_by, moved_by, move_cmp, no_about, looked_of, looked_by, IsOther, SameAct, Tells, NotesAct, NotesLook, NotesMoves, HasTold, RecallsBegun, RecallsDone, LookedAt, MovedAt, MayStand, AreActing, IsUntold, HasUntold, UnlinksMessage, RecallsDeeds, MarksDeeds}
 use Rattle.md_judge.specs.Claims.{IsLastLine}
-use Rattle.md_judge.specs.Deeds.{IsUntold, HasUntold, UnlinksMessage, RecallsDeeds}
 use Rattle.md_judge.specs.Law.{AddsMessage, ChangesMessage}
 use Rattle.md_judge.specs.Logs.{Log, Numbered}
-use Rattle.md_judge.specs.Marks.{MarksDeeds}
 use Rattle.md_judge.specs.Open.{Listings}
 use Rattle.md_judge.specs.Told.{at, IsThere, IsStep, IsAnswer, ActsOn, Looks}
 use Rattle.md_judge.specs.Words.{AreApart, KeepWords}

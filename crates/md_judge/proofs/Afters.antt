@@ -95,9 +95,6 @@ files-grow deed.Flush r n = omega arith
 files-grow deed.Unlink r n = omega arith
 
 module _ (old new : Path) (s : State) where
-  renamed : State
-  renamed = with_files_still_named (file_at s new) (with_path new (without_path old s) (file_at s old))
-
   asked-between-folders : (n : Naming) → ((ask_between n old new).after s).folders ≡ s.folders
   asked-between-folders naming.Link = path-folders new s (file_at s old)
   asked-between-folders naming.Rename =

@@ -9,9 +9,8 @@ use Rattle.md_dirs.specs.declared.paths.File.{File}
 use Rattle.md_log.specs.declared.line.Reply.{Reply}
 use Rattle.md_log.specs.declared.line.Step.{Step}
 use Rattle.md_judge.specs.declared.judge.files.Filed.{Filed}
-use Rattle.md_judge.specs.Filed.{IsSeenBy, AreFiled, name_at}
+use Rattle.md_judge.specs.Filed.{IsSeenBy, AreFiled, name_at, Acts, IsMadeBy}
 use Rattle.md_judge.specs.Logs.{Log}
-use Rattle.md_judge.specs.Recalls.{Acts, IsMadeBy}
 use Rattle.md_judge.specs.Told.{at, IsStep, Writes, Flushes, IsUnflushed, IsCut, WasInCur, IsMaker}
 use Rattle.md_judge.specs.Words.{AreApart}
 use Rattle.md_judge.proofs.Counting.{counted-alike}

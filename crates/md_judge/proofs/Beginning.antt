@@ -24,12 +24,11 @@ use Rattle.md_judge.specs.declared.judge.directories.Named.{Named}
 use Rattle.md_judge.specs.declared.judge.known.Known.{Known}
 use Rattle.md_judge.specs.declared.judge.tables.Names.{Names}
 use Rattle.md_judge.specs.Claims.{IsSince}
-use Rattle.md_judge.specs.Known.{number_at, file_of_name, file_in, is_same_spot, Puts}
+use Rattle.md_judge.specs.Known.{number_at, file_of_name, file_in, is_same_spot, Puts, since_of, since_in, was_in, AddsEmpty, PutsMoments}
 use Rattle.md_judge.specs.Logs.{Log, empty_log, with_file_line, with_also_line}
-use Rattle.md_judge.specs.Moments.{since_of, since_in, was_in, AddsEmpty, PutsMoments}
 use Rattle.md_judge.specs.Mixed.{mixed_name}
 use Rattle.md_judge.specs.Names.{StandFor, IsNumber, AreNumbered, KeepNumbers}
-use Rattle.md_judge.specs.Readings.{was_of, IsHere, RecallsWas}
+use Rattle.md_judge.specs.Listings.{was_of, IsHere, RecallsWas}
 use Rattle.md_judge.specs.Recalled.{spot_of, HasNumber, IsSpotOf, IsToldAt}
 use Rattle.md_judge.specs.Told.{at}
 use Rattle.md_judge.proofs.Afters.{path-folders, path-files}
@@ -40,10 +39,6 @@ use Rattle.md_judge.proofs.Pathed.{path_by, path-is, stand}
 use Rattle.md_judge.proofs.Recounted.{file_there}
 
 -- ---- the first moment
-
--- a log begins with what there is at its beginning, whatever its steps are
-pub at-first : (l : Log) → at l 0 ≡ l.opening
-at-first l = refl
 
 first : (j : ℕ) → j ≤ 0 → j ≡ 0
 first j low = omega (arith, low)

@@ -17,7 +17,7 @@ use Rattle.md_log.specs.declared.line.Naming.TheVariants as naming
 use Rattle.md_clauses.specs.declared.changes.Spot.{Spot}
 use Rattle.md_judge.specs.Told.{ask_between}
 use Rattle.md_clauses.specs.declared.changes.Change.{Change}
-use Rattle.md_judge.specs.Changes.{after_added, after_turned, after_taken, after_change, IsPathOf, IsTurnOf, Leads}
+use Rattle.md_judge.specs.Acts.{after_added, after_turned, after_taken, after_change, IsPathOf, IsTurnOf, Leads}
 use Rattle.md_judge.specs.Law.{Overwrites}
 
 -- which path goes with a link and with a rename

@@ -11,7 +11,7 @@ use Rattle.md_clauses.specs.declared.found.Found.{Found}
 use Rattle.md_judge.specs.declared.judge.mail.Mail.{Mail}
 use Rattle.md_judge.specs.declared.judge.mail.Message.{Message}
 use Rattle.md_judge.specs.declared.judge.tables.Names.{Names}
-use Rattle.md_judge.specs.Changes.{IsPathOf, Leads}
+use Rattle.md_judge.specs.Acts.{IsPathOf, Leads}
 use Rattle.md_judge.specs.Files.{unique_in}
 use Rattle.md_clauses.specs.Found.{Notes}
 use Rattle.md_judge.specs.Known.{EachPath, EachSpot}

@@ -13,7 +13,7 @@ use Rattle.md_judge.specs.declared.judge.mail.Message.{Message}
 use Rattle.md_judge.specs.Logs.{Log}
 use Rattle.md_judge.specs.Told.{at, IsMessageAt, IsThere}
 use Rattle.md_judge.specs.Law.{turn, Adds, TwoNames}
-use Rattle.md_judge.specs.Changes.{IsPathOf}
+use Rattle.md_judge.specs.Acts.{IsPathOf}
 use Rattle.md_judge.proofs.Lawful.{none}
 use Rattle.md_judge.specs.Messages.{WasFile, AddFinds, RecallsMessage, Recalled, IsAddition, BrokenByAdding}
 

@@ -21,17 +21,14 @@ use Rattle.md_clauses.specs.declared.changes.Spot.{Spot}
 use Rattle.md_judge.specs.declared.judge.known.Act.{Act}
 use Rattle.md_judge.specs.declared.judge.mail.Mail.{Mail}
 use Rattle.md_judge.specs.declared.judge.tables.Names.{Names}
-use Rattle.md_judge.specs.Actors.{MayStand}
-use Rattle.md_judge.specs.Acts.{IsDone}
-use Rattle.md_judge.specs.Changes.{IsPathOf, IsTurnOf}
-use Rattle.md_judge.specs.Deeds.{UnlinksMessage}
+use Rattle.md_judge.specs.Actors.{MayStand, UnlinksMessage, IsOfMessage, IsOfMissing, OnPath, OnTurned, ChangesPaths, Unlinks}
+use Rattle.md_judge.specs.Acts.{IsDone, IsPathOf, IsTurnOf}
 use Rattle.md_judge.specs.Files.{unique_in}
 use Rattle.md_judge.specs.Known.{EachPath, EachTurned}
 use Rattle.md_judge.specs.Law.{turn, AddsMessage, ChangesMessage}
 use Rattle.md_judge.specs.Listings.{message_of}
 use Rattle.md_judge.specs.Logs.{Log}
 use Rattle.md_judge.specs.Mailed.{count_of, AreMailed}
-use Rattle.md_judge.specs.Marks.{IsOfMessage, IsOfMissing, OnPath, OnTurned, ChangesPaths, Unlinks}
 use Rattle.md_judge.specs.Recalled.{IsSpotOf}
 use Rattle.md_judge.specs.Told.{at, moment, after_step, after_ask, after_call, ask_at, IsStep, IsOf, IsMessageAt, IsThere}
 use Rattle.md_judge.specs.Words.{AreApart}

@@ -10,7 +10,7 @@ use Rattle.md_judge.specs.declared.judge.known.Known.{Known}
 use Rattle.md_judge.specs.declared.judge.mail.Mail.{Mail}
 use Rattle.md_judge.specs.declared.judge.tables.Names.{Names}
 use Rattle.md_judge.specs.Actors.{GoesBy, GoesWith, MayStand}
-use Rattle.md_judge.specs.Changes.{IsPathOf, Leads}
+use Rattle.md_judge.specs.Acts.{IsPathOf, Leads}
 use Rattle.md_judge.specs.Files.{unique_in}
 use Rattle.md_judge.specs.Known.{EachPath, EachSpot}
 use Rattle.md_judge.specs.Listings.{message_of, present_in, IsIn}

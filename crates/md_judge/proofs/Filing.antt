@@ -17,10 +17,9 @@ use Rattle.md_log.specs.declared.line.Step.{Step}
 use Rattle.md_clauses.specs.declared.facts.FileFacts.{FileFacts}
 use Rattle.md_judge.specs.declared.judge.files.Filed.{Filed}
 use Rattle.md_judge.specs.Logs.{Log, Numbered}
-use Rattle.md_judge.specs.Filed.{IsSeenBy, IsSeenTimes, IsFiled, HasFiles, AreFiled}
+use Rattle.md_judge.specs.Filed.{IsSeenBy, IsSeenTimes, IsFiled, HasFiles, AreFiled, Acts, IsMadeBy}
 use Rattle.md_clauses.specs.Facts.{made, written, flushed}
 use Rattle.md_judge.specs.Files.{facts_at, AtStep}
-use Rattle.md_judge.specs.Recalls.{Acts, IsMadeBy}
 use Rattle.md_judge.specs.Told.{Moment, ask_at, ask_between, after_ask, after_call, moment, at, IsStep, Writes, Flushes, IsUnflushed, IsCut, WasInCur}
 use Rattle.md_judge.proofs.Afters.{after-cases, refused-same}
 use Rattle.md_judge.proofs.Counting.{counted-none}

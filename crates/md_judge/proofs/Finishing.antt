@@ -8,9 +8,8 @@ use Rattle.md_judge.specs.declared.judge.tables.Names.{Names}
 use Rattle.md_dirs.specs.declared.paths.Place.{Place}
 use Rattle.md_dirs.specs.declared.paths.Place.TheVariants.{Tmp, New, Cur}
 use Rattle.md_judge.specs.declared.judge.listing.Listing.{Listing}
-use Rattle.md_judge.specs.Files.{name_facts}
-use Rattle.md_judge.specs.Gathered.{gathered_of, gathered_by, gathered_in, also_read, with_read}
-use Rattle.md_judge.specs.Open.{Listings, reading_of}
+use Rattle.md_judge.specs.Files.{unique_number}
+use Rattle.md_judge.specs.Open.{gathered_of, gathered_by, gathered_in, also_read, with_read, Listings}
 use Rattle.std.specs.BTreeMap.{get}
 use Rattle.md_judge.specs.Listings.{message_cmp, IsIn}
 use Rattle.md_judge.proofs.Keeping.{tied}
@@ -18,7 +17,7 @@ use Rattle.md_judge.proofs.Opening.{comes-in}
 
 -- the number of a unique name is in the set, or it is that of a name that is left
 abbrev pub HasMore : Names → (ℕ → Bool) → List ℕ → ℕ → Type 0
-HasMore names s left u = (s u ≡ true) ⊎ ((n : ℕ) × IsIn left n × ((name_facts names n).unique ≡ Some u))
+HasMore names s left u = (s u ≡ true) ⊎ ((n : ℕ) × IsIn left n × (unique_number names n ≡ Some u))
 
 -- the first of the names that are left, and the others
 first-or : (n : ℕ) (left : List ℕ) (m : ℕ) → IsIn (n ∷ left) m ↔ ((n ≡ m) ⊎ IsIn left m)
@@ -32,13 +31,13 @@ first-or n left m = (
     by (suc k) is = inr (k, is)
 
 -- a name of no message is passed over
-pub more-passes : (names : Names) (s : ℕ → Bool) (n : ℕ) (left : List ℕ) (u : ℕ) → (name_facts names n).unique ≡ None
+pub more-passes : (names : Names) (s : ℕ → Bool) (n : ℕ) (left : List ℕ) (u : ℕ) → unique_number names n ≡ None
     → HasMore names s (n ∷ left) u ↔ HasMore names s left u
 more-passes names s n left u none = (
   λ h. elim h [
     | inl has ↦ inl has
     | inr m ↦ elim ((first-or n left m.0).0 m.1) [
-      | inl same ↦ absurd (let no : None ≡ Some u = sym none ∙ ap (λ k. (name_facts names k).unique) same ∙ m.2 in cc no)
+      | inl same ↦ absurd (let no : None ≡ Some u = sym none ∙ ap (unique_number names) same ∙ m.2 in cc no)
       | inr later ↦ inr (m.0, later, m.2)
     ]
   ],
@@ -46,7 +45,7 @@ more-passes names s n left u none = (
 )
 
 -- and of a message's the unique name comes
-pub more-comes : (names : Names) (old new : ℕ → Bool) (n v : ℕ) (left : List ℕ) (u : ℕ) → (name_facts names n).unique ≡ Some v
+pub more-comes : (names : Names) (old new : ℕ → Bool) (n v : ℕ) (left : List ℕ) (u : ℕ) → unique_number names n ≡ Some v
     → ((q : ℕ) → new q ≡ cond (eq_by_cmp nat_cmp v q) true (old q)) → HasMore names old (n ∷ left) u ↔ HasMore names new left u
 more-comes names old new n v left u is puts =
     let one = comes-in v old new puts u in (
@@ -54,7 +53,7 @@ more-comes names old new n v left u is puts =
         | inl has ↦ inl (one.1 (inl has))
         | inr m ↦ elim ((first-or n left m.0).0 m.1) [
           | inl same ↦
-              let both : Some v ≡ Some u = sym is ∙ ap (λ k. (name_facts names k).unique) same ∙ m.2 in
+              let both : Some v ≡ Some u = sym is ∙ ap (unique_number names) same ∙ m.2 in
               inl (one.1 (inr (cc both)))
           | inr later ↦ inr (m.0, later, m.2)
         ]
@@ -94,15 +93,6 @@ pub read-more : (place : Place) (s : Listing) → gathered_of (with_read place s
 read-more Tmp s = refl
 read-more New s = refl
 read-more Cur s = refl
-
-pub read-readings : (place : Place) (s : Listing) (p : Place) → reading_of (with_read place s) p ≡ reading_of s p
-read-readings Tmp s p = refl
-read-readings New s Tmp = refl
-read-readings New s New = refl
-read-readings New s Cur = refl
-read-readings Cur s Tmp = refl
-read-readings Cur s New = refl
-read-readings Cur s Cur = refl
 
 -- ---- other listings
 

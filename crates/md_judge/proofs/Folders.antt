@@ -1,5 +1,5 @@
 -- The folders that have a message, one by one.
-use Rattle.std.proofs.Common.{ℕ, ◌≡◌, ◌↔◌, ◌<◌, ◌≤◌, ◌+◌, inl, inr, Bool, List, [], ◌∷◌, ◌++◌, Option, Some, IsTrue, length, slice_get, sym, ap, subst, ◌∙◌, arith}
+use Rattle.std.proofs.Common.{ℕ, ◌≡◌, ◌↔◌, ◌<◌, ◌≤◌, ◌+◌, inl, inr, Bool, List, [], ◌∷◌, ◌++◌, Some, IsTrue, length, slice_get, sym, ap, subst, ◌∙◌, arith}
 use Rattle.std.specs.Option.{option_map, unwrap_or}
 use Rattle.std.specs.Ordering.{nat_cmp}
 use Rattle.std.specs.BTreeSet as ordered
@@ -13,10 +13,6 @@ use Rattle.md_judge.proofs.Prefixes.{step-last}
 use Rattle.md_judge.proofs.Reopened.{one-more, stays}
 
 module _ (mail : Mail) where
-  -- the messages of a folder by its set, where it has one
-  keys_of : Option (BTreeSet ℕ) → List ℕ
-  keys_of o = unwrap_or (option_map (λ p. ordered.keys p) o) []
-
   -- a folder has a message that its set has
   pub in-folder : (folder u : ℕ) (s : BTreeSet ℕ) → slice_get mail.present.items folder ≡ Some s → (b : Bool)
       → b ≡ ordered.contains nat_cmp s u

@@ -13,7 +13,7 @@ use Rattle.md_dirs.proofs.PathOrder.{path_exact}
 use Rattle.md_clauses.specs.declared.changes.Spot.{Spot}
 use Rattle.md_clauses.specs.declared.changes.Change.{Change}
 use Rattle.md_judge.specs.declared.judge.known.Known.{Known}
-use Rattle.md_judge.specs.Changes.{after_added, after_turned, after_taken, Leads, IsOlder}
+use Rattle.md_judge.specs.Acts.{after_added, after_turned, after_taken, Leads, IsOlder}
 use Rattle.md_judge.specs.Known.{number_at, file_in, is_same_spot, after_spot_added, after_spot_turned, after_spot_taken, Makes, EachPath, EachTurned, EachSpot, IsHoused, IsBelow, IsAddedBelow, IsTurnedBelow, Stands, Holds}
 use Rattle.md_judge.proofs.Changing.{itself}
 

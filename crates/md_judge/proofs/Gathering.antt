@@ -14,18 +14,16 @@ use Rattle.md_log.specs.declared.line.Call.TheVariants as call
 use Rattle.md_log.specs.declared.line.Reply.TheVariants as reply
 use Rattle.md_log.specs.declared.line.Step.{Step}
 use Rattle.md_judge.specs.declared.judge.tables.Names.{Names}
-use Rattle.md_judge.specs.Files.{no_facts, facts_by, name_facts}
-use Rattle.md_judge.specs.Gathered.{Gathered, nothing_gathered, is_complete, also_read, Gathers, left_of, Counts, GathersName, AreUniquesOf, RecallsGathered}
+use Rattle.md_judge.specs.Files.{unique_from, unique_number}
+use Rattle.md_judge.specs.Open.{Gathered, nothing_gathered, is_complete, also_read, Gathers, left_of, Counts, GathersName, AreUniquesOf, RecallsGathered, IsPartKept}
 use Rattle.md_judge.specs.Listings.{IsIn}
 use Rattle.md_judge.specs.Logs.{Log}
 use Rattle.md_judge.specs.Names.{StandFor, IsNumber, KeepNumbers}
-use Rattle.md_judge.specs.Open.{IsPartKept}
 use Rattle.md_judge.specs.Told.{is_tmp, is_message, IsStep, IsPart, IsReading, IsWholeReading, Shows, IsListing, Read, nothing_read, with_place, with_call, read_at}
 use Rattle.md_judge.proofs.Listed.{read-step}
 use Rattle.md_judge.proofs.Opening.{one-step}
 use Rattle.md_judge.proofs.Parts.{one-reading}
 use Rattle.md_judge.proofs.Reopened.{one-more, stays, last-is}
-use Rattle.md_judge.proofs.Shown.{said}
 
 -- ---- what a listing has read
 
@@ -98,29 +96,29 @@ read-goes-on Cur r new both =
 -- the number of a name has that of its unique part, where the name is a message's
 module _ (names : Names) (name : List ℕ) where
   facts-some : (front ending : ℕ) (parts : List ℕ × Info) → StandFor names name (Some parts) front ending
-      → (facts_by front ending).unique ≡ Some front
+      → unique_from front ending ≡ Some front
   facts-some front ending parts s =
       let low = s.0 in
-      ap (λ b. (cond b no_facts (said front)).unique)
+      ap (λ b. cond b None (Some front))
       (ne_eqb ending 4294967295 (λ same. omega (arith, low, same)))
 
-  facts-none : (front ending : ℕ) → StandFor names name None front ending → (facts_by front ending).unique ≡ None
+  facts-none : (front ending : ℕ) → StandFor names name None front ending → unique_from front ending ≡ None
   facts-none front ending s =
-      ap (λ b. (cond b no_facts (said front)).unique)
+      ap (λ b. cond b None (Some front))
       (eq-eqb ending 4294967295 s.0)
 
-  unique-some : (b : Bool) (n : ℕ) → is_message_name name ≡ b → b ≡ true → IsNumber names name n → (name_facts names n).unique ≡ Some (n / 4294967296)
+  unique-some : (b : Bool) (n : ℕ) → is_message_name name ≡ b → b ≡ true → IsNumber names name n → unique_number names n ≡ Some (n / 4294967296)
   unique-some b n is message of =
       facts-some (n / 4294967296) (n % 4294967296) (unique_of name, info_of name)
       (subst (λ (o : Option (List ℕ × Info)). StandFor names name o (n / 4294967296) (n % 4294967296))
       (ap (λ c. cond c (Some (unique_of name, info_of name)) None) (is ∙ message)) of)
 
   -- of a message's name its unique part
-  pub unique-of : (n : ℕ) → is_message_name name ≡ true → IsNumber names name n → (name_facts names n).unique ≡ Some (n / 4294967296)
+  pub unique-of : (n : ℕ) → is_message_name name ≡ true → IsNumber names name n → unique_number names n ≡ Some (n / 4294967296)
   unique-of n message of = unique-some true n message refl of
 
   -- and of no other
-  pub unique-is : (n u : ℕ) → IsNumber names name n → (name_facts names n).unique ≡ Some u → (n / 4294967296 ≡ u) × (is_message_name name ≡ true)
+  pub unique-is : (n u : ℕ) → IsNumber names name n → unique_number names n ≡ Some u → (n / 4294967296 ≡ u) × (is_message_name name ≡ true)
   unique-is n u of is = by (is_message_name name) refl
     where
       by : (b : Bool) → is_message_name name ≡ b → (n / 4294967296 ≡ u) × (is_message_name name ≡ true)

@@ -16,7 +16,7 @@ use Rattle.md_clauses.specs.declared.messages.Going.{Going}
 use Rattle.md_judge.specs.Logs.{Log}
 use Rattle.md_judge.specs.Told.{at, is_message, IsThere}
 use Rattle.md_judge.specs.Law.{turn, Takes, IsTrashed}
-use Rattle.md_judge.specs.Changes.{IsPathOf}
+use Rattle.md_judge.specs.Acts.{IsPathOf}
 use Rattle.md_judge.specs.Messages.{TakeFinds, IsTaking, BrokenByTaking}
 use Rattle.md_judge.proofs.Lawful.{none}
 

@@ -16,8 +16,8 @@ use Rattle.md_clauses.specs.declared.messages.Going.{Going}
 use Rattle.md_judge.specs.declared.judge.mail.Mail.{Mail}
 use Rattle.md_judge.specs.declared.judge.mail.Message.{Message}
 use Rattle.md_judge.specs.declared.judge.tables.Names.{Names}
-use Rattle.md_judge.specs.Changes.{IsPathOf, Leads}
-use Rattle.md_judge.specs.Copies.{copies_of}
+use Rattle.md_judge.specs.Acts.{IsPathOf, Leads}
+use Rattle.md_judge.specs.Mailed.{copies_of, count_of, WasOf, TellsMail, IsPathThere, IsCopyBy}
 use Rattle.md_judge.specs.Files.{unique_in, is_trashed_in}
 use Rattle.md_clauses.specs.Found.{Notes, NotesOne}
 use Rattle.md_judge.specs.Known.{EachPath, EachSpot}
@@ -25,7 +25,6 @@ use Rattle.md_judge.specs.Law.{turn, Gone}
 use Rattle.md_judge.specs.Listings.{message_of}
 use Rattle.md_judge.specs.Logs.{Log}
 use Rattle.md_judge.specs.Filed.{HoldsOf}
-use Rattle.md_judge.specs.Mailed.{count_of, WasOf, TellsMail, IsPathThere, IsCopyBy}
 use Rattle.md_judge.specs.Messages.{IsTaking, BrokenByTaking}
 use Rattle.md_judge.specs.Recalled.{IsSpotOf}
 use Rattle.md_judge.specs.Told.{at, is_tmp, is_message, IsThere}

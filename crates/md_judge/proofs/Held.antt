@@ -16,14 +16,12 @@ use Rattle.md_clauses.specs.declared.claims.Held.{Held}
 use Rattle.md_judge.specs.declared.judge.known.Known.{Known}
 use Rattle.md_judge.specs.declared.judge.tables.Names.{Names}
 use Rattle.md_judge.specs.Claims.{HasFlags, IsLastMoment, RecallsHeld, RecallsSo}
-use Rattle.md_judge.specs.Held.{held_both, held_at, held_in, spot_by, held_by, held_said}
+use Rattle.md_judge.specs.Said.{held_both, held_at, held_in, spot_by, held_by, held_said}
 use Rattle.md_judge.specs.Law.{turn}
-use Rattle.md_judge.specs.Known.{file_in}
-use Rattle.md_judge.specs.Listings.{IsIn}
+use Rattle.md_judge.specs.Known.{file_in, was_in, IsKnownAt}
+use Rattle.md_judge.specs.Listings.{IsIn, IsHere, RecallsWas}
 use Rattle.md_judge.specs.Logs.{Log}
-use Rattle.md_judge.specs.Moments.{was_in, IsKnownAt}
 use Rattle.md_judge.specs.Names.{StandFor, IsNumber, AreNumbered, AreMarked, alike_in}
-use Rattle.md_judge.specs.Readings.{IsHere, RecallsWas}
 use Rattle.md_judge.specs.Recalled.{IsSpotOf, IsToldAt}
 use Rattle.md_judge.specs.Told.{at, is_tmp, IsOf, IsMessageAt}
 use Rattle.md_judge.proofs.Claiming.{up}

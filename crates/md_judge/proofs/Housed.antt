@@ -8,7 +8,7 @@ use Rattle.std.proofs.lemmas.Result.{IfOk-at_ok}
 use Rattle.md_dirs.specs.State.{State, has_folder, file_at}
 use Rattle.md_dirs.specs.declared.paths.Path.{Path}
 use Rattle.md_log.specs.declared.error.LineFault.{LineFault}
-use Rattle.md_log.specs.declared.error.LineFault.TheVariants.{UnknownFolder, BadFlags, BadReply, SamePath, NoSuchPath}
+use Rattle.md_log.specs.declared.error.LineFault.TheVariants.{BadLine, UnknownFolder, BadFlags, SamePath, NoSuchPath}
 use Rattle.md_log.specs.declared.line.Call.{Call}
 use Rattle.md_log.specs.declared.line.Call.TheVariants as call
 use Rattle.md_log.specs.declared.line.Deed.{Deed}
@@ -19,10 +19,11 @@ use Rattle.md_log.specs.declared.line.Naming.{Naming}
 use Rattle.md_log.specs.declared.line.Naming.TheVariants as naming
 use Rattle.md_log.specs.declared.line.Said.{Said}
 use Rattle.md_log.specs.declared.line.Step.{Step}
-use Rattle.md_log.specs.Answers.{bare_of, about_line, flags_line, moved_line, bare_line, answer_line}
+use Rattle.md_log.specs.Answers.{about_line, flags_line, moved_line, answer_line}
 use Rattle.md_text.specs.Bind.{◌>>=◌, require}
-use Rattle.md_log.specs.Calls.{reply_at, may_answer_at, may_answer_between, may_answer_list, at_line, between_line, list_line, verb_of, call_line, step_line}
-use Rattle.md_log.specs.Folders.{place_of, with_folder, folder_of}
+use Rattle.md_log.specs.Calls.{is_create, is_link, reply_at, at_line, between_line, list_line, call_line, step_line}
+use Rattle.md_log.specs.Folders.{with_folder, folder_of}
+use Rattle.md_text.specs.Folders.{place_of}
 use Rattle.md_log.specs.Heads.{head_of, allowed_by, folder_line, allow_line, file_line, also_line}
 use Rattle.md_log.specs.Lines.{line_by, line_of}
 use Rattle.md_log.specs.Names.{name_of, unique_name_of, names_at}
@@ -31,7 +32,7 @@ use Rattle.md_log.specs.Texts.{clause_named}
 use Rattle.md_log.specs.Ticks.{when_of}
 use Rattle.md_text.specs.Words.{Rest}
 use Rattle.md_text.specs.Flags.{flags_in}
-use Rattle.md_log.specs.Words.{word_at, piece_at, end_at, number_of}
+use Rattle.md_log.specs.Words.{word_at, parted, end_at, number_of}
 use Rattle.md_judge.specs.Logs.{Log, Numbered, with_line, with_folder_line, with_file_line, with_also_line}
 use Rattle.md_judge.specs.Recalled.{HasFolders}
 use Rattle.md_judge.specs.Told.{Moment, after_step, after_call, at}
@@ -80,7 +81,7 @@ module _ (folders : List (List ℕ)) (s : State) (same : s.folders ≡ length fo
   path-housed : (rest : Rest) → IfOk (path_at folders rest) IsPath
   unfolding path_at
   path-housed rest =
-      then-so IsPath (word_at rest) _ (λ word. then-so IsPath (piece_at word.0) _ (λ first. then-so IsPath (piece_at first.1) _ (λ second.
+      then-so IsPath (word_at rest) _ (λ word. then-so IsPath (parted 47 BadLine word.0) _ (λ first. then-so IsPath (parted 47 BadLine first.1) _ (λ second.
       so-then IsFolder IsPath (folder_of folders first.0) _ (folder-housed first.0) (λ folder low. then-so IsPath (directory_of second.0) _ (λ place.
       then-so IsPath (name_of second.1) _ (λ name. low))))))
 
@@ -91,16 +92,15 @@ module _ (folders : List (List ℕ)) (s : State) (same : s.folders ≡ length fo
   at-housed : (d : Deed) (rest : Rest) → IfOk (at_line folders d rest) Housed
   unfolding at_line
   at-housed d rest =
-      so-then IsPath Housed (path_at folders rest) _ (path-housed rest) (λ path there. then-so Housed (reply_at path.1) _ (λ answer.
-      then-so Housed (require (may_answer_at d answer.0) BadReply) _ (λ _. then-so Housed (end_at answer.1) _ (λ _. there))))
+      so-then IsPath Housed (path_at folders rest) _ (path-housed rest) (λ path there.
+      then-so Housed (reply_at (is_create d) false path.1) _ (λ answer. then-so Housed (end_at answer.1) _ (λ _. there)))
 
   between-housed : (n : Naming) (rest : Rest) → IfOk (between_line folders n rest) Housed
   unfolding between_line
   between-housed n rest =
       so-then IsPath Housed (path_at folders rest) _ (path-housed rest) (λ old there.
       so-then IsPath Housed (path_at folders old.1) _ (path-housed old.1) (λ new there-too.
-      then-so Housed (reply_at new.1) _ (λ answer. then-so Housed (require (may_answer_between n answer.0) BadReply) _ (λ _.
-      then-so Housed (end_at answer.1) _ (λ _. (there, there-too))))))
+      then-so Housed (reply_at (is_link n) false new.1) _ (λ answer. then-so Housed (end_at answer.1) _ (λ _. (there, there-too)))))
 
   list-housed : (rest : Rest) → IfOk (list_line folders rest) Housed
   unfolding list_line
@@ -108,8 +108,7 @@ module _ (folders : List (List ℕ)) (s : State) (same : s.folders ≡ length fo
       then-so Housed (word_at rest) _ (λ first.
       so-then IsFolder Housed (folder_of folders first.0) _ (folder-housed first.0) (λ folder low. then-so Housed (word_at first.1) _ (λ second.
       then-so Housed (directory_of second.0) _ (λ place.
-      then-so Housed (reply_at second.1) _ (λ answer. then-so Housed (require (may_answer_list answer.0) BadReply) _ (λ _.
-      then-so Housed (names_at answer.1) _ (λ shown. low)))))))
+      then-so Housed (reply_at false true second.1) _ (λ answer. then-so Housed (names_at answer.1) _ (λ shown. low))))))
 
   about-housed : (answer : Said) (rest : Rest) → IfOk (about_line folders answer rest) Housed
   unfolding about_line
@@ -118,35 +117,34 @@ module _ (folders : List (List ℕ)) (s : State) (same : s.folders ≡ length fo
       then-so Housed (unique_name_of second.0) _ (λ unique. then-so Housed (end_at second.1) _ (λ _. tt)))))
 
   flags-housed : (rest : Rest) → IfOk (flags_line folders rest) Housed
-  unfolding flags_line
   flags-housed rest = then-so Housed (word_at rest) _ (λ word. then-so Housed (ok_or (flags_in word.0) BadFlags) _ (λ flags. about-housed _ word.1))
 
   moved-housed : (rest : Rest) → IfOk (moved_line folders rest) Housed
-  unfolding moved_line
   moved-housed rest = then-so Housed (word_at rest) _ (λ word. then-so Housed (folder_of folders word.0) _ (λ to. about-housed _ word.1))
-
-  bare-housed : (first : List ℕ) (rest : Rest) → IfOk (bare_line folders first rest) Housed
-  unfolding bare_line
-  bare-housed first rest = then-so Housed (bare_of first) _ (λ answer. about-housed answer rest)
 
   answer-housed : (rest : Rest) → IfOk (answer_line folders rest) Housed
   unfolding answer_line
   answer-housed rest = then-so Housed (word_at rest) _ (λ first.
       either Housed (bytes_eq first.0 (codes "flags")) _ _ (flags-housed first.1)
-      (either Housed (bytes_eq first.0 (codes "moved")) _ _ (moved-housed first.1) (bare-housed first.0 first.1)))
+      (either Housed (bytes_eq first.0 (codes "moved")) _ _ (moved-housed first.1)
+      (either Housed (bytes_eq first.0 (codes "delivered")) _ _ (about-housed _ first.1)
+      (either Housed (bytes_eq first.0 (codes "expunged")) _ _ (about-housed _ first.1)
+      (either Housed (bytes_eq first.0 (codes "done")) _ _ (about-housed _ first.1)
+      (either Housed (bytes_eq first.0 (codes "failed")) _ _ (about-housed _ first.1)
+      (either Housed (bytes_eq first.0 (codes "notthere")) _ _ (about-housed _ first.1) tt)))))))
 
-  -- the words after a step's third word
-  verb-housed : (word : List ℕ) → IfOk (verb_of word) (λ v. (rest : Rest) → IfOk (call_line folders v rest) Housed)
-  unfolding verb_of
-  verb-housed word =
-      either _ (bytes_eq word (codes "create")) _ _ (at-housed deed.Create)
-      (either _ (bytes_eq word (codes "write")) _ _ (at-housed deed.Write)
-      (either _ (bytes_eq word (codes "flush")) _ _ (at-housed deed.Flush)
-      (either _ (bytes_eq word (codes "unlink")) _ _ (at-housed deed.Unlink)
-      (either _ (bytes_eq word (codes "link")) _ _ (between-housed naming.Link)
-      (either _ (bytes_eq word (codes "rename")) _ _ (between-housed naming.Rename)
-      (either _ (bytes_eq word (codes "list")) _ _ list-housed
-      (either _ (bytes_eq word (codes "answer")) _ _ answer-housed tt)))))))
+  -- the words after a step's actor
+  call-housed : (rest : Rest) → IfOk (call_line folders rest) Housed
+  unfolding call_line
+  call-housed rest = then-so Housed (word_at rest) _ (λ verb.
+      either _ (bytes_eq verb.0 (codes "create")) _ _ (at-housed deed.Create verb.1)
+      (either _ (bytes_eq verb.0 (codes "write")) _ _ (at-housed deed.Write verb.1)
+      (either _ (bytes_eq verb.0 (codes "flush")) _ _ (at-housed deed.Flush verb.1)
+      (either _ (bytes_eq verb.0 (codes "unlink")) _ _ (at-housed deed.Unlink verb.1)
+      (either _ (bytes_eq verb.0 (codes "link")) _ _ (between-housed naming.Link verb.1)
+      (either _ (bytes_eq verb.0 (codes "rename")) _ _ (between-housed naming.Rename verb.1)
+      (either _ (bytes_eq verb.0 (codes "list")) _ _ (list-housed verb.1)
+      (either _ (bytes_eq verb.0 (codes "answer")) _ _ (answer-housed verb.1) tt))))))))
 
   abbrev IsStepHoused : Step → Type 0
   IsStepHoused x = HasFolders s x.call
@@ -155,9 +153,7 @@ module _ (folders : List (List ℕ)) (s : State) (same : s.folders ≡ length fo
   unfolding step_line
   step-line-housed first rest =
       then-so IsStepHoused (when_of first) _ (λ when. then-so IsStepHoused (word_at rest) _ (λ actor.
-      then-so IsStepHoused (word_at actor.1) _ (λ third.
-      so-then (λ v. (rest : Rest) → IfOk (call_line folders v rest) Housed) IsStepHoused (verb_of third.0) _ (verb-housed third.0) (λ v so.
-      so-then Housed IsStepHoused (call_line folders v third.1) _ (so third.1) (λ c there. there)))))
+      so-then Housed IsStepHoused (call_line folders actor.1) _ (call-housed actor.1) (λ c there. there)))
 
   -- the folders of a line's paths are there
   abbrev IsLineHoused : Line → Type 0

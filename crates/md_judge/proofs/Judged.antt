@@ -21,9 +21,8 @@ use Rattle.md_clauses.specs.declared.found.Found.{Found}
 use Rattle.md_judge.specs.declared.judge.known.Act.{Act}
 use Rattle.md_judge.specs.declared.judge.known.Known.{Known}
 use Rattle.md_judge.specs.declared.judge.tables.Names.{Names}
-use Rattle.md_judge.specs.Acts.{Does}
-use Rattle.md_judge.specs.Changes.{IsPathOf, Leads}
-use Rattle.md_judge.specs.Filed.{IsSeenBy, IsSeenTimes, IsFiled, HasFiles, AreFiled, IsJudged, BrokenByFiles}
+use Rattle.md_judge.specs.Acts.{Does, IsPathOf, Leads}
+use Rattle.md_judge.specs.Filed.{IsSeenBy, IsSeenTimes, IsFiled, HasFiles, AreFiled, IsJudged, BrokenByFiles, Acts, IsMadeBy, Recalls, RecallsLeft, IsAt, IsChange, BrokenAt, BrokenByChange}
 use Rattle.md_clauses.specs.Facts.{made}
 use Rattle.md_clauses.specs.Changes.{named_by}
 use Rattle.md_judge.specs.Files.{facts_at, AtStep, CallStep, ChangeStep}
@@ -32,7 +31,6 @@ use Rattle.md_judge.specs.Known.{EachPath, EachSpot, files_after}
 use Rattle.md_judge.specs.Law.{Turn, turn}
 use Rattle.md_judge.specs.Logs.{Log}
 use Rattle.md_judge.specs.Recalled.{IsSpotOf}
-use Rattle.md_judge.specs.Recalls.{Acts, IsMadeBy, Recalls, RecallsLeft, IsAt, IsChange, BrokenAt, BrokenByChange}
 use Rattle.md_judge.specs.Told.{ask_at, after_call, moment, at, is_message, IsStep, IsSeen, IsUnflushed, IsCut}
 use Rattle.md_judge.proofs.Acting.{done-none}
 use Rattle.md_judge.proofs.Afters.{at-files, between-files, after-cases, append-paths}

@@ -13,11 +13,10 @@ use Rattle.md_clauses.specs.Found.{Has}
 use Rattle.md_judge.specs.Law.{turn, Breaks, NotADirectory}
 use Rattle.md_judge.specs.Logs.{Log, Numbered}
 use Rattle.md_judge.specs.Orders.{IsFindingIn}
-use Rattle.md_judge.specs.Ordered.{AreEarlier, AreInOrder}
+use Rattle.md_judge.specs.Verdict.{AreEarlier, AreInOrder, Remembers, AreLinesOf, AddsFinding}
 use Rattle.md_judge.specs.Placed.{AreInOrderAtLines, AreBelowAtLine, MayComeNext, HasLines, HasJudged, with_next}
 use Rattle.md_judge.specs.Recalled.{HasFolders}
 use Rattle.md_judge.specs.Told.{at}
-use Rattle.md_judge.specs.Verdict.{Remembers, AreLinesOf, AddsFinding}
 use Rattle.md_judge.proofs.Housed.{folders-stay}
 use Rattle.md_judge.proofs.InOrder.{order-longer, same-longer, found-longer, order-next, same-next, stands-last, found-next, fits-next}
 use Rattle.md_judge.proofs.Reopened.{one-more}

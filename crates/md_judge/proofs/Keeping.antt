@@ -42,12 +42,6 @@ kept-none o s p is over = (
   λ n. ap (λ (x : Option Listing). shows_of x p n) is ∙ sym (over.shows n),
 )
 
--- that an actor looked changes no reading
-pub looked-same : (s : Listing) (o : Option ℕ) (p : Place) → reading_of (record s { looked = o }) p ≡ reading_of s p
-looked-same s o Tmp = refl
-looked-same s o New = refl
-looked-same s o Cur = refl
-
 pub kept-looked : (k : Option Listing) (s : Listing) (o : Option ℕ) (p : Place) → IsKept k s p → IsKept k (record s { looked = o }) p
 kept-looked k s o Tmp is = is
 kept-looked k s o New is = is

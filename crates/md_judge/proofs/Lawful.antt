@@ -20,10 +20,10 @@ use Rattle.md_judge.specs.declared.judge.tables.Names.{Names}
 use Rattle.md_judge.specs.Logs.{Log}
 use Rattle.md_judge.specs.Told.{at, moment, is_message, IsSeen, IsMaker}
 use Rattle.md_judge.specs.Law.{turn, Writes, BeginsToBeSeen, Leaves}
-use Rattle.md_judge.specs.Changes.{IsPathOf}
+use Rattle.md_judge.specs.Acts.{IsPathOf}
 use Rattle.md_clauses.specs.Changes.{named_by, turned_by}
 use Rattle.md_judge.specs.Files.{facts_at, is_message_in, WriteFinds, AtFinds, NamedFinds, NameFinds, LeftFinds, LeaveFinds, ChangeFinds}
-use Rattle.md_judge.specs.Recalls.{IsBy, Acts, IsMadeBy, Recalls, RecallsMaker, RecallsLeft, IsAt, IsChange, BrokenAt, BrokenByChange}
+use Rattle.md_judge.specs.Filed.{IsBy, Acts, IsMadeBy, Recalls, RecallsMaker, RecallsLeft, IsAt, IsChange, BrokenAt, BrokenByChange}
 use Rattle.md_judge.proofs.Named.{now-names, names-now, now-leaves, leaves-now}
 
 -- a number that is not above 0

@@ -1,5 +1,5 @@
 -- What is kept of an actor's spans, as lines of its come and as it answers.
-use Rattle.std.proofs.Common.{ℕ, ◌≡◌, ◌≢◌, ◌↔◌, ◌⊎◌, inl, inr, Bool, true, false, ◌&&◌, Option, Some, None, slice_get, refl, sym, ap, subst, ◌∙◌}
+use Rattle.std.proofs.Common.{ℕ, ◌≡◌, ◌≢◌, ◌↔◌, ◌⊎◌, inl, inr, Bool, true, false, ◌&&◌, Option, Some, None, refl, sym, ap, subst, ◌∙◌}
 use Rattle.std.specs.Prelude.{unwrap_or, if◌then◌else◌, ◌==◌}
 use Rattle.std.specs.Option.{option_or}
 use Rattle.std.proofs.lemmas.Bool.{eqb-true, eq-eqb, false≢true, and_parts}
@@ -14,7 +14,7 @@ use Rattle.md_judge.proofs.Reopened.{one-number}
 use Rattle.md_clauses.specs.declared.about.About.{About}
 use Rattle.md_judge.specs.declared.judge.about.Actors.{Actors}
 use Rattle.md_judge.specs.declared.judge.about.Lines.{Lines}
-use Rattle.md_judge.specs.Actors.{kept, Puts, IsOther, no_about, done_by, no_lines, lines_of, is_about, begun_by, looked_of, looked_by, IsAnswered, SameAct, KeepsActs, NotesAct, NotesLook, Tells, PutsAbout}
+use Rattle.md_judge.specs.Actors.{kept, Puts, IsOther, no_about, done_by, lines_of, is_about, begun_by, looked_of, looked_by, IsAnswered, SameAct, KeepsActs, NotesAct, NotesLook, Tells, PutsAbout}
 
 -- what is kept of a span, by the line that is kept for the message and the actor's lines
 abbrev pub begun_in : Option ℕ → Lines → ℕ × ℕ → Option ℕ
@@ -46,13 +46,6 @@ one-key a k b m = elim (one-number a b) [
   where
     both : k.0 ≡ m.0 → k.1 ≡ m.1 → k ≡ m
     both one two = λ i. (one i, two i)
-
--- a line begins a span where none goes on
-pub line-begun : (b : Bool) (o first : Option ℕ) (at : ℕ)
-    → option_or (if b then Some at else o) (Some (unwrap_or first at)) ≡ Some (unwrap_or (if b then None else option_or o first) at)
-line-begun true o first at = refl
-line-begun false None first at = refl
-line-begun false (Some n) first at = refl
 
 -- a value that is put is that of its message, and others stay
 pub put-about : {V : Type 0} (actor : ℕ) (key : ℕ × ℕ) (v : V) (old new : ℕ → ℕ × ℕ → Option V) → Puts actor key (Some v) old new → (k : ℕ × ℕ)
@@ -109,15 +102,6 @@ module _ (old new : Actors) (actor : ℕ) (key : ℕ × ℕ) (about : Puts actor
 
 -- ---- what an actor did
 
-pub puts-about : (old new : Actors) (actor : ℕ) (key : ℕ × ℕ) (about : About) → Puts actor key (Some about) (kept old.about) (kept new.about)
-    → new.begun ≡ old.begun → new.lines ≡ old.lines → PutsAbout actor key about old new
-puts-about old new actor key about puts begun lines = record {
-  here = ap (λ (o : Option About). unwrap_or o no_about) puts.here;
-  others = λ a k other. ap (λ (o : Option About). unwrap_or o no_about) (puts.others a k other);
-  begun = λ a k. ap (λ (l : Lines). begun_in (kept new.begun a k) l k) (ap (λ ls. unwrap_or (slice_get ls.items a) no_lines) lines)
-      ∙ ap (λ p. begun_in (kept p a k) (lines_of old a) k) begun;
-}
-
 -- what is kept of an actor's readings of a folder alone changes
 pub notes-look : (actor folder line : ℕ) (old new : Listings) → looked_by new actor folder ≡ Some line
     → ((q : ℕ × ℕ) → is_eq (message_cmp (actor, folder) q) ≡ false → get message_cmp new q ≡ get message_cmp old q) → NotesLook actor folder line old new
@@ -131,9 +115,6 @@ notes-look actor folder line old new here others = record {
     away a f apart false is = refl
 
 -- ---- several changes
-
-pub acts-same : (a : Actors) → KeepsActs a a
-acts-same a = record { begun = λ n k. refl; acts = λ n k. (refl, refl) }
 
 pub acts-then : (a b c : Actors) → KeepsActs a b → KeepsActs b c → KeepsActs a c
 acts-then a b c one two = record {

@@ -1,15 +1,13 @@
 -- What is kept of messages and of their times is what the check of complete listings goes by.
-use Rattle.std.proofs.Common.{ℕ, ◌≡◌, ◌↔◌, ◌<◌, inl, inr, List, [], Some, get_or, slice_get, length, sym, ap, subst, ◌∙◌, arith}
+use Rattle.std.proofs.Common.{ℕ, ◌≡◌, ◌↔◌, ◌<◌, inl, inr, List, [], Some, get_or, slice_get, length, ap, arith}
 use Rattle.std.proofs.lemmas.Bool.{cases_lt}
 use Rattle.std.proofs.lemmas.Option.{slice_get-get_or}
 use Rattle.md_judge.specs.declared.judge.mail.Mail.{Mail}
 use Rattle.md_judge.specs.declared.judge.tables.Names.{Names}
-use Rattle.md_judge.specs.Gathered.{IsMailTold}
-use Rattle.md_judge.specs.Listings.{message_of, RecalledTimes}
+use Rattle.md_judge.specs.Open.{IsMailTold}
+use Rattle.md_judge.specs.Listings.{message_of}
 use Rattle.md_judge.specs.Logs.{Log}
-use Rattle.md_judge.specs.Mailed.{count_of, IsPathThere, AreMailed, ArePresent}
-use Rattle.md_judge.specs.Names.{GrowsUniques}
-use Rattle.md_judge.specs.Timed.{AreTimed}
+use Rattle.md_judge.specs.Mailed.{count_of, IsPathThere, AreMailed, ArePresent, AreTimed}
 use Rattle.md_judge.specs.Told.{at, IsThere}
 use Rattle.md_judge.proofs.Counting.{counted-some}
 
@@ -40,17 +38,3 @@ mail-told line names l i folder mail mailed timed present same there =
       ];
       recalls = λ u unique number in_it. timed folder u unique number;
     }
-
--- numbers stand for the unique names that they stood for
-pub mail-grows : (line : ℕ → ℕ) (old new : Names) (l : Log) (i folder : ℕ) (mail : Mail) → GrowsUniques old new
-    → IsMailTold line old l i folder mail → IsMailTold line new l i folder mail
-mail-grows line old new l i folder mail grows is = record {
-  apart = grows.apart is.apart;
-  here = λ unique there. let u = is.here unique there in (u.0, grows.keeps unique u.0 u.1, u.2);
-  known = λ u in_it. let had = is.known u in_it in (had.0, grows.keeps had.0 u had.1);
-  recalls = λ u unique number in_it.
-      let had = is.known u in_it in
-      let both : Some had.0 ≡ Some unique = sym (grows.keeps had.0 u had.1) ∙ number in
-      let same : had.0 ≡ unique = cc both in
-      subst (λ (v : List ℕ). RecalledTimes line (λ j. IsThere (at l j) folder v) i (message_of mail folder u)) same (is.recalls u had.0 had.1 in_it);
-}

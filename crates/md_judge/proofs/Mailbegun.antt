@@ -11,13 +11,12 @@ use Rattle.md_clauses.specs.declared.changes.Change.{Change}
 use Rattle.md_clauses.specs.declared.changes.Spot.{Spot}
 use Rattle.md_judge.specs.declared.judge.mail.Mail.{Mail}
 use Rattle.md_judge.specs.declared.judge.tables.Names.{Names}
-use Rattle.md_judge.specs.Changes.{Leads}
-use Rattle.md_judge.specs.Copies.{copies_of}
+use Rattle.md_judge.specs.Acts.{Leads}
+use Rattle.md_judge.specs.Mailed.{copies_of, TellsMail, AddAt}
 use Rattle.md_judge.specs.Files.{unique_in}
 use Rattle.md_judge.specs.Law.{turn, TwoNames, Gone, UsedAgain}
 use Rattle.md_judge.specs.Listings.{message_of}
 use Rattle.md_judge.specs.Logs.{Log, Numbered, empty_log}
-use Rattle.md_judge.specs.Mailed.{TellsMail, AddAt}
 use Rattle.md_judge.specs.Names.{AreMarked}
 use Rattle.md_judge.specs.Recalled.{IsSpotOf}
 use Rattle.md_judge.specs.Told.{Moment, at}

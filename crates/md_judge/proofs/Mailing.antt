@@ -10,13 +10,12 @@ use Rattle.md_clauses.specs.declared.changes.Spot.{Spot}
 use Rattle.md_judge.specs.declared.judge.mail.Mail.{Mail}
 use Rattle.md_judge.specs.declared.judge.mail.Message.{Message}
 use Rattle.md_judge.specs.declared.judge.tables.Names.{Names}
-use Rattle.md_judge.specs.Changes.{IsPathOf, IsTurnOf, Leads}
-use Rattle.md_judge.specs.Copies.{copies_of}
+use Rattle.md_judge.specs.Acts.{IsPathOf, IsTurnOf, Leads}
+use Rattle.md_judge.specs.Mailed.{copies_of, count_of, WasOf, IsPathThere, IsCopyBy, Moves, MovesOne, Recounts, one_more, one_fewer, AddAt, AddStep, TurnAt, TurnStep, TakeAt, TakeStep, MakeStep}
 use Rattle.md_judge.specs.Files.{unique_in}
 use Rattle.md_judge.specs.Filed.{HoldsOf}
 use Rattle.md_judge.specs.Known.{EachPath, EachTurned, EachSpot}
 use Rattle.md_judge.specs.Listings.{message_of}
-use Rattle.md_judge.specs.Mailed.{count_of, WasOf, IsPathThere, IsCopyBy, Moves, MovesOne, Recounts, one_more, one_fewer, AddAt, AddStep, TurnAt, TurnStep, TakeAt, TakeStep, MakeStep}
 use Rattle.md_judge.specs.Recalled.{IsSpotOf}
 use Rattle.md_judge.specs.Told.{is_message, IsOf}
 use Rattle.md_judge.specs.Words.{AreApart}

@@ -8,11 +8,10 @@ use Rattle.md_clauses.specs.declared.changes.Spot.{Spot}
 use Rattle.md_judge.specs.declared.judge.mail.Mail.{Mail}
 use Rattle.md_judge.specs.declared.judge.pairs.Pairs.{Pairs}
 use Rattle.md_judge.specs.declared.judge.tables.Names.{Names}
-use Rattle.md_judge.specs.Actors.{kept, done_by, no_about, PutsAbout}
+use Rattle.md_judge.specs.Actors.{kept, done_by, no_about, PutsAbout, IsOfMessage, IsOfMissing, OnPath, OnTurned, ChangesPaths, Unlinks, KeepsDeeds, Marks, MarksDeeds, MarksChange, nothing}
 use Rattle.md_judge.specs.Files.{unique_in}
 use Rattle.md_judge.specs.Listings.{message_of}
 use Rattle.md_judge.specs.Mailed.{count_of}
-use Rattle.md_judge.specs.Marks.{IsOfMessage, IsOfMissing, OnPath, OnTurned, ChangesPaths, Unlinks, KeepsDeeds, Marks, MarksDeeds, MarksChange, nothing}
 use Rattle.md_judge.proofs.Lined.{one-key}
 
 -- a mark that was set, or is set where a test holds

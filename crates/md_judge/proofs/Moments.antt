@@ -3,9 +3,8 @@ use Rattle.std.proofs.Common.{ℕ, ◌≡◌, ◌<◌, ◌+◌, ◌^◌, true, f
 use Rattle.md_clauses.specs.declared.changes.Spot.{Spot}
 use Rattle.md_judge.specs.declared.judge.directories.Directory.{Directory}
 use Rattle.md_clauses.specs.declared.changes.Change.{Change}
-use Rattle.md_judge.specs.Known.{number_at, is_same_spot, after_put, after_spot_added, after_spot_taken, EachPath, EachTurned}
-use Rattle.md_clauses.specs.Moments.{kept_moment}
-use Rattle.md_judge.specs.Moments.{since_in, was_in, PutsMoments, since_turned, MakesMoments}
+use Rattle.md_judge.specs.Known.{number_at, is_same_spot, after_put, after_spot_added, after_spot_taken, EachPath, EachTurned, since_in, was_in, PutsMoments, since_turned, MakesMoments}
+use Rattle.md_clauses.specs.Befores.{kept_moment}
 use Rattle.md_judge.proofs.Following.{same-spot}
 use Rattle.std.specs.Option.{option_map}
 
@@ -34,9 +33,6 @@ kept old s q = elim (is_same_spot s q) as (λ b. is_same_spot s q ≡ b → cond
 ] refl
 
 module _ (old new : List Directory) where
-  housed : (s : Spot) → length new ≡ length old → number_at s < length old → number_at s < length new
-  housed s many low = omega (arith, many, low)
-
   takes_many : (line : ℕ) (t : Option (Spot × ℕ)) → Takes line t old new → length new ≡ length old
   takes_many line None same = ap length same
   takes_many line (Some t) sets = sets.1

@@ -5,7 +5,7 @@ use Rattle.md_dirs.specs.State.{State, file_at}
 use Rattle.md_dirs.specs.declared.paths.Path.{Path}
 use Rattle.md_clauses.specs.declared.changes.Spot.{Spot}
 use Rattle.md_clauses.specs.declared.changes.Change.{Change}
-use Rattle.md_judge.specs.Changes.{IsPathOf, IsTurnOf, Leads}
+use Rattle.md_judge.specs.Acts.{IsPathOf, IsTurnOf, Leads}
 use Rattle.md_clauses.specs.Changes.{named_of, named_by, turned_by}
 
 module _ (path : Spot → Path) (c : Change) (s s' : State) (leads : Leads path c s s') (p : Path) (n : ℕ) where

@@ -17,14 +17,13 @@ use Rattle.md_clauses.specs.declared.changes.Spot.{Spot}
 use Rattle.md_clauses.specs.declared.facts.FileFacts.{FileFacts}
 use Rattle.md_judge.specs.declared.judge.files.Filed.{Filed}
 use Rattle.md_judge.specs.declared.judge.tables.Names.{Names}
-use Rattle.md_judge.specs.Changes.{Leads}
-use Rattle.md_judge.specs.Filed.{IsSeenBy, IsSeenTimes, IsFiled, HasFiles, AreFiled}
+use Rattle.md_judge.specs.Acts.{Leads}
+use Rattle.md_judge.specs.Filed.{IsSeenBy, IsSeenTimes, IsFiled, HasFiles, AreFiled, IsBy, IsMadeBy}
 use Rattle.md_clauses.specs.Facts.{made}
 use Rattle.md_judge.specs.Files.{named, facts_at, Changes, Adds, ChangeStep}
 use Rattle.md_judge.specs.Known.{EachSpot}
 use Rattle.md_judge.specs.Logs.{Log, Numbered, empty_log, with_file_line, with_also_line}
 use Rattle.md_judge.specs.Recalled.{IsSpotOf}
-use Rattle.md_judge.specs.Recalls.{IsBy, IsMadeBy}
 use Rattle.md_judge.specs.Told.{Moment, at, WasInCur}
 use Rattle.md_judge.proofs.Alike.{filed-alike}
 use Rattle.md_judge.proofs.Changing.{adds, never}

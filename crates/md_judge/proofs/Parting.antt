@@ -24,13 +24,11 @@ use Rattle.md_judge.specs.declared.judge.directories.Named as named
 use Rattle.md_judge.specs.declared.judge.known.Known.{Known}
 use Rattle.md_judge.specs.declared.judge.listing.Reading.{Reading}
 use Rattle.md_judge.specs.declared.judge.tables.Names.{Names}
-use Rattle.md_judge.specs.Known.{file_of_name}
-use Rattle.md_judge.specs.Listings.{IsIn}
+use Rattle.md_judge.specs.Known.{file_of_name, since_of, since_in}
+use Rattle.md_judge.specs.Listings.{IsIn, was_of, IsHere, RecallsWas, IsPartOf}
 use Rattle.md_judge.specs.Logs.{Log}
-use Rattle.md_judge.specs.Moments.{since_of, since_in}
 use Rattle.md_judge.specs.Names.{IsNumber}
 use Rattle.md_judge.specs.Open.{AreNumbersOf, IsToldPart}
-use Rattle.md_judge.specs.Readings.{was_of, IsHere, RecallsWas, IsPartOf}
 use Rattle.md_judge.specs.Recalled.{spot_of}
 use Rattle.md_judge.specs.Told.{at, IsReading, Shows}
 use Rattle.md_judge.proofs.Decided.{Either, has-name}

@@ -22,7 +22,7 @@ use Rattle.md_judge.specs.declared.judge.listing.Reading.{Reading}
 use Rattle.md_judge.specs.Logs.{Log}
 use Rattle.md_judge.specs.Told.{at, IsReading, Shows}
 use Rattle.md_judge.specs.Law.{Turn, turn, ShowsWrongly, Lacks, IsWrongReading, IsWrongCall}
-use Rattle.md_judge.specs.Readings.{was_since, shown_wrongly, is_lacked, lacked, wrong_name, PartFinds, IsPartOf, BrokenByPart}
+use Rattle.md_judge.specs.Listings.{was_since, shown_wrongly, is_lacked, lacked, wrong_name, PartFinds, IsPartOf, BrokenByPart}
 use Rattle.md_judge.proofs.Listed.{found_is, is_found}
 use Rattle.md_judge.proofs.Reading.{kept-since, never, always}
 

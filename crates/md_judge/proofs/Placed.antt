@@ -16,10 +16,9 @@ use Rattle.md_judge.specs.declared.session.Session.{Session}
 use Rattle.md_judge.specs.declared.stretch.Stretch.{Stretch}
 use Rattle.md_judge.specs.Logs.{Log, Numbered, with_line}
 use Rattle.md_judge.specs.Orders.{AreFoundInOrder, IsFindingIn}
-use Rattle.md_judge.specs.Ordered.{AreEarlier, AreInOrder}
+use Rattle.md_judge.specs.Verdict.{AreEarlier, AreInOrder, Remembers, IsAmong, HasRead, KeepsHead}
 use Rattle.md_judge.specs.Placed.{IsUnplaced, AddsWaiting, AreInOrderAtLines, AreBelowAtLine, AreWaiting, MayComeNext, HasWaiting, HasPlaced, HasSettled, with_next}
 use Rattle.md_judge.specs.Recalled.{HasFolders}
-use Rattle.md_judge.specs.Verdict.{Remembers, IsAmong, HasRead, KeepsHead}
 use Rattle.md_judge.proofs.Judging.{Tells, Finds, judged-next, judged-longer, lines-longer}
 use Rattle.md_judge.proofs.Placing.{judged-on, no-more, waits-on}
 use Rattle.md_judge.proofs.Prefixes.{finding-none}

@@ -12,8 +12,7 @@ use Rattle.md_clauses.specs.Found.{Has}
 use Rattle.md_judge.specs.Law.{IsAllowed}
 use Rattle.md_judge.specs.Logs.{Log, Numbered}
 use Rattle.md_judge.specs.Orders.{AreOfOneStretch, MayComeFirst, IsFindingIn}
-use Rattle.md_judge.specs.Ordered.{AreInOrder}
-use Rattle.md_judge.specs.Verdict.{Remembers, IsAmong}
+use Rattle.md_judge.specs.Verdict.{AreInOrder, Remembers, IsAmong}
 use Rattle.md_judge.specs.Placed.{ticks_of, KeepsTicks, TakesAt, AreInOrderAtLines, AreWaiting, IsNextStep, HasLines, HasJudged, HasWaiting, HasSettled, with_next}
 use Rattle.md_judge.proofs.Reopened.{one-more}
 use Rattle.std.proofs.lemmas.List.{length_push}
@@ -26,50 +25,6 @@ pub record AreKeptTo (steps : List (Option Waiting)) (order : List ℕ) (k lates
   pub begun : (a i : ℕ) (t : Ticks) → a < k → slice_get order a ≡ Some i → ticks_of (slice_get steps i) ≡ Some t → t.begin ≤ latest
   pub kept : (a b i j : ℕ) → a < b → b < k → slice_get order a ≡ Some i → slice_get order b ≡ Some j
       → MayComeFirst (ticks_of (slice_get steps i)) (ticks_of (slice_get steps j))
-
--- a step without ticks may come after any
-before-none : (o : Option Ticks) → MayComeFirst o None
-before-none (Some x) = tt
-before-none None = tt
-
-before-some : (o : Option Ticks) (t : Ticks) → ((u : Ticks) → o ≡ Some u → u.begin ≤ t.end) → MayComeFirst o (Some t)
-before-some (Some u) t early = early u refl
-before-some None t early = tt
-
-module _ (steps : List (Option Waiting)) (order : List ℕ) (k at latest : ℕ) (is : slice_get order k ≡ Some at)
-    (are : AreKeptTo steps order k latest) where
-  -- what stands at the next place is this
-  the-next : (j : ℕ) → slice_get order k ≡ Some j → at ≡ j
-  the-next j there = let said : Some at ≡ Some j = sym is ∙ there in cc said
-
-  abbrev ticks : ℕ → Option Ticks
-  ticks i = ticks_of (slice_get steps i)
-
-  -- one more step keeps its ticks
-  pub kept-more : (latest' : ℕ) → latest ≤ latest' → ((t : Ticks) → ticks at ≡ Some t → (latest ≤ t.end) × (t.begin ≤ latest'))
-      → AreKeptTo steps order (k + 1) latest'
-  kept-more latest' later own = record {
-    begun = λ a i t low there has. elim (cases_lt a k) [
-      | inl before ↦ let early = are.begun a i t before there has in omega (arith, early, later)
-      | inr last ↦
-          let end : a ≡ k = omega (arith, low, last) in
-          let same : at ≡ i = the-next i (ap (slice_get order) (sym end) ∙ there) in
-          (own t (ap ticks same ∙ has)).1
-    ];
-    kept = λ a b i j up low first there. elim (cases_lt b k) [
-      | inl before ↦ are.kept a b i j up before first there
-      | inr last ↦
-          let end : b ≡ k = omega (arith, low, last) in
-          let same : at ≡ j = the-next j (ap (slice_get order) (sym end) ∙ there) in
-          subst (λ o. MayComeFirst (ticks i) (ticks o)) same (by i (ticks at) refl (λ u has. are.begun a i u (omega (arith, up, end)) first has))
-    ];
-  }
-    where
-      by : (i : ℕ) (o : Option Ticks) → ticks at ≡ o → ((u : Ticks) → ticks i ≡ Some u → u.begin ≤ latest)
-          → MayComeFirst (ticks i) (ticks at)
-      by i None has early = subst (λ (o : Option Ticks). MayComeFirst (ticks i) o) (sym has) (before-none (ticks i))
-      by i (Some t) has early = subst (λ (o : Option Ticks). MayComeFirst (ticks i) o) (sym has)
-          (before-some (ticks i) t (λ u is'. let low = early u is' in let high = (own t has).0 in omega (arith, low, high)))
 
 -- ---- the steps of a stretch, one by one
 

@@ -11,14 +11,13 @@ use Rattle.md_clauses.specs.declared.changes.Spot.{Spot}
 use Rattle.md_judge.specs.declared.judge.mail.Mail.{Mail}
 use Rattle.md_judge.specs.declared.judge.mail.Message.{Message}
 use Rattle.md_judge.specs.declared.judge.tables.Names.{Names}
-use Rattle.md_judge.specs.Changes.{IsPathOf, Leads}
-use Rattle.md_judge.specs.Copies.{copies_of}
+use Rattle.md_judge.specs.Acts.{IsPathOf, Leads}
+use Rattle.md_judge.specs.Mailed.{copies_of, IsPathThere, IsCopyBy, IsMailed, AreMailed, AreCopied, TellsMail, AddAt, AddStep, TurnAt, TurnStep, TakeAt, TakeStep, MakeStep}
 use Rattle.md_judge.specs.Files.{unique_in}
 use Rattle.md_judge.specs.Filed.{HoldsOf}
 use Rattle.md_judge.specs.Known.{EachPath, EachTurned, EachSpot}
 use Rattle.md_judge.specs.Listings.{message_of}
 use Rattle.md_judge.specs.Logs.{Log}
-use Rattle.md_judge.specs.Mailed.{IsPathThere, IsCopyBy, IsMailed, AreMailed, AreCopied, TellsMail, AddAt, AddStep, TurnAt, TurnStep, TakeAt, TakeStep, MakeStep}
 use Rattle.md_judge.specs.Messages.{Recalled}
 use Rattle.md_judge.specs.Names.{GrowsUniques}
 use Rattle.md_judge.specs.Recalled.{IsSpotOf}

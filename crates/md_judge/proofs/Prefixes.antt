@@ -12,7 +12,7 @@ use Rattle.md_judge.specs.declared.judge.known.Known.{Known}
 use Rattle.md_judge.specs.Claims.{IsSince}
 use Rattle.md_judge.specs.Law.{turn, Breaks, IsAllowed, IsFinding}
 use Rattle.md_judge.specs.Logs.{Log, Numbered}
-use Rattle.md_judge.specs.Readings.{IsHere, RecallsWas}
+use Rattle.md_judge.specs.Listings.{IsHere, RecallsWas}
 use Rattle.md_judge.specs.Recalled.{IsToldAt}
 use Rattle.md_judge.specs.Told.{Moment, after_step, moment, at}
 use Rattle.md_judge.proofs.Longer.{same-step, breaks-longer}

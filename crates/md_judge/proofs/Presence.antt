@@ -17,8 +17,7 @@ use Rattle.md_judge.specs.declared.judge.mail.Move.TheVariants.{Comes, Turns, Go
 use Rattle.md_judge.specs.declared.judge.tables.Names.{Names}
 use Rattle.md_judge.specs.Files.{unique_in}
 use Rattle.md_judge.specs.Listings.{message_of, present_in, IsIn}
-use Rattle.md_judge.specs.Mailed.{count_of, count_after, IsBy, Moves, MovesOne, KeepsOthers, KeepsPresent, AddAt, AddStep, TurnAt, TurnStep, TakeAt, TakeStep, MakeStep}
-use Rattle.md_judge.specs.Present.{PresentBy, KeepsSets}
+use Rattle.md_judge.specs.Mailed.{count_of, count_after, IsBy, Moves, MovesOne, KeepsOthers, KeepsPresent, AddAt, AddStep, TurnAt, TurnStep, TakeAt, TakeStep, MakeStep, PresentBy, KeepsSets}
 use Rattle.md_judge.proofs.Finishing.{in-keys}
 use Rattle.md_judge.proofs.Writing.{messages-same}
 

@@ -12,7 +12,7 @@ use Rattle.md_judge.specs.declared.judge.directories.Named.{Named}
 use Rattle.md_judge.specs.Logs.{Log}
 use Rattle.md_judge.specs.Told.{at}
 use Rattle.md_judge.specs.Law.{turn, IsNeverThere, IsAlwaysThere}
-use Rattle.md_judge.specs.Readings.{was_late, was_of, was_since, WasSince, IsHere, RecallsWas, IsNameOf, IsHereSince}
+use Rattle.md_judge.specs.Listings.{was_late, was_of, was_since, WasSince, IsHere, RecallsWas, IsNameOf, IsHereSince}
 use Rattle.md_judge.proofs.Claiming.{up, down, came, after}
 
 -- whether a path is there at a moment

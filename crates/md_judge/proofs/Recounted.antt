@@ -13,11 +13,10 @@ use Rattle.md_judge.specs.declared.judge.known.Known.{Known}
 use Rattle.md_judge.specs.Logs.{Log}
 use Rattle.md_judge.specs.Told.{at}
 use Rattle.md_judge.specs.Claims.{IsSince}
-use Rattle.md_judge.specs.Changes.{Leads, IsPathOf}
-use Rattle.md_judge.specs.Known.{number_at, file_in, is_same_spot, after_put, after_spot_added, after_spot_taken, EachPath, EachSpot, IsHoused, Stands, Holds}
-use Rattle.md_judge.specs.Readings.{IsHere, RecallsWas}
-use Rattle.md_clauses.specs.Moments.{kept_moment}
-use Rattle.md_judge.specs.Moments.{since_in, was_in, since_turned, was_after, MakesMoments, Recounts, IsKnownAt, GoesOn}
+use Rattle.md_judge.specs.Acts.{Leads, IsPathOf}
+use Rattle.md_judge.specs.Known.{number_at, file_in, is_same_spot, after_put, after_spot_added, after_spot_taken, EachPath, EachSpot, IsHoused, Stands, Holds, since_in, was_in, since_turned, was_after, MakesMoments, Recounts, IsKnownAt, GoesOn}
+use Rattle.md_judge.specs.Listings.{IsHere, RecallsWas}
+use Rattle.md_clauses.specs.Befores.{kept_moment}
 use Rattle.md_judge.proofs.Following.{same-spot, each-spot}
 use Rattle.md_judge.proofs.Reading.{here}
 use Rattle.std.proofs.lemmas.Bool.{cases_lt}

@@ -15,13 +15,12 @@ use Rattle.md_log.specs.declared.line.Reply.{Reply}
 use Rattle.md_log.specs.declared.line.Reply.TheVariants as reply
 use Rattle.md_log.specs.declared.line.Step.{Step}
 use Rattle.md_judge.specs.declared.judge.tables.Names.{Names}
-use Rattle.md_judge.specs.Gathered.{Gathered, gathered_by, gathered_in, KeepsGathered, Counts, RecallsGathered, AreGathered}
+use Rattle.md_judge.specs.Open.{Gathered, gathered_by, gathered_in, KeepsGathered, Counts, RecallsGathered, AreGathered, Listings, first_in, shows_in, AreNames, RecallsOpen}
 use Rattle.md_judge.specs.Listings.{message_cmp}
 use Rattle.md_judge.specs.Logs.{Log, Numbered}
-use Rattle.md_judge.specs.Names.{KeepNumbers}
-use Rattle.md_judge.specs.Open.{Listings, first_in, shows_in, AreNames, RecallsOpen}
-use Rattle.md_judge.specs.Told.{IsStep, Read, nothing_read, read_at}
 use Rattle.md_judge.specs.Words.{AreApart}
+use Rattle.md_judge.specs.Names.{KeepNumbers}
+use Rattle.md_judge.specs.Told.{IsStep, Read, nothing_read, read_at}
 use Rattle.md_judge.proofs.Gathering.{EndsNone, read-still, gathered-grows, none-gathered, spans-again, shown-again, gathered-still, gathered-next}
 use Rattle.md_judge.proofs.Longer.{alike-longer, turned, read-alike, shows-alike, whole-alike}
 use Rattle.md_judge.proofs.Opening.{part-kept}

@@ -5,10 +5,10 @@ use Rattle.md_judge.specs.declared.judge.Judge.{Judge}
 use Rattle.md_judge.specs.declared.judge.known.Known.{Known}
 use Rattle.md_judge.specs.declared.judge.tables.Names.{Names}
 use Rattle.md_judge.specs.Logs.{Log}
+use Rattle.md_judge.specs.Words.{AreApart}
 use Rattle.md_judge.specs.Names.{AreNumbered, KeepNumbers, GrowsUniques}
 use Rattle.md_judge.specs.Recalled.{IsToldAt}
 use Rattle.md_judge.specs.Verdict.{Remembers}
-use Rattle.md_judge.specs.Words.{AreApart}
 use Rattle.md_judge.proofs.Actors.{keep-words, more-actors, more-messages}
 use Rattle.md_judge.proofs.Alike.{filed-grows}
 use Rattle.md_judge.proofs.Posted.{tells-grows}

@@ -15,9 +15,9 @@ use Rattle.md_judge.specs.declared.judge.tables.Names.{Names}
 use Rattle.md_log.specs.declared.line.Said.{Said}
 use Rattle.md_judge.specs.Acts.{ReadsNone}
 use Rattle.md_judge.specs.Logs.{Log}
+use Rattle.md_judge.specs.Words.{AreApart}
 use Rattle.md_judge.specs.Names.{IsNumber, KeepNumbers}
 use Rattle.md_judge.specs.Told.{IsStep, IsPart}
-use Rattle.md_judge.specs.Words.{AreApart}
 use Rattle.md_judge.specs.Open.{Listings, first_in, shows_in, KeepsPart, NoneIsOpen, ShowsBefore, AreNumbersOf, AreNames, RecallsOpen, AreOpen}
 use Rattle.md_judge.proofs.Opening.{one-step, open-stays, more-open, over-open}
 

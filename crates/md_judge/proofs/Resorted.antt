@@ -9,9 +9,8 @@ use Rattle.std.proofs.lemmas.List.Sorted.{IsPermutation-keeps, IsPermutation-map
 use Rattle.std.proofs.lemmas.Option.{slice_get_within, slice_get-get_or, get_or_from_slice_get}
 use Rattle.md_log.specs.declared.clause.Clause.{Clause}
 use Rattle.md_judge.specs.declared.log.Finding.{Finding}
-use Rattle.md_judge.specs.Ordered.{AreInOrder}
+use Rattle.md_judge.specs.Verdict.{AreInOrder, IsAmong}
 use Rattle.md_judge.specs.Placed.{AreInOrderAtLines}
-use Rattle.md_judge.specs.Verdict.{IsAmong}
 use Rattle.md_judge.proofs.Longer.{same-step}
 use Rattle.md_judge.proofs.Verdicts.{last-is}
 

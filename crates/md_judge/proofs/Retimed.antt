@@ -8,15 +8,14 @@ use Rattle.md_clauses.specs.declared.changes.Spot.{Spot}
 use Rattle.md_judge.specs.declared.judge.mail.Mail.{Mail}
 use Rattle.md_judge.specs.declared.judge.mail.Message.{Message}
 use Rattle.md_judge.specs.declared.judge.tables.Names.{Names}
-use Rattle.md_judge.specs.Changes.{IsPathOf, Leads}
+use Rattle.md_judge.specs.Acts.{IsPathOf, Leads}
 use Rattle.md_judge.specs.Known.{EachPath, EachSpot}
 use Rattle.md_judge.specs.Listings.{message_of, IsIn, WasAtLine, RecalledTimes}
 use Rattle.md_judge.specs.Logs.{Log}
-use Rattle.md_judge.specs.Mailed.{count_of, AreMailed}
-use Rattle.md_clauses.specs.Moments.{kept_moment}
+use Rattle.md_judge.specs.Mailed.{count_of, AreMailed, times_by, since_by, TimesCome, TimesStay, TimesGo, CameAt, TurnedAt, WentAt, MakesTimes, AreTimed}
+use Rattle.md_clauses.specs.Befores.{kept_moment}
 use Rattle.md_judge.specs.Names.{GrowsUniques}
 use Rattle.md_judge.specs.Recalled.{IsSpotOf}
-use Rattle.md_judge.specs.Timed.{times_by, since_by, TimesCome, TimesStay, TimesGo, CameAt, TurnedAt, WentAt, MakesTimes, AreTimed}
 use Rattle.md_judge.specs.Told.{at, IsThere}
 use Rattle.md_judge.proofs.MailTold.{has-some}
 use Rattle.md_judge.proofs.Timing.{times-next}

@@ -13,19 +13,17 @@ use Rattle.md_judge.specs.declared.judge.mail.Mail.{Mail}
 use Rattle.md_judge.specs.declared.judge.mail.Message.{Message}
 use Rattle.md_judge.specs.declared.judge.tables.Names.{Names}
 use Rattle.md_judge.specs.declared.judge.watch.Watch.{Watch}
-use Rattle.md_judge.specs.Actors.{done_by, moved_by, MovedAt}
+use Rattle.md_judge.specs.Actors.{done_by, moved_by, MovedAt, RecallsDeeds}
 use Rattle.md_clauses.specs.Claims.{count_of as count_there}
 use Rattle.md_judge.specs.Claims.{IsLastLine, TellsAbsence, RecallsPresence, RecallsSo}
-use Rattle.md_judge.specs.Deeds.{RecallsDeeds}
 use Rattle.md_judge.specs.Law.{turn}
 use Rattle.md_judge.specs.Listings.{times_of, message_of, IsIn, RecallsTimes, RecalledTimes}
 use Rattle.md_judge.specs.Logs.{Log}
-use Rattle.md_judge.specs.Mailed.{count_of, AreMailed}
+use Rattle.md_judge.specs.Mailed.{count_of, AreMailed, AreTimed}
 use Rattle.md_judge.specs.Names.{AreNumbered}
 use Rattle.md_judge.specs.Open.{Listings}
 use Rattle.md_judge.specs.Recalled.{IsToldAt}
 use Rattle.md_judge.specs.Said.{presence_of, presence_by, claim_by}
-use Rattle.md_judge.specs.Timed.{AreTimed}
 use Rattle.md_judge.specs.Told.{at, IsThere, IsSpan}
 use Rattle.md_judge.proofs.Claiming.{up, down}
 use Rattle.md_judge.proofs.Held.{flags-so}

@@ -14,13 +14,12 @@ use Rattle.md_clauses.specs.declared.changes.Change.{Change}
 use Rattle.md_clauses.specs.declared.changes.Spot.{Spot}
 use Rattle.md_clauses.specs.declared.facts.FileFacts.{FileFacts}
 use Rattle.md_judge.specs.declared.judge.files.Filed.{Filed}
-use Rattle.md_judge.specs.declared.judge.tables.NameFacts.{NameFacts}
 use Rattle.md_judge.specs.declared.judge.tables.Names.{Names}
-use Rattle.md_judge.specs.Changes.{IsPathOf, IsTurnOf, Leads}
+use Rattle.md_judge.specs.Acts.{IsPathOf, IsTurnOf, Leads}
 use Rattle.md_judge.specs.Filed.{HoldsOf, IsSeenBy, IsSeenTimes}
 use Rattle.md_clauses.specs.Facts.{shown, hidden}
 use Rattle.md_clauses.specs.Changes.{named_of, named_by, turned_by}
-use Rattle.md_judge.specs.Files.{no_facts, facts_by, unique_by, is_message_in, is_cur, named, left, facts_at, Changes, Adds, NameStep, LeaveStep, ChangeStep}
+use Rattle.md_judge.specs.Files.{unique_from, unique_by, is_message_in, is_cur, named, left, facts_at, Changes, Adds, NameStep, LeaveStep, ChangeStep}
 use Rattle.md_judge.specs.Known.{EachPath, EachTurned, EachSpot}
 use Rattle.md_judge.specs.Names.{StandFor}
 use Rattle.md_judge.specs.Recalled.{IsSpotOf}
@@ -30,27 +29,23 @@ use Rattle.md_judge.proofs.Named.{now-names, names-now, now-leaves, leaves-now}
 
 -- ---- whether a spot's path names a message
 
--- what the two parts of a message's name say
-abbrev pub said : ℕ → NameFacts
-said front = record { unique = Some front }
-
 -- where a name's number has an end it is a message's
 by-parts : (names : Names) (place : Place) (name : List ℕ) (o : Option (List ℕ × Info)) (front ending : ℕ) → StandFor names name o front ending
-    → is_some (unique_by place (facts_by front ending)) ≡ (not (is_tmp place) && is_some o)
+    → is_some (unique_by place (unique_from front ending)) ≡ (not (is_tmp place) && is_some o)
 by-parts names place name None front ending s =
     let none : nat_eq ending 4294967295 ≡ true = eq-eqb ending 4294967295 s.0 in
-    ap (λ b. is_some (unique_by place (cond b no_facts (said front)))) none ∙ by place
+    ap (λ b. is_some (unique_by place (cond b None (Some front)))) none ∙ by place
   where
-    by : (q : Place) → is_some (unique_by q no_facts) ≡ (not (is_tmp q) && false)
+    by : (q : Place) → is_some (unique_by q None) ≡ (not (is_tmp q) && false)
     by Tmp = refl
     by New = refl
     by Cur = refl
 by-parts names place name (Some parts) front ending s =
     let low = s.0 in
     let some : nat_eq ending 4294967295 ≡ false = grind (arith, nat_tests, low) in
-    ap (λ b. is_some (unique_by place (cond b no_facts (said front)))) some ∙ by place
+    ap (λ b. is_some (unique_by place (cond b None (Some front)))) some ∙ by place
   where
-    by : (q : Place) → is_some (unique_by q (said front)) ≡ (not (is_tmp q) && true)
+    by : (q : Place) → is_some (unique_by q (Some front)) ≡ (not (is_tmp q) && true)
     by Tmp = refl
     by New = refl
     by Cur = refl
@@ -306,9 +301,6 @@ held (Some m) n = by_number m n (λ same. inl (ap Some same)) (λ other. inr (λ
 
 module _ (path : Spot → Path) (names : Names) (c : Change) (s s' : State) (leads : Leads path c s s') (place : (q : Spot) → (path q).place ≡ q.place)
     (spots : EachSpot (λ q. IsSpotOf names (path q) q) c) (n : ℕ) where
-  abbrev named-o : Option (Spot × ℕ)
-  named-o = named_by c
-
   turned-there : (u : Option (Spot × ℕ × ℕ)) → c.turned ≡ u → (p : Path) → IsPathOf path (option_map (λ (t : Spot × ℕ × ℕ). (t.0, t.1)) u) p n
       → (m : ℕ) × (file_at s' p ≡ Some m)
   turned-there None is p of = absurd of

@@ -6,9 +6,8 @@ use Rattle.md_log.specs.declared.line.Reply.{Reply}
 use Rattle.md_log.specs.declared.line.Reply.TheVariants as reply
 use Rattle.md_log.specs.declared.line.Step.{Step}
 use Rattle.md_clauses.specs.declared.about.About.{About}
-use Rattle.md_judge.specs.Actors.{SameAct, HasBegun, RecallsBegun, IsLatest, RecallsDone, LookedAt}
+use Rattle.md_judge.specs.Actors.{SameAct, HasBegun, RecallsBegun, IsLatest, RecallsDone, LookedAt, IsUntold}
 use Rattle.md_judge.specs.Claims.{IsLastAct, RecallsActs, IsLastLine}
-use Rattle.md_judge.specs.Deeds.{IsUntold}
 use Rattle.md_judge.specs.Law.{turn}
 use Rattle.md_judge.specs.Logs.{Log}
 use Rattle.md_judge.specs.Told.{IsStep, IsAnswer, IsSpan, IsOwn, ActsOn, Looks}

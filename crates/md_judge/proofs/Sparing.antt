@@ -121,16 +121,6 @@ added-kept old new two again gone = record {
 
 -- ---- clauses that go by files
 
--- where none of them is noted, they are kept
-spare-files : (P : Clause → Type 0) → (P clause.SeenBeforeWhole → ⊥) → (P clause.Mixed → ⊥) → (P clause.NotFlushed → ⊥) → (P clause.MovedBack → ⊥)
-    → (P clause.CleanedEarly → ⊥) → (old new : Found) → Notes P old new → KeepsFiles old new
-spare-files P s m n b e old new notes clause.SeenBeforeWhole by = kept P clause.SeenBeforeWhole s old new notes
-spare-files P s m n b e old new notes clause.Mixed by = kept P clause.Mixed m old new notes
-spare-files P s m n b e old new notes clause.NotFlushed by = kept P clause.NotFlushed n old new notes
-spare-files P s m n b e old new notes clause.MovedBack by = kept P clause.MovedBack b old new notes
-spare-files P s m n b e old new notes clause.CleanedEarly by = kept P clause.CleanedEarly e old new notes
-spare-files P s m n b e old new notes c by = absurd by
-
 pub files-kept : (old new : Found) → (Has new.broken clause.SeenBeforeWhole ↔ (Has old.broken clause.SeenBeforeWhole ⊎ ⊥))
     → (Has new.broken clause.Mixed ↔ (Has old.broken clause.Mixed ⊎ ⊥)) → (Has new.broken clause.NotFlushed ↔ (Has old.broken clause.NotFlushed ⊎ ⊥))
     → (Has new.broken clause.MovedBack ↔ (Has old.broken clause.MovedBack ⊎ ⊥))
@@ -328,10 +318,6 @@ add-more m file leaving c found = absurd found
 pub no-gone : (m : Option Message) (file leaving : ℕ) → AddFinds m file leaving clause.Gone → ⊥
 no-gone None file leaving found = found
 no-gone (Some m) file leaving found = found
-
-pub spare-added : (m : Option Message) (file leaving : ℕ) (old new : Found) → Notes (AddFinds m file leaving) old new → KeepsFiles old new
-spare-added None file leaving = spare-files (AddFinds None file leaving) (λ h. h) (λ h. h) (λ h. h) (λ h. h) (λ h. h)
-spare-added (Some m) file leaving = spare-files (AddFinds (Some m) file leaving) (λ h. h) (λ h. h) (λ h. h) (λ h. h) (λ h. h)
 
 -- what follows of two facts where a call gives a value
 pub ok-two : {A E : Type 0} (r : Result A E) (P Q R : Type 0) → (P → Q → R) → OnOk r P → OnOk r Q → OnOk r R

@@ -11,10 +11,9 @@ use Rattle.md_clauses.specs.declared.changes.Spot.{Spot}
 use Rattle.md_judge.specs.declared.judge.directories.Named.{Named}
 use Rattle.md_judge.specs.declared.judge.directories.Directory.{Directory}
 use Rattle.std.specs.Cmp.{unsigned_tied}
-use Rattle.md_judge.specs.Known.{number_at, file_of_name, after_put, Puts}
+use Rattle.md_judge.specs.Known.{number_at, file_of_name, after_put, Puts, since_of, was_in, PutsMoments}
 use Rattle.md_judge.specs.Mixed.{mixed_name}
-use Rattle.md_judge.specs.Readings.{was_of}
-use Rattle.md_judge.specs.Moments.{since_of, was_in, PutsMoments}
+use Rattle.md_judge.specs.Listings.{was_of}
 use Rattle.md_judge.proofs.Mixing.{names_apart}
 
 -- what directories tell of the name of a spot

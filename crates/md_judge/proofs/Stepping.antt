@@ -8,7 +8,7 @@ use Rattle.md_dirs.specs.declared.paths.Path.{Path}
 use Rattle.md_judge.specs.declared.judge.known.Known.{Known}
 use Rattle.md_judge.specs.Logs.{Log, Numbered}
 use Rattle.md_judge.specs.Told.{Moment, after_step, after_call, moment, at}
-use Rattle.md_judge.specs.Readings.{IsHere}
+use Rattle.md_judge.specs.Listings.{IsHere}
 use Rattle.md_judge.specs.Recalled.{spot_of, IsToldAt}
 use Rattle.std.proofs.lemmas.Bool.{cases_lt}
 use Rattle.md_dirs.specs.Path.{path_of}

@@ -1,14 +1,14 @@
 -- The tables of words: what is found in them stays found, and one word more is found too.
-use Rattle.std.proofs.Common.{◌≡◌, ◌≢◌, ℕ, ◌<◌, arith, inl, inr, List, [], ◌∷◌, ◌++◌, length, Some, None, true, false, cond, slice_get, refl, sym, ap, subst, ◌∙◌}
-use Rattle.std.proofs.lemmas.Bool.{false_from_ne_true, eqb-true}
+use Rattle.std.proofs.Common.{◌≡◌, ◌≢◌, ℕ, ◌<◌, arith, inl, inr, List, [], ◌∷◌, ◌++◌, length, Some, true, slice_get, sym, ap, subst, ◌∙◌}
+use Rattle.std.proofs.lemmas.Bool.{false_from_ne_true}
 use Rattle.std.proofs.lemmas.List.{length_push}
 use Rattle.std.proofs.lemmas.Map.Text.{is_eq-slice_cmp}
 use Rattle.std.specs.declared.vec.Vec.{Vec}
 use Rattle.std.specs.declared.cmp.Ordering.{Ordering}
 use Rattle.std.specs.Ordering.{nat_cmp, is_eq, eq_by_cmp}
-use Rattle.std.specs.Cmp.{eq_by_cmp_equiv, unsigned_tied}
+use Rattle.std.specs.Cmp.{eq_by_cmp_equiv}
 use Rattle.std.specs.Cmp.Lexicographic.{slice_cmp, bytes_decides, nat_list_cmp_total}
-use Rattle.std.specs.BTreeMap.{BTreeMap, get, get_by, is_at}
+use Rattle.std.specs.BTreeMap.{BTreeMap, get_by, is_at}
 use Rattle.std.specs.Map.{KeepsOthers}
 use Rattle.md_judge.specs.declared.judge.tables.Index.{Index}
 use Rattle.md_judge.specs.Words.{Finds, IsTable}
@@ -20,19 +20,6 @@ word_cmp word key = slice_cmp nat_cmp word key.items
 
 same_words : (a b : List ℕ) → is_eq (slice_cmp nat_cmp a b) ≡ true → a ≡ b
 same_words a b e = (bytes_decides a b).0 (sym (is_eq-slice_cmp a b) ∙ e)
-
--- a number that is put under a free hash hides no other
-pub hash_keeps : (old new : BTreeMap ℕ ℕ) (hash n q k : ℕ) → get nat_cmp old hash ≡ None
-    → ((key : ℕ) → get nat_cmp new key ≡ cond (eq_by_cmp nat_cmp hash key) (Some n) (get nat_cmp old key))
-    → get nat_cmp old q ≡ Some k → get nat_cmp new q ≡ Some k
-hash_keeps old new hash n q k free updates is =
-    elim (eq_by_cmp nat_cmp hash q) as (λ b. eq_by_cmp nat_cmp hash q ≡ b → get nat_cmp new q ≡ Some k) [
-      | true ↦ λ e.
-          let same : hash ≡ q = eqb-true hash q (sym (unsigned_tied hash q) ∙ e) in
-          let none : get nat_cmp old q ≡ None = subst (λ h. get nat_cmp old h ≡ None) same free in
-          cc
-      | false ↦ λ e. updates q ∙ ap (λ b. cond b (Some n) (get nat_cmp old q)) e ∙ is
-    ] refl
 
 -- a word that is put beside the hashes hides no other
 pub word_keeps : {Z : Type 0} (old new : BTreeMap (Vec ℕ Z) ℕ) (key : Vec ℕ Z) (q : List ℕ)

@@ -17,12 +17,12 @@ use Rattle.md_log.specs.declared.error.LineFault.TheVariants.{NoLog, NoMemory, N
 use Rattle.md_log.specs.declared.error.LogFault.{LogFault}
 use Rattle.md_judge.specs.declared.session.Session.{Session}
 use Rattle.md_judge.specs.Law.{IsFinding}
-use Rattle.md_judge.specs.Logs.{Log, Numbered, empty_log, is_passed_over, has_begun, with_line, with_folder_line, with_text, with_lines, at_line, and_then, log_by, log_of}
-use Rattle.md_judge.specs.Ordered.{AreInOrder}
+use Rattle.md_text.specs.Words.{is_passed_over}
+use Rattle.md_judge.specs.Logs.{Log, Numbered, empty_log, has_begun, with_line, with_folder_line, with_text, with_lines, at_line, and_then, log_by, log_of}
+use Rattle.md_judge.specs.Verdict.{AreInOrder, IsAmong, HasNoTicks, HasRead, Remembers, AreLinesOf}
 use Rattle.md_judge.specs.Orders.{AreFoundInOrder}
 use Rattle.md_judge.specs.Placed.{IsUnplaced, HasPlaced}
 use Rattle.md_judge.specs.Taken.{IsWithoutTicks, Answers, AnswersAny, HasTaken, HasEnded, with_given}
-use Rattle.md_judge.specs.Verdict.{IsAmong, HasNoTicks, HasRead, Remembers, AreLinesOf}
 use Rattle.md_judge.proofs.Verdicts.{HasSame, no-step}
 use Rattle.md_judge.proofs.Whole.{on-log, given-text, none-given, lines-cut, lines-end}
 

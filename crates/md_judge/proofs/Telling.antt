@@ -10,13 +10,12 @@ use Rattle.md_judge.specs.declared.judge.directories.Directory.{Directory}
 use Rattle.md_clauses.specs.declared.changes.Spot.{Spot}
 use Rattle.md_judge.specs.declared.judge.known.Known.{Known}
 use Rattle.md_judge.specs.declared.judge.tables.Names.{Names}
-use Rattle.md_judge.specs.Changes.{IsPathOf, Leads}
+use Rattle.md_judge.specs.Acts.{IsPathOf, Leads}
 use Rattle.md_judge.specs.Claims.{IsSince}
-use Rattle.md_judge.specs.Known.{EachPath, EachSpot, file_in}
+use Rattle.md_judge.specs.Known.{EachPath, EachSpot, file_in, since_in, was_in, IsKnownAt}
 use Rattle.md_judge.specs.Logs.{Log}
-use Rattle.md_judge.specs.Moments.{since_in, was_in, IsKnownAt}
 use Rattle.md_judge.specs.Names.{IsNumber, AreNumbered}
-use Rattle.md_judge.specs.Readings.{IsHere, RecallsWas}
+use Rattle.md_judge.specs.Listings.{IsHere, RecallsWas}
 use Rattle.md_judge.specs.Recalled.{spot_of, HasNumber, IsToldAt}
 use Rattle.md_judge.specs.Told.{at}
 use Rattle.md_judge.proofs.Decided.{Either, has-name}

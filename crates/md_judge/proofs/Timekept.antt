@@ -16,12 +16,10 @@ use Rattle.md_judge.specs.declared.judge.tables.Names.{Names}
 use Rattle.md_judge.specs.Known.{number_at, file_of_name}
 use Rattle.md_judge.specs.Listings.{message_of, RecalledTimes}
 use Rattle.md_judge.specs.Logs.{Log, Numbered, empty_log}
-use Rattle.md_judge.specs.Mailed.{count_of, AreMailed, KeepsPresent, AddAt}
-use Rattle.md_clauses.specs.Moments.{kept_moment}
+use Rattle.md_judge.specs.Mailed.{count_of, AreMailed, KeepsPresent, AddAt, CameAt, AreTimed, TellsTimes, AddsFolder}
+use Rattle.md_clauses.specs.Befores.{kept_moment}
 use Rattle.md_judge.specs.Names.{GrowsUniques}
-use Rattle.md_judge.specs.Present.{AddsFolder}
 use Rattle.md_judge.specs.Recalled.{IsToldAt, spot_of}
-use Rattle.md_judge.specs.Timed.{CameAt, AreTimed, TellsTimes}
 use Rattle.md_judge.specs.Told.{at, IsThere}
 use Rattle.md_judge.specs.Files.{unique_in}
 use Rattle.md_judge.proofs.MailTold.{has-some}

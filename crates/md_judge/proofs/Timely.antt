@@ -9,8 +9,7 @@ use Rattle.md_judge.specs.declared.judge.mail.Move.TheVariants.{Comes, Turns, Go
 use Rattle.md_judge.specs.declared.judge.tables.Names.{Names}
 use Rattle.md_judge.specs.Files.{unique_in}
 use Rattle.md_judge.specs.Listings.{first_or, message_cmp, message_of}
-use Rattle.md_judge.specs.Mailed.{count_of, fresh, begun, Makes, Prepares}
-use Rattle.md_judge.specs.Timed.{times_by, TimesCome, TimesStay, TimedBy, AtSpot}
+use Rattle.md_judge.specs.Mailed.{count_of, fresh, begun, Makes, Prepares, times_by, TimesCome, TimesStay, TimedBy, AtSpot}
 use Rattle.md_judge.proofs.Regathered.{one-folder}
 
 -- a message that comes, and may have no path yet

@@ -4,8 +4,7 @@ use Rattle.std.proofs.lemmas.Bool.{cases_lt}
 use Rattle.std.proofs.lemmas.Option.{slice_get_within}
 use Rattle.md_judge.specs.declared.judge.mail.Message.{Message}
 use Rattle.md_judge.specs.Listings.{times_of, IsIn, WasAtLine, RecallsTimes, RecalledTimes}
-use Rattle.md_judge.specs.Mailed.{count_of}
-use Rattle.md_judge.specs.Timed.{times_by, since_by, TimesCome, TimesStay, TimesGo}
+use Rattle.md_judge.specs.Mailed.{count_of, times_by, since_by, TimesCome, TimesStay, TimesGo}
 use Rattle.md_judge.proofs.Claiming.{up}
 use Rattle.md_judge.proofs.Reopened.{one-more, stays, last-is}
 

@@ -9,35 +9,35 @@ use Rattle.md_dirs.specs.declared.paths.Place.{Place}
 use Rattle.md_dirs.specs.declared.paths.Place.TheVariants.{Tmp, New, Cur}
 use Rattle.md_clauses.specs.declared.changes.Spot.{Spot}
 use Rattle.md_judge.specs.declared.judge.tables.Names.{Names}
-use Rattle.md_judge.specs.Files.{no_facts, facts_by, unique_by, unique_in}
+use Rattle.md_judge.specs.Files.{unique_from, unique_by, unique_in}
+use Rattle.md_judge.specs.Words.{AreApart}
 use Rattle.md_judge.specs.Names.{StandFor, AreMarked, GrowsUniques}
 use Rattle.md_judge.specs.Recalled.{IsSpotOf}
 use Rattle.md_judge.specs.Told.{is_message}
-use Rattle.md_judge.specs.Words.{AreApart}
 use Rattle.md_judge.proofs.Numbers.{split_is}
-use Rattle.md_judge.proofs.Shown.{said, message-of}
+use Rattle.md_judge.proofs.Shown.{message-of}
 
 -- the unique name that the parts of a name's number have is that of the name
 by-parts : (names : Names) (place : Place) (name : List ℕ) (o : Option (List ℕ × Info)) (front ending u : ℕ) → split_of name ≡ o
-    → StandFor names name o front ending → unique_by place (facts_by front ending) ≡ Some u
+    → StandFor names name o front ending → unique_by place (unique_from front ending) ≡ Some u
     → slice_get names.uniques u ≡ Some (unique_of name)
 by-parts names place name None front ending u split s is =
     let none : nat_eq ending 4294967295 ≡ true = eq-eqb ending 4294967295 s.0 in
-    by place (sym (ap (λ b. unique_by place (cond b no_facts (said front))) none) ∙ is)
+    by place (sym (ap (λ b. unique_by place (cond b None (Some front))) none) ∙ is)
   where
-    by : (q : Place) → unique_by q no_facts ≡ Some u → slice_get names.uniques u ≡ Some (unique_of name)
+    by : (q : Place) → unique_by q None ≡ Some u → slice_get names.uniques u ≡ Some (unique_of name)
     by Tmp e = cc
     by New e = cc
     by Cur e = cc
 by-parts names place name (Some parts) front ending u split s is =
     let low = s.0 in
     let some : nat_eq ending 4294967295 ≡ false = grind (arith, nat_tests, low) in
-    by place (sym (ap (λ b. unique_by place (cond b no_facts (said front))) some) ∙ is)
+    by place (sym (ap (λ b. unique_by place (cond b None (Some front))) some) ∙ is)
   where
     here : front ≡ u → slice_get names.uniques u ≡ Some (unique_of name)
     here same = subst (λ k. slice_get names.uniques k ≡ Some (unique_of name)) same (s.1 ∙ ap Some (split_is name parts split))
 
-    by : (q : Place) → unique_by q (said front) ≡ Some u → slice_get names.uniques u ≡ Some (unique_of name)
+    by : (q : Place) → unique_by q (Some front) ≡ Some u → slice_get names.uniques u ≡ Some (unique_of name)
     by Tmp e = cc
     by New e = here (cc)
     by Cur e = here (cc)

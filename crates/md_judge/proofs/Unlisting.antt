@@ -16,7 +16,7 @@ use Rattle.md_log.specs.declared.line.Step.{Step}
 use Rattle.md_judge.specs.declared.judge.listing.Listing.{Listing}
 use Rattle.md_judge.specs.declared.judge.mail.Mail.{Mail}
 use Rattle.md_judge.specs.declared.judge.tables.Names.{Names}
-use Rattle.md_judge.specs.Gathered.{Gathered, gathered_of, is_complete, Gathers, Counts, RecallsGathered, IsToldEnd}
+use Rattle.md_judge.specs.Open.{Gathered, gathered_of, is_complete, Gathers, Counts, RecallsGathered, IsToldEnd}
 use Rattle.md_judge.specs.Law.{Turn, turn, WasListed, Unlisted}
 use Rattle.md_judge.specs.Listings.{message_of, present_in, IsIn, RecalledTimes, IsCompleted}
 use Rattle.md_judge.specs.Logs.{Log}

@@ -8,7 +8,7 @@ use Rattle.md_log.specs.declared.line.Step.{Step}
 use Rattle.md_clauses.specs.declared.about.About.{About}
 use Rattle.md_clauses.specs.declared.claims.Claim.{Claim}
 use Rattle.md_judge.specs.Claims.{RecallsSo}
-use Rattle.md_judge.specs.Deeds.{IsUntold, HasUntold, UnlinksMessage, RecallsDeeds}
+use Rattle.md_judge.specs.Actors.{IsUntold, HasUntold, UnlinksMessage, RecallsDeeds}
 use Rattle.md_judge.specs.Law.{turn, AddsMessage, ChangesMessage}
 use Rattle.md_judge.specs.Logs.{Log}
 use Rattle.md_judge.specs.Told.{at, IsStep, IsAnswer, IsSpan, IsOwn, IsMessageAt, IsThere}

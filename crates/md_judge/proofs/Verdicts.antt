@@ -17,7 +17,8 @@ use Rattle.md_log.specs.declared.line.Line.TheVariants as line
 use Rattle.md_log.specs.Heads.{head_of}
 use Rattle.md_log.specs.Calls.{step_line}
 use Rattle.md_log.specs.Lines.{line_of, line_by}
-use Rattle.md_log.specs.Folders.{most_folders, place_of, with_folder}
+use Rattle.md_log.specs.Folders.{most_folders, with_folder}
+use Rattle.md_text.specs.Folders.{place_of}
 use Rattle.md_log.specs.declared.clause.Clause.{Clause}
 use Rattle.md_log.specs.declared.clause.Clause.TheVariants as clause
 use Rattle.md_log.specs.declared.line.Step.{Step}
@@ -29,12 +30,12 @@ use Rattle.md_judge.specs.declared.stretch.Stretch.{Stretch}
 use Rattle.md_judge.specs.Filed.{name_at}
 use Rattle.md_clauses.specs.Found.{Has, clause_index}
 use Rattle.md_judge.specs.Law.{turn, Breaks, IsAllowed, IsFinding}
-use Rattle.md_judge.specs.Logs.{Log, Numbered, empty_log, is_passed_over, has_begun, with_line, with_text, with_folder_line, with_file_line, with_also_line}
-use Rattle.md_judge.specs.Ordered.{AreEarlier, AreInOrder}
+use Rattle.md_text.specs.Words.{is_passed_over}
+use Rattle.md_judge.specs.Logs.{Log, Numbered, empty_log, has_begun, with_line, with_text, with_folder_line, with_file_line, with_also_line}
+use Rattle.md_judge.specs.Verdict.{AreEarlier, AreInOrder, HasNoTicks, Remembers, IsAmong, AreLinesOf, HasRead, IsHeadOf, IsBroken, AddsFinding, KeepsHead}
 use Rattle.md_judge.specs.Recalled.{HasFolders}
 use Rattle.md_judge.specs.Taken.{with_given}
 use Rattle.md_judge.specs.Told.{Moment, at}
-use Rattle.md_judge.specs.Verdict.{HasNoTicks, Remembers, IsAmong, AreLinesOf, HasRead, IsHeadOf, IsBroken, AddsFinding, KeepsHead}
 use Rattle.md_judge.proofs.Ordered.{HaveNumbersFrom}
 use Rattle.md_judge.proofs.Mailbegun.{tells-longer, tells-opening}
 use Rattle.md_judge.proofs.Actors.{acting-first, acting-longer}

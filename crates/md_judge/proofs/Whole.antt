@@ -17,7 +17,8 @@ use Rattle.md_log.specs.declared.line.Line.TheVariants as line
 use Rattle.md_judge.specs.declared.log.Finding.{Finding}
 use Rattle.md_judge.specs.declared.session.Session.{Session}
 use Rattle.md_judge.specs.Law.{IsAllowed}
-use Rattle.md_judge.specs.Logs.{Log, Numbered, empty_log, is_passed_over, has_begun, with_line, with_text, with_folder_line, with_file_line, with_also_line, with_lines, at_line, and_then, log_by}
+use Rattle.md_text.specs.Words.{is_passed_over}
+use Rattle.md_judge.specs.Logs.{Log, Numbered, empty_log, has_begun, with_line, with_text, with_folder_line, with_file_line, with_also_line, with_lines, at_line, and_then, log_by}
 use Rattle.md_judge.specs.Placed.{HasPlaced}
 use Rattle.md_judge.specs.Taken.{HasTaken, with_given}
 use Rattle.md_judge.specs.Verdict.{HasNoTicks, IsAmong, HasRead}

@@ -14,9 +14,8 @@ use Rattle.md_judge.specs.declared.judge.mail.Mail.{Mail}
 use Rattle.md_judge.specs.declared.judge.mail.Message.{Message}
 use Rattle.md_judge.specs.declared.judge.mail.Move.{Move}
 use Rattle.md_judge.specs.declared.judge.mail.Move.TheVariants.{Comes, Turns, Goes}
-use Rattle.md_judge.specs.Copies.{copies_by, copies_of}
+use Rattle.md_judge.specs.Mailed.{copies_by, copies_of, count_of, count_after, IsBy, Moves, KeepsPresent, MovesOne, MakesOne, Makes, Prepares, KeepsOthers, is_first, is_free, fresh, begun, Recounts}
 use Rattle.md_judge.specs.Listings.{is_of, first_or, message_cmp, message_of, present_in, IsIn}
-use Rattle.md_judge.specs.Mailed.{count_of, count_after, IsBy, Moves, KeepsPresent, MovesOne, MakesOne, Makes, Prepares, KeepsOthers, is_first, is_free, fresh, begun, Recounts}
 use Rattle.md_judge.proofs.Keeping.{tied}
 
 -- two keys are two to the map
@@ -57,13 +56,6 @@ none-of m folder none = by (nat_eq m.folder folder) refl
 other-of : (m : Message) (folder : ℕ) → m.folder ≢ folder → is_of m folder ≡ false
 other-of m folder other =
     let no : nat_eq m.folder folder ≡ false = grind (arith, nat_tests) in ap (λ b. b && not (nat_eq folder 4294967295)) no
-
-is-own : (m : Message) (folder : ℕ) → is_of m folder ≡ true → m.folder ≡ folder
-is-own m folder is = by (nat_eq m.folder folder) refl is
-  where
-    by : (b : Bool) → nat_eq m.folder folder ≡ b → (b && not (nat_eq folder 4294967295)) ≡ true → m.folder ≡ folder
-    by true e is = grind (arith, nat_tests, e)
-    by false e is = cc
 
 own-of : (m : Message) (folder : ℕ) → m.folder ≡ folder → folder ≢ 4294967295 → is_of m folder ≡ true
 own-of m folder same some =
@@ -107,21 +99,6 @@ module _ (old new : Mail) (folder u : ℕ) (m m' : Message) (there : slice_get o
   now-first own = ap (λ o. first_or o folder (get message_cmp new.others (folder, u))) at-new
       ∙ ap (λ b. cond b (Some m') (get message_cmp new.others (folder, u))) own
 
-  was-first : is_of m folder ≡ true → message_of old folder u ≡ Some m
-  was-first own = ap (λ o. first_or o folder (get message_cmp old.others (folder, u))) there
-      ∙ ap (λ b. cond b (Some m) (get message_cmp old.others (folder, u))) own
-
-  -- it makes a move
-  pub first-made : (step : Move) → is_of m folder ≡ true → m'.folder ≡ m.folder → Moves (count_after step) (IsBy step) (Some m) (Some m')
-      → MakesOne folder u step old new
-  first-made step own kept moves =
-      let here : m.folder ≡ folder = is-own m folder own in
-      let own' : is_of m' folder ≡ true = ap (λ k. nat_eq k folder && not (nat_eq folder 4294967295)) kept ∙ own in record {
-        one = subst (λ o. Makes step o (message_of new folder u)) (sym (was-first own))
-            (subst (Moves (count_after step) (IsBy step) (Some m)) (sym (now-first own')) moves);
-        others = keeps-others (λ f far. (other-of m f (λ e. far (sym e ∙ here)), other-of m' f (λ e. far (sym e ∙ kept ∙ here))));
-      }
-
   -- it is put where its place is free
   pub first-put : m.folder ≡ 4294967295 → m'.folder ≡ folder → folder ≢ 4294967295 → (message_of new folder u ≡ Some m') × KeepsOthers folder u old new
   first-put free own some = (
@@ -158,14 +135,6 @@ module _ (old new : Mail) (folder u : ℕ) (same : new.first.items ≡ old.first
         (subst (Moves (count_after step) (IsBy step) (Some m)) (sym (other-put (Some m') updated)) moves);
     others = others-keep (Some m') updated;
   }
-
--- nothing is kept of it
-pub none-made : (step : Move) (old new : Mail) (folder u : ℕ) → message_of old folder u ≡ None → ((f v : ℕ) → message_of new f v ≡ message_of old f v)
-    → MakesOne folder u step old new
-none-made step old new folder u none same = record {
-  one = subst (λ o. Makes step o (message_of new folder u)) (sym none) (same folder u ∙ none);
-  others = λ f v far. same f v;
-}
 
 -- ---- a move of a message that may come to be kept
 
@@ -284,50 +253,7 @@ room-copies first none file u free = elim (pushed-at first none file) [
     by true = free
     by false = refl
 
--- the count of the first unique name, where it is this one, and where it is another
-first-own : (f : Copies) (u : ℕ) → f.unique ≡ u → copies_by (Some f) u ≡ f.count
-first-own f u same = ap (λ b. cond b f.count 0) (eq-eqb f.unique u same)
-
-first-other : (f : Copies) (u : ℕ) → f.unique ≢ u → copies_by (Some f) u ≡ 0
-first-other f u other = let no : nat_eq f.unique u ≡ false = grind (arith, nat_tests) in ap (λ b. cond b f.count 0) no
-
-first-none : (f : Copies) (u : ℕ) → f.count ≡ 0 → copies_by (Some f) u ≡ 0
-first-none f u none = by (nat_eq f.unique u)
-  where
-    by : (b : Bool) → cond b f.count 0 ≡ 0
-    by true = none
-    by false = refl
-
 module _ (old new : Copied) (file u : ℕ) where
-  -- the first unique name of the file is counted
-  pub first-counted : (count : ℕ → ℕ) (f f' : Copies) → slice_get old.first.items file ≡ Some f → new.first.items ≡ slice_set old.first.items file f'
-      → new.others ≡ old.others → copies_by (Some f) u ≡ f.count → ((v : ℕ) → v ≢ u → copies_by (Some f) v ≡ 0) → f'.unique ≡ u
-      → ((k : ℕ) → f'.count + k ≡ count (f.count + k)) → Recounts file u count old new
-  first-counted count f f' there set same own none unique counts = record {
-    one =
-        let k = unwrap_or (get message_cmp old.others (file, u)) 0 in
-        let first-new : copies_by (slice_get new.first.items file) u ≡ f'.count = ap (λ o. copies_by o u) at-new ∙ first-own f' u unique in
-        let first-old : copies_by (slice_get old.first.items file) u ≡ f.count = ap (λ o. copies_by o u) there ∙ own in
-        ap (λ n. n + unwrap_or (get message_cmp new.others (file, u)) 0) first-new
-        ∙ ap (λ os. f'.count + unwrap_or (get message_cmp os (file, u)) 0) same
-        ∙ counts k ∙ sym (ap (λ n. count (n + k)) first-old);
-    others = λ n v far.
-        ap (λ os. copies_by (slice_get new.first.items n) v + unwrap_or (get message_cmp os (n, v)) 0) same
-        ∙ ap (λ k. k + unwrap_or (get message_cmp old.others (n, v)) 0) (first-far n v far);
-  }
-    where
-      at-new : slice_get new.first.items file ≡ Some f'
-      at-new = ap (λ xs. slice_get xs file) set ∙ get-set_same old.first.items file f' (slice_get_within old.first.items file f there)
-
-      first-far : (n v : ℕ) → (n ≡ file → v ≡ u → ⊥) → copies_by (slice_get new.first.items n) v ≡ copies_by (slice_get old.first.items n) v
-      first-far n v far = by_number n file
-          (λ at.
-          let other : v ≢ u = λ e. far at e in
-          subst (λ k. copies_by (slice_get new.first.items k) v ≡ copies_by (slice_get old.first.items k) v) (sym at)
-          (ap (λ o. copies_by o v) at-new ∙ first-other f' v (λ e. other (sym e ∙ unique))
-          ∙ sym (ap (λ o. copies_by o v) there ∙ none v other)))
-          (λ at. ap (λ o. copies_by o v) (ap (λ xs. slice_get xs n) set ∙ get-set_other old.first.items file n f' at))
-
   -- another is
   pub other-counted : (count : ℕ → ℕ) (k' : ℕ) → new.first.items ≡ old.first.items → Updated old.others new.others file u (Some k')
       → copies_by (slice_get old.first.items file) u + k' ≡ count (copies_of old file u) → Recounts file u count old new

@@ -1,5 +1,5 @@
 -- What the judge keeps of all files is what a log tells of them.
-use Rattle.std.specs.Prelude.{ℕ, suc, ◌≡◌, ◌↔◌, ◌≤◌, List, [], Some, true, length, slice_get, unwrap_or, IsSome}
+use Rattle.std.specs.Prelude.{ℕ, suc, ◌≡◌, ◌↔◌, ◌≤◌, List, [], Some, true, length, slice_get, unwrap_or, IsSome, ◌≢◌, ◌<◌, ◌⊎◌, Option, None, Bool}
 use Rattle.md_dirs.specs.State.{State, file_at, file_by}
 use Rattle.md_dirs.specs.declared.paths.Path.{Path}
 use Rattle.md_dirs.specs.declared.paths.File.{File}
@@ -12,13 +12,90 @@ use Rattle.md_clauses.specs.declared.facts.FileFacts.{FileFacts}
 use Rattle.md_judge.specs.declared.judge.files.Filed.{Filed}
 use Rattle.md_judge.specs.declared.judge.known.Known.{Known}
 use Rattle.md_judge.specs.declared.judge.known.Act.{Act}
-use Rattle.md_judge.specs.Acts.{IsDone}
-use Rattle.md_judge.specs.Files.{facts_at}
-use Rattle.md_judge.specs.Law.{Turn, turn, SeenBeforeWhole, Mixed, NotFlushed, MovedBack, CleanedEarly}
+use Rattle.md_judge.specs.Acts.{IsDone, Leads}
+use Rattle.md_judge.specs.Files.{facts_at, is_message_in}
+use Rattle.md_judge.specs.Law.{Turn, turn, SeenBeforeWhole, Mixed, NotFlushed, MovedBack, CleanedEarly, MakesMessage, WritesSeen, ShowsCut}
 use Rattle.md_judge.specs.Listings.{IsIn}
 use Rattle.md_judge.specs.Logs.{Log}
-use Rattle.md_judge.specs.Recalls.{Acts, IsMadeBy}
-use Rattle.md_judge.specs.Told.{at, moment, is_message, IsStep, IsUnflushed, IsCut, WasInCur}
+use Rattle.md_judge.specs.Told.{at, moment, is_message, IsStep, IsUnflushed, IsCut, WasInCur, IsSeen, IsMaker}
+use Rattle.md_log.specs.declared.line.Reply.{Reply}
+use Rattle.md_log.specs.declared.line.Deed.{Deed}
+use Rattle.md_log.specs.declared.line.Call.TheVariants as call
+use Rattle.md_clauses.specs.declared.changes.Change.{Change}
+use Rattle.md_judge.specs.declared.judge.tables.Names.{Names}
+use Rattle.md_clauses.specs.Changes.{named_by}
+
+-- the actor of a number has this name
+abbrev pub IsBy : (ℕ → List ℕ) → Option ℕ → List ℕ → Type 0
+IsBy who None name = ⊥
+IsBy who (Some a) name = who a ≡ name
+
+-- Numbers below a bound stand for different actors, and this one for the actor of a step.
+pub record Acts (who : ℕ → List ℕ) (many actor : ℕ) (x : Step) : Type 0 where
+  pub apart : (a b : ℕ) → a < many → b < many → who a ≡ who b → a ≡ b
+  pub known : actor < many
+  pub name : who actor ≡ x.actor
+
+-- The maker that is kept of a file is the actor that made it by a step before.
+pub record IsMadeBy (who : ℕ → List ℕ) (many : ℕ) (l : Log) (i n : ℕ) (maker : Option ℕ) : Type 0 where
+  pub name : (name : List ℕ) → IsBy who maker name ↔ IsMaker l i name n
+  pub known : (a : ℕ) → maker ≡ Some a → a < many
+
+-- What is kept of a file that comes to have a path is what the log tells of it before the step.
+pub record Recalls (l : Log) (i n : ℕ) (f : FileFacts) : Type 0 where
+  pub is_unflushed : (f.is_unflushed ≡ true) ↔ IsUnflushed l i n
+  pub is_cut : (f.is_cut ≡ true) ↔ IsCut l i n
+  pub was_cur : (f.was_cur ≡ true) ↔ WasInCur l i n
+  pub seen : (0 < f.seen) ↔ IsSeen (at l i) n
+
+-- What is kept of a file that is written to is what the log tells of it before the step.
+pub record RecallsMaker (who : ℕ → List ℕ) (many : ℕ) (l : Log) (i n : ℕ) (f : FileFacts) : Type 0 where
+  pub maker : IsMadeBy who many l i n f.maker
+  pub seen : (0 < f.seen) ↔ IsSeen (at l i) n
+
+-- What is kept of a file that has lost a path is what the log tells of it: of its maker and stamp before the step, of its paths after it.
+pub record RecallsLeft (who : ℕ → List ℕ) (many : ℕ) (l : Log) (i n : ℕ) (f : FileFacts) : Type 0 where
+  pub maker : IsMadeBy who many l i n f.maker
+  pub file : File
+  pub there : file_by (at l i).files n ≡ Some file
+  pub stamp : f.stamp ≡ file.stamp
+  pub seen : (0 < f.seen) ↔ IsSeen (at l (suc i)) n
+
+-- A step is this call on one path, and what is kept of the file that it writes to is what the log tells.
+pub record IsAt (who : ℕ → List ℕ) (many : ℕ) (l : Log) (i : ℕ) (x : Step) (actor : ℕ) (message : Bool) (d : Deed) (r : Reply)
+    (file : Option ℕ) (files : List Filed) : Type 0 where
+  pub path : Path
+  pub call : x.call ≡ call.At d path r
+  pub shows : message ≡ is_message path
+  pub there : file_at (at l i) path ≡ file
+  pub acts : Acts who many actor x
+  pub kept : (n : ℕ) → file ≡ Some n → (f : FileFacts) × (facts_at files n ≡ Some f) × RecallsMaker who many l i n f
+
+-- A step changes paths so, at a moment, and what is kept of the files that gain or lose a path is what the log tells.
+pub record IsChange (path : Spot → Path) (who : ℕ → List ℕ) (many : ℕ) (l : Log) (i : ℕ) (x : Step) (actor now : ℕ) (names : Names)
+    (c : Change) (old new : List Filed) : Type 0 where
+  pub leads : Leads path c (at l i) (at l (suc i))
+  pub place : (q : Spot) → (path q).place ≡ q.place
+  pub message : (q : Spot) (n : ℕ) → named_by c ≡ Some (q, n) → is_message_in names q ≡ is_message (path q)
+  pub acts : Acts who many actor x
+  pub clock : now ≡ (moment l (suc i)).now
+  pub named : (q : Spot) (n : ℕ) → named_by c ≡ Some (q, n) → (f : FileFacts) × (facts_at old n ≡ Some f) × Recalls l i n f
+  pub left : (p : Path) (n : ℕ) → file_at (at l i) p ≡ Some n → file_at (at l (suc i)) p ≢ Some n
+      → (f : FileFacts) × (facts_at new n ≡ Some f) × RecallsLeft who many l i n f
+
+-- the clause is broken by a call on one path, but for its change of paths
+abbrev pub BrokenAt : Turn → Clause → Type 0
+BrokenAt t clause.SeenBeforeWhole = MakesMessage t ⊎ WritesSeen t
+BrokenAt t clause.Mixed = Mixed t
+BrokenAt t c = ⊥
+
+-- the clause is broken by a change of paths, so far as it goes by files
+abbrev pub BrokenByChange : Turn → Clause → Type 0
+BrokenByChange t clause.SeenBeforeWhole = ShowsCut t
+BrokenByChange t clause.NotFlushed = NotFlushed t
+BrokenByChange t clause.MovedBack = MovedBack t
+BrokenByChange t clause.CleanedEarly = CleanedEarly t
+BrokenByChange t c = ⊥
 
 -- These are the paths of which this holds, each once.
 pub record AreThose (P : Path → Type 0) (paths : List Path) : Type 0 where

@@ -17,35 +17,30 @@ use Rattle.md_clauses.specs.declared.facts.FileFacts.{FileFacts}
 use Rattle.md_clauses.specs.Changes.{named_by, turned_by}
 use Rattle.md_clauses.specs.Facts.{made, written, flushed, shown, hidden}
 use Rattle.md_judge.specs.declared.judge.files.Filed.{Filed}
-use Rattle.md_judge.specs.declared.judge.tables.NameFacts.{NameFacts}
 use Rattle.md_judge.specs.declared.judge.tables.Names.{Names}
 
 -- ---- names
 
--- what a name of no message says, and one that is not known
-abbrev pub no_facts : NameFacts
-no_facts = record { unique = None }
+-- the number of the unique part by the two parts of a name; the last number stands for the end of a name that is no message's
+abbrev pub unique_from : ℕ → ℕ → Option ℕ
+unique_from front ending = if ending == 4294967295 then None else Some front
 
--- what the two parts of a name say; the last number stands for the end of a name that is no message's
-abbrev pub facts_by : ℕ → ℕ → NameFacts
-facts_by front ending = if ending == 4294967295 then no_facts else record { unique = Some front }
-
--- what the name of a number says
-abbrev pub name_facts : Names → ℕ → NameFacts
-name_facts names name = facts_by (name / 4294967296) (name % 4294967296)
+-- the number of a name's unique part
+abbrev pub unique_number : Names → ℕ → Option ℕ
+unique_number names name = unique_from (name / 4294967296) (name % 4294967296)
 
 -- by what is kept of its end a name shows the flag T
 abbrev pub is_trashed_in : Names → ℕ → Bool
 is_trashed_in names name = unwrap_or (slice_get names.trashed.items (name % 4294967296)) false
 
-abbrev pub unique_by : Place → NameFacts → Option ℕ
-unique_by Tmp facts = None
-unique_by New facts = facts.unique
-unique_by Cur facts = facts.unique
+abbrev pub unique_by : Place → Option ℕ → Option ℕ
+unique_by Tmp unique = None
+unique_by New unique = unique
+unique_by Cur unique = unique
 
 -- the number of the unique name of a message's path
 abbrev pub unique_in : Names → Spot → Option ℕ
-unique_in names s = unique_by s.place (name_facts names s.name)
+unique_in names s = unique_by s.place (unique_number names s.name)
 
 -- whether a path names a message
 abbrev pub is_message_in : Names → Spot → Bool

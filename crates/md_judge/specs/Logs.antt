@@ -13,6 +13,7 @@ use Rattle.md_log.specs.declared.line.Line.{Line}
 use Rattle.md_log.specs.declared.line.Line.TheVariants as line
 use Rattle.md_log.specs.declared.line.Step.{Step}
 use Rattle.md_text.specs.Bind.{◌>>=◌, require}
+use Rattle.md_text.specs.Words.{is_passed_over}
 use Rattle.md_log.specs.Folders.{with_folder}
 use Rattle.md_log.specs.Lines.{line_of}
 
@@ -62,11 +63,6 @@ with_line l number (line.Allow c) = Ok (record l { allowed = c ∷ l.allowed })
 with_line l number (line.File path stamp) = with_file_line l path stamp
 with_line l number (line.Also path old) = with_also_line l path old
 with_line l number (line.Step step) = Ok (record l { steps = l.steps ++ record { number = number; step = step } ∷ [] })
-
--- an empty line and one that begins with `#` are passed over
-abbrev pub is_passed_over : List ℕ → Bool
-is_passed_over [] = true
-is_passed_over (b ∷ text) = b == 35
 
 -- the steps of the log have begun
 abbrev pub has_begun : Log → Bool

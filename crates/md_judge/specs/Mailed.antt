@@ -1,5 +1,5 @@
--- What the judge keeps of messages and of the copies of files is what a log tells.
-use Rattle.std.specs.Prelude.{ℕ, ◌≡◌, ◌↔◌, ◌<◌, ◌≤◌, ◌+◌, ◌-◌, ◌⊎◌, List, Option, Some, None, Bool, true, false, not, ◌&&◌, IsSome, length, slice_get, ◌==◌, if◌then◌else◌}
+-- What is kept of messages: how many paths each has, which files it was, when it was there, and which files are copies of it.
+use Rattle.std.specs.Prelude.{ℕ, ◌≡◌, ◌↔◌, ◌<◌, ◌≤◌, ◌+◌, ◌-◌, ◌⊎◌, List, Option, Some, None, Bool, true, false, not, ◌&&◌, IsSome, length, slice_get, ◌==◌, if◌then◌else◌, ◌||◌, ◌++◌, ◌∷◌, [], suc}
 use Rattle.md_dirs.specs.State.{State, file_at}
 use Rattle.md_dirs.specs.declared.paths.Path.{Path}
 use Rattle.md_name.specs.Names.{unique_of}
@@ -13,17 +13,34 @@ use Rattle.md_judge.specs.declared.judge.mail.Message.{Message}
 use Rattle.md_judge.specs.declared.judge.mail.Move.{Move}
 use Rattle.md_judge.specs.declared.judge.mail.Move.TheVariants.{Comes, Turns, Goes}
 use Rattle.md_judge.specs.declared.judge.tables.Names.{Names}
-use Rattle.md_judge.specs.Copies.{copies_of}
 use Rattle.md_judge.specs.Files.{unique_in}
 use Rattle.md_judge.specs.Filed.{HoldsOf}
 use Rattle.md_clauses.specs.Found.{NotesOne}
 use Rattle.md_judge.specs.Law.{Turn, TwoNames, Gone, UsedAgain}
-use Rattle.md_judge.specs.Listings.{is_of, message_of, present_in, IsIn}
+use Rattle.md_judge.specs.Listings.{is_of, message_of, present_in, IsIn, message_cmp, times_of, RecalledTimes}
 use Rattle.md_judge.specs.Logs.{Log}
 use Rattle.md_judge.specs.Messages.{WasFile, WasAs}
 use Rattle.md_judge.specs.Told.{at, is_message, IsMessageAt, IsThere}
-use Rattle.md_judge.specs.Names.{AreMarked}
 use Rattle.md_judge.specs.Words.{AreApart}
+use Rattle.md_judge.specs.Names.{AreMarked}
+use Rattle.std.specs.Option.{unwrap_or}
+use Rattle.std.specs.BTreeMap.{get}
+use Rattle.md_judge.specs.declared.judge.copied.Copies.{Copies}
+use Rattle.md_clauses.specs.Befores.{kept_moment}
+
+-- how many paths a file has of messages of a unique name, by the place of its first
+abbrev pub copies_by : Option Copies → ℕ → ℕ
+copies_by None unique = 0
+copies_by (Some first) unique = if first.unique == unique then first.count else 0
+
+-- the first place of a file is that of a unique name, or free
+abbrev pub is_place : Option Copies → ℕ → Bool
+is_place None unique = false
+is_place (Some first) unique = (first.unique == unique) || (first.count == 0)
+
+-- how many it has by all that is kept
+abbrev pub copies_of : Copied → ℕ → ℕ → ℕ
+copies_of c file unique = copies_by (slice_get c.first.items file) unique + unwrap_or (get message_cmp c.others (file, unique)) 0
 
 -- ---- what a log tells
 
@@ -215,3 +232,93 @@ pub record NotesMessages (t : Turn) (old new : Found) : Type 0 where
   pub two : NotesOne clause.TwoNames (TwoNames t) old new
   pub again : NotesOne clause.UsedAgain (UsedAgain t) old new
   pub gone : NotesOne clause.Gone (Gone t) old new
+
+-- ---- what steps do to what is kept
+
+-- the times at which a message was there that has gone since, and since when it is there
+abbrev pub times_by : Option Message → List (ℕ × ℕ)
+times_by None = []
+times_by (Some m) = times_of m
+
+abbrev pub since_by : Option Message → ℕ
+since_by None = 0
+since_by (Some m) = m.since
+
+-- A path of the message comes, at a moment: where it had none, it is there since then.
+pub record TimesCome (since : ℕ) (old new : Option Message) : Type 0 where
+  pub many : count_of new ≡ count_of old + 1
+  pub times : times_by new ≡ times_by old
+  pub begins : count_of old ≡ 0 → since_by new ≡ since
+  pub goes_on : 0 < count_of old → since_by new ≡ since_by old
+
+-- Its times stay, and so does how many paths it has.
+pub record TimesStay (old new : Option Message) : Type 0 where
+  pub many : count_of new ≡ count_of old
+  pub times : times_by new ≡ times_by old
+  pub goes_on : 0 < count_of old → since_by new ≡ since_by old
+
+-- A path of the message goes: where it has none then, the moment was its last.
+pub record TimesGo (last : ℕ) (old new : Option Message) : Type 0 where
+  pub ends : count_of new ≡ 0 → times_by new ≡ times_by old ++ (since_by old, last) ∷ []
+  pub stays : 0 < count_of new → times_by new ≡ times_by old
+  pub goes_on : since_by new ≡ since_by old
+
+-- what a move does to the times of its message
+abbrev pub TimedBy : Move → Option Message → Option Message → Type 0
+TimedBy (Comes since file) old new = TimesCome since old new
+TimedBy (Turns file) old new = TimesStay old new
+TimedBy (Goes last) old new = 0 < count_of old → TimesGo last old new
+
+-- This holds of a message that has the spot, and another stays as it is.
+abbrev pub AtSpot : Names → Spot → ℕ → ℕ → Type 0 → Option Message → Option Message → Type 0
+AtSpot names s folder u P old new = ((s.folder ≡ folder) × (unique_in names s ≡ Some u) × P) ⊎ (new ≡ old)
+
+-- what a path does to the times of a message that is added, names another file, or is taken
+abbrev pub CameAt : Names → ℕ → Option (Spot × ℕ) → ℕ → ℕ → Option Message → Option Message → Type 0
+CameAt names since None folder u old new = new ≡ old
+CameAt names since (Some added) folder u old new = AtSpot names added.0 folder u (TimesCome since old new) old new
+
+abbrev pub TurnedAt : Names → Option (Spot × ℕ × ℕ) → ℕ → ℕ → Option Message → Option Message → Type 0
+TurnedAt names None folder u old new = new ≡ old
+TurnedAt names (Some turned) folder u old new = AtSpot names turned.0 folder u (TimesStay old new) old new
+
+abbrev pub WentAt : Names → ℕ → Option (Spot × ℕ) → ℕ → ℕ → Option Message → Option Message → Type 0
+WentAt names last None folder u old new = new ≡ old
+WentAt names last (Some taken) folder u old new = AtSpot names taken.0 folder u (0 < count_of old → TimesGo last old new) old new
+
+-- What a change of paths does to the times of messages, at a line: the new name comes first.
+abbrev pub MakesTimes : Names → ℕ → Change → Mail → Mail → Type 0
+MakesTimes names now c old new = (folder u : ℕ) → (one two : Option Message)
+    × CameAt names (kept_moment (now + 1)) c.added folder u (message_of old folder u) one
+    × TurnedAt names c.turned folder u one two × WentAt names now c.taken folder u two (message_of new folder u)
+
+-- ---- what a log tells
+
+-- what is kept of the times of messages is what a log tells at a moment, of each unique name that has a number
+abbrev pub AreTimed : (ℕ → ℕ) → Names → Log → ℕ → Mail → Type 0
+AreTimed line names l i mail = (folder u : ℕ) (unique : List ℕ) → slice_get names.uniques u ≡ Some unique
+    → RecalledTimes line (λ j. IsThere (at l j) folder unique) i (message_of mail folder u)
+
+-- What is kept of which messages folders have, and of when each was there, is what a log tells at a moment, where the lines of its steps
+-- rise.
+pub record TellsTimes (line : ℕ → ℕ) (names : Names) (l : Log) (i : ℕ) (mail : Mail) : Type 0 where
+  pub folders : length mail.present.items ≡ l.opening.folders
+  pub present : ArePresent mail
+  pub timed : ((a b : ℕ) → a < b → line a < line b) → AreTimed line names l i mail
+
+-- whether the folder has the message after a move, by how many paths it has then and whether the folder had it
+abbrev pub PresentBy : Move → ℕ → Type 0 → Type 0
+PresentBy (Comes since file) count had = Unit {0}
+PresentBy (Turns file) count had = had
+PresentBy (Goes last) count had = had × (count ≡ 0 → ⊥)
+
+-- By a move of one message its folder has it or not, and nothing changes of others.
+pub record KeepsSets (folder u : ℕ) (step : Move) (count : ℕ) (old new : Mail) : Type 0 where
+  pub many : length new.present.items ≡ length old.present.items
+  pub one : folder < length old.present.items → IsIn (present_in new folder) u ↔ PresentBy step count (IsIn (present_in old folder) u)
+  pub others : (f v : ℕ) → (f ≡ folder → v ≡ u → ⊥) → IsIn (present_in new f) v ↔ IsIn (present_in old f) v
+
+-- There is one more folder. Where each had the messages that have a path it has them still, if none has a path in the new one.
+pub record AddsFolder (old new : Mail) : Type 0 where
+  pub many : length new.present.items ≡ suc (length old.present.items)
+  pub present : ArePresent old → ((u : ℕ) → count_of (message_of old (length old.present.items) u) ≡ 0) → ArePresent new

@@ -19,7 +19,7 @@ use Rattle.md_clauses.specs.Goings.{IsLost}
 use Rattle.md_judge.specs.Logs.{Log}
 use Rattle.md_judge.specs.Told.{at, is_message, IsOf, IsMessageAt, IsThere}
 use Rattle.md_judge.specs.Law.{Turn, IsTrashed, TwoNames, Gone, UsedAgain}
-use Rattle.md_judge.specs.Changes.{IsPathOf, Leads}
+use Rattle.md_judge.specs.Acts.{IsPathOf, Leads}
 
 -- the message was the file of this number, as far as is kept
 abbrev pub WasFile : Message → ℕ → Type 0

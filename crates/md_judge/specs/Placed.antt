@@ -14,9 +14,8 @@ use Rattle.md_clauses.specs.Found.{Has, clause_index}
 use Rattle.md_judge.specs.Law.{IsAllowed}
 use Rattle.md_judge.specs.Logs.{Log, Numbered, has_begun}
 use Rattle.md_judge.specs.Orders.{AreOfOneStretch, MayComeFirst, IsOrder, IsReordered, Fits, IsFindingIn}
-use Rattle.md_judge.specs.Ordered.{AreInOrder}
+use Rattle.md_judge.specs.Verdict.{AreInOrder, Remembers, IsAmong, AreLinesOf}
 use Rattle.md_judge.specs.Recalled.{HasFolders}
-use Rattle.md_judge.specs.Verdict.{Remembers, IsAmong, AreLinesOf}
 
 -- the fault says nothing of a line: memory is refused, or no order is found
 abbrev pub IsUnplaced : LineFault → Type 0

@@ -12,11 +12,10 @@ use Rattle.md_clauses.specs.declared.changes.Spot.{Spot}
 use Rattle.md_judge.specs.declared.judge.known.Known.{Known}
 use Rattle.md_judge.specs.declared.judge.tables.Names.{Names}
 use Rattle.md_judge.specs.Claims.{IsSince}
-use Rattle.md_judge.specs.Known.{file_in}
+use Rattle.md_judge.specs.Known.{file_in, since_in, was_in}
 use Rattle.md_judge.specs.Logs.{Log}
-use Rattle.md_judge.specs.Moments.{since_in, was_in}
 use Rattle.md_judge.specs.Names.{IsNumber}
-use Rattle.md_judge.specs.Readings.{IsHere, RecallsWas}
+use Rattle.md_judge.specs.Listings.{IsHere, RecallsWas}
 use Rattle.md_judge.specs.Told.{at}
 
 -- the spot of a name's number in a directory

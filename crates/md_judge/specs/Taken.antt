@@ -6,9 +6,8 @@ use Rattle.md_log.specs.declared.error.LogFault.{LogFault}
 use Rattle.md_judge.specs.declared.session.Session.{Session}
 use Rattle.md_judge.specs.Logs.{Log, empty_log, log_by}
 use Rattle.md_judge.specs.Orders.{AreFoundInOrder}
-use Rattle.md_judge.specs.Ordered.{AreInOrder}
+use Rattle.md_judge.specs.Verdict.{AreInOrder, HasNoTicks, HasRead}
 use Rattle.md_judge.specs.Placed.{HasPlaced}
-use Rattle.md_judge.specs.Verdict.{HasNoTicks, HasRead}
 
 -- no beginning of the lines is a log in which a step has ticks
 abbrev pub IsWithoutTicks : List (List ℕ) → Type 0

@@ -9,16 +9,26 @@ use Rattle.md_judge.specs.declared.session.Session.{Session}
 use Rattle.md_judge.specs.declared.judge.Judge.{Judge}
 use Rattle.md_judge.specs.Actors.{AreActing}
 use Rattle.md_judge.specs.Filed.{AreFiled, name_at}
-use Rattle.md_clauses.specs.Found.{Has}
-use Rattle.md_judge.specs.Gathered.{AreGathered}
+use Rattle.md_clauses.specs.Found.{Has, clause_index}
+use Rattle.md_judge.specs.Open.{AreGathered, AreOpen}
 use Rattle.md_judge.specs.Law.{IsAllowed, IsFinding}
 use Rattle.md_judge.specs.Logs.{Log, Numbered, has_begun}
-use Rattle.md_judge.specs.Mailed.{TellsMail}
-use Rattle.md_judge.specs.Open.{AreOpen}
-use Rattle.md_judge.specs.Ordered.{AreInOrder}
+use Rattle.md_judge.specs.Mailed.{TellsMail, TellsTimes}
 use Rattle.md_judge.specs.Recalled.{IsToldAt}
-use Rattle.md_judge.specs.Timed.{TellsTimes}
 use Rattle.md_judge.specs.Told.{moment}
+
+-- a finding is of an earlier line, or of this line and of a clause that comes before the one of this number in the order of the law
+abbrev pub IsEarlier : Finding → ℕ → ℕ → Type 0
+IsEarlier f line i = (f.line < line) ⊎ ((f.line ≡ line) × (clause_index f.clause < i))
+
+-- each of the findings is
+abbrev pub AreEarlier : List Finding → ℕ → ℕ → Type 0
+AreEarlier found line i = (k : ℕ) (f : Finding) → slice_get found k ≡ Some f → IsEarlier f line i
+
+-- Each finding comes before those of later lines, and before those of its line whose clauses come later in the law. So none is there twice.
+abbrev pub AreInOrder : List Finding → Type 0
+AreInOrder found =
+    (a b : ℕ) (f g : Finding) → a < b → slice_get found a ≡ Some f → slice_get found b ≡ Some g → IsEarlier f g.line (clause_index g.clause)
 
 -- no step of the log has ticks
 abbrev pub HasNoTicks : Log → Type 0

@@ -2,7 +2,7 @@
 //!
 //! Moments are numbered by the lines of the log: the step of line 7 goes from moment 7 to moment 8, and what the line 3 says of the
 //! beginning is so from moment 4 on.
-ghost use Rattle.std.specs.Prelude.{◌≡◌, ◌<◌, ℕ, suc, Some, Ok, true, slice_get, OnOk, IfOk, ◌↔◌, ◌⊎◌, IsTrue, length};
+ghost use Rattle.std.specs.Prelude.{◌≡◌, ◌<◌, ℕ, suc, Some, Ok, true, slice_get, OnOk, IfOk, ◌↔◌, ◌⊎◌, IsTrue};
 ghost use Rattle.md_dirs.specs.State.{has_folder};
 ghost use Rattle.md_judge.specs.Logs.{Log, empty_log, with_file_line, with_also_line};
 ghost use Rattle.md_log.specs.declared.clause.Clause.{Clause};
@@ -13,27 +13,23 @@ ghost use Rattle.md_judge.specs.Told.{at};
 ghost use Rattle.md_judge.specs.Recalled.{IsToldAt, HasFolders, Agrees};
 ghost use Rattle.md_judge.specs.Verdict.{Remembers};
 ghost use Rattle.md_judge.specs.Names.{AreNumbered, KeepNumbers, GrowsUniques};
-ghost use Rattle.md_judge.specs.Open.{AreNames, AreOpen, KeepsOpen};
-ghost use Rattle.md_judge.specs.Gathered.{AreGathered};
+ghost use Rattle.md_judge.specs.Open.{AreNames, AreOpen, KeepsOpen, AreGathered};
 
 mod about;
 mod acts;
 mod changes;
-mod claims;
-mod comings;
 mod copied;
 mod directories;
 mod files;
 mod filing;
-mod goings;
 mod held;
 mod known;
 mod listing;
 mod mail;
+mod messages;
 mod mixed;
 mod order;
 mod pairs;
-mod since;
 mod tables;
 mod texts;
 mod told;
@@ -49,16 +45,13 @@ use std::alloc::{AllocError, Global};
 use tables::Table;
 use watch::Watch;
 
-/// What a log tells so far.
 #[derive(Drop)]
 pub(crate) struct Judge {
     alloc: Global,
     actor_names: Table,
     known: Known,
     watch: Watch,
-    /// What actors read of folders.
     listings: Listings,
-    /// What the last step did to paths.
     act: Act,
     allowed: Clauses,
 }
@@ -80,7 +73,6 @@ impl Judge {
         }
     }
 
-    /// One more folder, after the others.
     pub(crate) fn add_folder(&mut self) -> Result<(), AllocError>
         ensures told { (lines : ℕ → ℕ) (l l' : Log) → Remembers lines l 0 self.old
             → l'.opening ≡ record l.opening { folders = suc l.opening.folders } → l'.clock ≡ l.clock → OnOk result (Remembers lines l' 0 self.new) }
@@ -112,7 +104,6 @@ impl Judge {
         self.watch.go_to(moment);
     }
 
-    /// A file that is there at the beginning.
     pub(crate) fn put_file(&mut self, line: usize, path: &Path, stamp: u64) -> Result<(), LineFault>
         ensures told { (lines : ℕ → ℕ) (l l' : Log) → Remembers lines l 0 self.old → with_file_line l path.now stamp ≡ Ok l' → line < lines 0
             → has_folder l.opening path.now ≡ true → OnOk result (Remembers lines l' 0 self.new) }
@@ -126,7 +117,6 @@ impl Judge {
         Ok(())
     }
 
-    /// A further name of a file that is there at the beginning.
     pub(crate) fn put_name(&mut self, line: usize, path: &Path, old: &Path) -> Result<(), LineFault>
         ensures told { (lines : ℕ → ℕ) (l l' : Log) → Remembers lines l 0 self.old → with_also_line l path.now old.now ≡ Ok l' → line < lines 0
             → has_folder l.opening path.now ≡ true → OnOk result (Remembers lines l' 0 self.new) }
@@ -214,7 +204,6 @@ impl Judge {
         self.watch.found.before(clause)
     }
 
-    /// The numbers of names.
     fn numbers(&mut self, names: &[Bytes]) -> Result<Vec<Name>, AllocError>
         ensures told { (lines : ℕ → ℕ) (l : Log) (i : ℕ) → Remembers lines l i self.old → OnOk result (Remembers lines l i self.new) }
         ensures found { OnOk result (self.new.watch.found ≡ self.old.watch.found) }

@@ -4,10 +4,9 @@ ghost use Rattle.md_head.specs.Header.{lines_of};
 ghost use Rattle.md_log.specs.declared.clause.Clause.{Clause};
 ghost use Rattle.md_judge.specs.Law.{IsFinding};
 ghost use Rattle.md_judge.specs.Logs.{Log, log_of};
-ghost use Rattle.md_judge.specs.Ordered.{AreInOrder};
+ghost use Rattle.md_judge.specs.Verdict.{AreInOrder, HasNoTicks, IsAmong};
 ghost use Rattle.md_judge.specs.Orders.{AreFoundInOrder};
 ghost use Rattle.md_judge.specs.Taken.{IsWithoutTicks, Answers, AnswersAny, HasTaken, HasEnded};
-ghost use Rattle.md_judge.specs.Verdict.{HasNoTicks, IsAmong};
 
 use crate::session::Session;
 use md_head::cut_line;

@@ -7,28 +7,24 @@ ghost use Rattle.md_judge.specs.declared.stretch.Waiting.{Waiting};
 ghost use Rattle.md_clauses.specs.Found.{Has, clause_index};
 ghost use Rattle.md_judge.specs.Law.{Breaks, IsFinding, turn};
 ghost use Rattle.md_log.specs.declared.error.LineFault.TheVariants.{NoMemory};
-ghost use Rattle.md_judge.specs.Logs.{Log, Numbered, is_passed_over, log_by, at_line, with_line, with_text};
-ghost use Rattle.md_judge.specs.Ordered.{AreEarlier, AreInOrder};
+ghost use Rattle.md_judge.specs.Logs.{Log, Numbered, log_by, at_line, with_line, with_text};
+ghost use Rattle.md_judge.specs.Verdict.{AreEarlier, AreInOrder, HasNoTicks, Remembers, IsAmong, HasRead, IsHeadOf, IsBroken, AddsFinding, KeepsHead};
 ghost use Rattle.md_judge.specs.Recalled.{HasFolders, Agrees};
 ghost use Rattle.md_judge.specs.Orders.{AreFoundInOrder};
 ghost use Rattle.md_judge.specs.Placed.{IsUnplaced, HasLines, HasWaiting, HasPlaced, HasSettled, HasJudged, AreInOrderAtLines, AreBelowAtLine, IsNextStep, TakesAt, with_next};
 ghost use Rattle.md_judge.specs.Taken.{IsWithoutTicks, Answers, AnswersAny, HasTaken, HasEnded, with_given};
 ghost use Rattle.md_judge.specs.Told.{at};
-ghost use Rattle.md_judge.specs.Verdict.{HasNoTicks, Remembers, IsAmong, HasRead, IsHeadOf, IsBroken, AddsFinding, KeepsHead};
 
 use crate::judge::Judge;
 use crate::log::Finding;
 use crate::stretch::{Stretch, Waiting};
 use crate::words::Passages;
-use md_log::{CLAUSES, Clause, Folders, Line, LineFault, LogFault, Step, read_line};
+use md_log::{CLAUSES, Clause, Folders, Line, LineFault, LogFault, Step, name_folder, read_line};
+use md_text::is_passed_over;
 use std::alloc::{AllocError, Global};
 use std::mem::replace;
 
-/// The first line of a log.
 const HEAD: &[u8] = b"maildir_log 1";
-
-/// The byte that a line begins with that is passed over.
-const COMMENT: u8 = b'#';
 
 /// The most lines that a log has: each is a moment, which is kept in four bytes.
 const MOST_LINES: u64 = 4_294_967_294;
@@ -173,7 +169,6 @@ impl Session {
         replace(&mut self.findings, Vec::new(self.alloc))
     }
 
-    /// Takes a line in, unless it is passed over.
     fn take(&mut self, number: u64, text: &[u8]) -> Result<(), LogFault>
         ensures read { (l l' : Log) → HasRead number l self.old → with_text l number text.now ≡ Ok l' → HasNoTicks l'
             → OnOk result (HasRead (suc number) l' self.new) }
@@ -210,7 +205,7 @@ impl Session {
         self.judge.go_to(number as usize);
         match line {
             Line::Folder { name } => {
-                self.folders.add(name)?;
+                name_folder(&mut self.folders, name.as_slice())?;
                 self.judge.add_folder()?;
                 Ok(())
             }
@@ -224,7 +219,6 @@ impl Session {
         }
     }
 
-    /// Judges a step, or lets it wait where it has ticks.
     fn take_step(&mut self, number: u64, step: Step, text: &[u8]) -> Result<(), LogFault>
         ensures read { (l : Log) → HasRead number l self.old → step.ticks ≡ None → number < 4294967295
             → HasFolders (at l (length l.steps)) step.call
@@ -296,7 +290,6 @@ impl Session {
         Ok(())
     }
 
-    /// Judges a step at a moment, and keeps the clauses that it breaks.
     fn judge_step(
         &mut self,
         moment: usize,
@@ -330,7 +323,6 @@ impl Session {
         Ok(())
     }
 
-    /// Keeps a clause, where the step that was judged last breaks it.
     fn note(&mut self, line: u64, clause: Clause, text: &[u8]) -> Result<(), AllocError>
         ensures keeps { OnOk result (KeepsHead self.old self.new) }
         ensures judge { OnOk result (self.new.judge ≡ self.old.judge) }
@@ -357,16 +349,6 @@ impl Session {
     }
 }
 
-/// Whether a line says nothing: it is empty or a comment.
-fn is_passed_over(text: &[u8]) -> bool
-    ensures { result ≡ is_passed_over text.now }
-{
-    match text {
-        [] => true,
-        [first, ..] => *first == COMMENT,
-    }
-}
-
 /// The number of the next line. There is no memory for a line past 18,446,744,073,709,551,615.
 fn next_line(line: u64) -> Result<u64, LogFault>
     ensures next { IfOk result (λ next. next ≡ line + 1) }
@@ -378,7 +360,6 @@ fn next_line(line: u64) -> Result<u64, LogFault>
     }
 }
 
-/// What was done at a line, where memory may be refused.
 fn done_at(line: u64, done: Result<(), AllocError>) -> Result<(), LogFault>
     ensures variant { is_ok result ≡ is_ok done }
     ensures fault { IfErr result (λ e. e.fault ≡ NoMemory) }

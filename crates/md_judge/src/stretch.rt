@@ -1,12 +1,11 @@
 //! Steps with ticks that follow one another in a log, and wait for an order.
-ghost use Rattle.std.specs.Prelude.{ℕ, ◌≡◌, ◌↔◌, [], Some, IsTrue, IfSome, OnOk, length, slice_get, unwrap_or};
+ghost use Rattle.std.specs.Prelude.{◌≡◌, ◌↔◌, [], Some, IsTrue, IfSome, OnOk, length, slice_get, unwrap_or};
 ghost use Rattle.md_judge.specs.Placed.{AddsWaiting, TakesAt, KeepsTicks, ticks_of};
 
 use md_log::{Step, Ticks};
 use std::alloc::{AllocError, Global};
 use std::collections::BTreeMap;
 
-/// A step that waits, and the text of its line.
 #[derive(Drop)]
 pub(crate) struct Waiting {
     pub(crate) step: Step,
@@ -16,7 +15,6 @@ pub(crate) struct Waiting {
 /// The steps that wait, and the lines of those that were placed elsewhere than they stand.
 #[derive(Drop)]
 pub(crate) struct Stretch {
-    /// Each until it is judged.
     steps: Vec<Option<Waiting>>,
     lines: Vec<usize>,
     moved: BTreeMap<usize, u64>,
@@ -73,7 +71,6 @@ impl Stretch {
         }
     }
 
-    /// One more step waits.
     pub(crate) fn add(
         &mut self,
         alloc: Global,
@@ -89,7 +86,6 @@ impl Stretch {
         Ok(())
     }
 
-    /// The ticks of a waiting step, by its number from 0.
     fn ticks(&self, at: usize) -> Option<Ticks>
         ensures { result ≡ ticks_of (slice_get self.now.steps.items at) }
     {
@@ -126,7 +122,6 @@ impl Stretch {
         self.steps.get_mut(at)?.take()
     }
 
-    /// The step of a line is placed at a moment.
     pub(crate) fn place(&mut self, moment: u64, line: u64) -> Result<(), AllocError>
         ensures moved { OnOk result (self.new.moved.entries ≡ [] → (moment ≡ line) × (self.old.moved.entries ≡ [])) }
         ensures steps { self.new.steps ≡ self.old.steps }
@@ -138,7 +133,6 @@ impl Stretch {
         Ok(())
     }
 
-    /// No step waits any more.
     pub(crate) fn clear(&mut self)
         ensures steps { self.new.steps.items ≡ [] }
         ensures lines { self.new.lines.items ≡ [] }

@@ -1,4 +1,5 @@
 //! The words of the lines that findings are at.
+use md_text::cut;
 use std::alloc::{AllocError, Global};
 
 const SPACE: u8 = b' ';
@@ -11,7 +12,6 @@ struct Passage {
     end: usize,
 }
 
-/// The actor and the call of each finding.
 #[derive(Drop)]
 pub(crate) struct Passages {
     text: Vec<u8>,
@@ -28,9 +28,9 @@ impl Passages {
 
     /// Keeps the words of a step's line: MOMENT ACTOR CALL..
     pub(crate) fn add(&mut self, line: &[u8]) -> Result<(), AllocError> {
-        let (_, rest) = first_word(line);
-        let (actor, rest) = first_word(rest);
-        let call = without_names(rest);
+        let (_, rest) = cut(line, SPACE);
+        let (actor, rest) = cut(rest.unwrap_or(&[]), SPACE);
+        let call = without_names(rest.unwrap_or(&[]));
         let at = self.text.len();
         self.text.extend_from_slice(actor)?;
         self.text.extend_from_slice(call)?;
@@ -42,7 +42,6 @@ impl Passages {
         Ok(())
     }
 
-    /// Puts the passages in an order of their numbers.
     pub(crate) fn sort(&mut self, order: &[(u64, usize)]) -> Result<(), AllocError> {
         let mut all = Vec::with_capacity(*self.all.allocator(), order.len())?;
         for (_, at) in order {
@@ -54,7 +53,6 @@ impl Passages {
         Ok(())
     }
 
-    /// The actor and the call of the finding of this number.
     pub(crate) fn words(&self, at: usize) -> (&[u8], &[u8]) {
         let Some(passage) = self.all.get(at) else {
             return (&[], &[]);
@@ -64,16 +62,6 @@ impl Passages {
         let call = text.get(passage.call..passage.end);
         (actor.unwrap_or(&[]), call.unwrap_or(&[]))
     }
-}
-
-/// The first word of a text, and what comes after the space after it.
-fn first_word(text: &[u8]) -> (&[u8], &[u8]) {
-    for (at, byte) in text.iter().enumerate() {
-        if *byte == SPACE {
-            return (&text[..at], &text[at + 1..]);
-        }
-    }
-    (text, &[])
 }
 
 /// A call without the names that a reading shows: these may be as many as a directory has.

@@ -1,5 +1,5 @@
 //! What actors did about messages since they last answered.
-ghost use Rattle.std.specs.Prelude.{if◌then◌else◌, ◌⊎◌, ◌≡◌, ◌<◌, ℕ, Some, None, OnOk, length, slice_get, unwrap_or};
+ghost use Rattle.std.specs.Prelude.{if◌then◌else◌, ◌≡◌, ◌<◌, ℕ, Some, None, OnOk, unwrap_or};
 ghost use Rattle.md_judge.specs.Actors.{kept, done_by, begun_by, moved_by, lines_of, is_about, no_about, IsAnswered, NotesMoves, PutsAbout, Tells};
 
 use super::mail::Key;
@@ -8,7 +8,6 @@ use md_clauses::{About, Moment, NO_ABOUT, moment_of};
 use std::alloc::{AllocError, Global};
 use std::collections::BTreeMap;
 
-/// The lines of an actor that matter.
 #[derive(Clone, Copy)]
 struct Lines {
     first: Option<usize>,
@@ -21,7 +20,6 @@ const NO_LINES: Lines = Lines {
     answered: None,
 };
 
-/// What each actor did about each message.
 #[derive(Drop)]
 pub(super) struct Actors {
     /// There is nothing where the actor did nothing about the message since it answered about it.
@@ -102,7 +100,6 @@ impl Actors {
         Ok(())
     }
 
-    /// Keeps what the actor did about the message since its last answer.
     pub(super) fn keep(&mut self, actor: u32, key: Key, about: About) -> Result<(), AllocError>
         ensures puts { OnOk result (PutsAbout actor key about self.old self.new) }
         ensures moved { self.new.moved ≡ self.old.moved }
@@ -110,7 +107,6 @@ impl Actors {
         self.about.insert(actor, key, about)
     }
 
-    /// The actor took the message from its folder at a line, while another folder had it.
     pub(super) fn note_moved(
         &mut self,
         actor: u32,
@@ -127,14 +123,12 @@ impl Actors {
         Ok(())
     }
 
-    /// The line at which the actor last took the message from its folder while a folder had it.
     pub(super) fn moved_at(&self, actor: u32, key: Key, to: u32) -> Option<usize>
         ensures { result ≡ moved_by self.now actor key to }
     {
         self.moved.get(&((actor, key), to)).copied()
     }
 
-    /// What the actor did about the message since its last answer.
     pub(super) fn done(&self, actor: u32, key: Key) -> About
         ensures { result ≡ done_by self.now actor key }
     {
@@ -151,7 +145,6 @@ impl Actors {
         self.note_answer(actor, key);
     }
 
-    /// The last line of an actor that has one was an answer about the message.
     fn note_answer(&mut self, actor: u32, key: Key)
         ensures here { IsAnswered key (lines_of self.old actor) (lines_of self.new actor) }
         ensures others { (a : ℕ) → (a ≡ actor → ⊥) → lines_of self.new a ≡ lines_of self.old a }
@@ -164,7 +157,6 @@ impl Actors {
         }
     }
 
-    /// The first line of the span of an answer.
     pub(super) fn first_line(&self, actor: u32, key: Key) -> usize
         ensures { (n : ℕ) → begun_by self.now actor key ≡ Some n → result ≡ n }
     {

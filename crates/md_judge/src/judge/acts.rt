@@ -7,18 +7,16 @@ ghost use Rattle.md_log.specs.declared.line.Deed.TheVariants as deed;
 ghost use Rattle.md_log.specs.declared.clause.Clause.TheVariants as clause;
 ghost use Rattle.md_judge.specs.Law.{turn, IsWrongReply, reply_by};
 ghost use Rattle.md_clauses.specs.Found.{Keeps, NotesOne, NotesFiles, KeepsAnswers};
-ghost use Rattle.md_judge.specs.Acts.{UnlinksPath};
+ghost use Rattle.md_judge.specs.Acts.{UnlinksPath, IsOlder, Leads};
 ghost use Rattle.md_judge.specs.Filed.{AreFiled, IsJudged, BrokenByFiles};
 ghost use Rattle.md_judge.specs.Logs.{Log};
-ghost use Rattle.md_judge.specs.Mailed.{KeepsPresent, TellsMail, NotesMessages};
-ghost use Rattle.md_judge.specs.Marks.{KeepsDeeds, MarksChange};
-ghost use Rattle.md_judge.specs.Timed.{AreTimed};
+ghost use Rattle.md_judge.specs.Mailed.{KeepsPresent, TellsMail, NotesMessages, AreTimed};
+ghost use Rattle.md_judge.specs.Actors.{KeepsDeeds, MarksChange, NotesAct, NotesMoves, GoesWith, acted, acted_at, reply_to_name};
 ghost use Rattle.md_log.specs.declared.line.Step.{Step};
-ghost use Rattle.md_judge.specs.Changes.{IsOlder, Leads};
 ghost use Rattle.md_judge.specs.Known.{EachSpot, IsBelow};
-ghost use Rattle.md_judge.specs.Actors.{NotesAct, NotesMoves, GoesWith, acted, acted_at, reply_to_name};
 ghost use Rattle.md_clauses.specs.declared.changes.Spot.{Spot};
 
+use super::about::Actors;
 use super::filing::Caller;
 use super::known::{Act, Known};
 use super::watch::Watch;
@@ -67,26 +65,24 @@ impl Watch {
             line: self.now,
         };
         self.files.call(&mut self.found, known, by, call, act)?;
-        self.note_call(known, actor, call, act)?;
+        self.actors.note_call(known, actor, self.now, call, act)?;
         self.change(known, actor, act)
     }
+}
 
+impl Actors {
     /// A call, which may be one on a message by a name of it.
     fn note_call(
         &mut self,
         known: &Known,
         actor: u32,
+        now: usize,
         call: &Call,
         act: &Act,
     ) -> Result<(), AllocError>
-        ensures found { OnOk result (self.new.found ≡ self.old.found) }
-        ensures files { OnOk result (self.new.files ≡ self.old.files) }
-        ensures now { OnOk result (self.new.now ≡ self.old.now) }
-        ensures mail { OnOk result (self.new.mail ≡ self.old.mail) }
-        ensures acts { self.old.now < 4294967296
-            → OnOk result (NotesAct actor self.old.now (acted known.now.names act.now.spot call.now) self.old.actors self.new.actors) }
-        ensures moved { OnOk result (self.new.actors.moved ≡ self.old.actors.moved) }
-        ensures deeds { OnOk result (KeepsDeeds self.old.actors self.new.actors) }
+        ensures acts { now < 4294967296 → OnOk result (NotesAct actor now (acted known.now.names act.now.spot call.now) self.old self.new) }
+        ensures moved { OnOk result (self.new.moved ≡ self.old.moved) }
+        ensures deeds { OnOk result (KeepsDeeds self.old self.new) }
     {
         let Some(spot) = act.spot else {
             return Ok(());
@@ -94,31 +90,26 @@ impl Watch {
         let Some(reply) = reply_to_name(call) else {
             return Ok(());
         };
-        self.note_act(known, actor, spot, reply)
+        self.note_act(known, actor, now, spot, reply)
     }
 
-    /// A call on a message by a name of it.
     fn note_act(
         &mut self,
         known: &Known,
         actor: u32,
+        now: usize,
         spot: Spot,
         reply: Reply,
     ) -> Result<(), AllocError>
-        ensures found { OnOk result (self.new.found ≡ self.old.found) }
-        ensures files { OnOk result (self.new.files ≡ self.old.files) }
-        ensures now { OnOk result (self.new.now ≡ self.old.now) }
-        ensures mail { OnOk result (self.new.mail ≡ self.old.mail) }
-        ensures acts { self.old.now < 4294967296
-            → OnOk result (NotesAct actor self.old.now (acted_at known.now.names spot (Some reply)) self.old.actors self.new.actors) }
-        ensures moved { OnOk result (self.new.actors.moved ≡ self.old.actors.moved) }
-        ensures deeds { OnOk result (KeepsDeeds self.old.actors self.new.actors) }
+        ensures acts { now < 4294967296 → OnOk result (NotesAct actor now (acted_at known.now.names spot (Some reply)) self.old self.new) }
+        ensures moved { OnOk result (self.new.moved ≡ self.old.moved) }
+        ensures deeds { OnOk result (KeepsDeeds self.old self.new) }
     {
         if let Some(unique) = known.unique_at(spot) {
             let key = (spot.folder, unique);
-            let mut about = self.actors.done(actor, key);
-            about.note_act(self.now, is_refused(reply));
-            self.actors.keep(actor, key, about)?;
+            let mut about = self.done(actor, key);
+            about.note_act(now, is_refused(reply));
+            self.keep(actor, key, about)?;
         }
         Ok(())
     }
@@ -161,7 +152,6 @@ pub(super) fn is_wrong_between(naming: Naming, are_there: (bool, bool), reply: R
     is_wrong(reply, defined_between(naming, are_there.0, are_there.1))
 }
 
-/// What a call on one path is defined to answer.
 pub(super) fn defined_at(deed: Deed, is_there: bool) -> Reply
     ensures { (p : Path) (now : ℕ) (s : State) → has_folder s p ≡ true → is_some (file_at s p) ≡ is_there
         → result ≡ reply_by ((ask_at deed p now).refusal s) }
@@ -174,7 +164,6 @@ pub(super) fn defined_at(deed: Deed, is_there: bool) -> Reply
     }
 }
 
-/// What a call on two paths is defined to answer.
 pub(super) fn defined_between(naming: Naming, is_old_there: bool, is_new_there: bool) -> Reply
     ensures { (old new : Path) (s : State) → has_folder s new ≡ true → is_some (file_at s old) ≡ is_old_there
         → is_some (file_at s new) ≡ is_new_there → result ≡ reply_by ((ask_between naming old new).refusal s) }
@@ -210,7 +199,6 @@ pub(super) fn create_change(spot: Spot, there: Option<u32>, file: u32) -> Change
     }
 }
 
-/// What an unlink does that was made.
 pub(super) fn unlink_change(spot: Spot, file: u32) -> Change
     ensures leads { (path : Spot → Path) (s : State) (now : ℕ) → file_at s (path spot) ≡ Some file
         → Leads path result s ((ask_at deed.Unlink (path spot) now).after s) }

@@ -8,26 +8,23 @@ ghost use Rattle.md_log.specs.declared.line.Reply.TheVariants as reply;
 ghost use Rattle.md_log.specs.declared.line.Step.{Step};
 ghost use Rattle.md_clauses.specs.declared.changes.Change.{Change};
 ghost use Rattle.md_clauses.specs.declared.changes.Spot.{Spot};
-ghost use Rattle.md_judge.specs.Actors.{GoesBy, GoesWith, KeepsActs, NotesMoves};
-ghost use Rattle.md_judge.specs.Acts.{IsDone};
-ghost use Rattle.md_judge.specs.Changes.{Leads};
+ghost use Rattle.md_judge.specs.Actors.{GoesBy, GoesWith, KeepsActs, NotesMoves, IsOfMessage, IsOfMissing, OnPath, OnTurned, Unlinks, MarksDeeds, MarksChange, nothing};
+ghost use Rattle.md_judge.specs.Acts.{IsDone, Leads};
 ghost use Rattle.md_judge.specs.Files.{unique_in};
 ghost use Rattle.md_clauses.specs.Found.{Keeps, NotesOne, KeepsPaths, KeepsFiles, KeepsAnswers};
 ghost use Rattle.md_judge.specs.Known.{EachSpot};
 ghost use Rattle.md_judge.specs.Law.{turn, Gone};
 ghost use Rattle.md_judge.specs.Logs.{Log};
 ghost use Rattle.md_judge.specs.Listings.{message_of};
-ghost use Rattle.md_judge.specs.Marks.{IsOfMessage, IsOfMissing, OnPath, OnTurned, Unlinks, MarksDeeds, MarksChange, nothing};
-ghost use Rattle.md_clauses.specs.Moments.{kept_moment};
-ghost use Rattle.md_judge.specs.Timed.{CameAt, TurnedAt, WentAt, MakesTimes};
-ghost use Rattle.md_judge.specs.Mailed.{AddAt, AddStep, TurnAt, TurnStep, TakeAt, TakeStep, MakeStep, TellsMail, NotesAdded, NotesMessages};
+ghost use Rattle.md_clauses.specs.Befores.{kept_moment};
+ghost use Rattle.md_judge.specs.Mailed.{CameAt, TurnedAt, WentAt, MakesTimes, AddAt, AddStep, TurnAt, TurnStep, TakeAt, TakeStep, MakeStep, TellsMail, NotesAdded, NotesMessages};
 ghost use Rattle.md_judge.specs.Recalled.{IsSpotOf};
 ghost use Rattle.md_judge.specs.Told.{at};
 
-use super::comings::{check_added, leaving};
-use super::goings::check_taken;
+use super::about::Actors;
 use super::known::{Act, Known};
-use super::mail::Move;
+use super::mail::{Mail, Move};
+use super::messages::{check_added, check_taken, leaving};
 use super::watch::Watch;
 use md_clauses::{Change, Going, Spot, line_before, moment_of};
 use md_log::Clause;
@@ -167,8 +164,10 @@ impl Watch {
         let Some((spot, file)) = added else {
             return Ok(());
         };
-        self.note_added(known, actor, spot)?;
-        self.add_path(known, self.now.saturating_add(1), spot, file)
+        self.actors
+            .note_added(known, &self.mail, actor, self.now, spot)?;
+        self.mail
+            .add_path(known, self.now.saturating_add(1), spot, file)
     }
 
     fn turn(
@@ -214,92 +213,11 @@ impl Watch {
         let Some((spot, file)) = taken else {
             return Ok(());
         };
-        self.take_path(known, spot, file)?;
-        self.note_taken(known, actor, spot, is_unlink)
+        self.mail.take_path(known, self.now, spot, file)?;
+        self.actors
+            .note_taken(known, &self.mail, actor, self.now, spot, is_unlink)
     }
 
-    fn note_added(&mut self, known: &Known, actor: u32, spot: Spot) -> Result<(), AllocError>
-        ensures found { OnOk result (self.new.found ≡ self.old.found) }
-        ensures files { OnOk result (self.new.files ≡ self.old.files) }
-        ensures now { OnOk result (self.new.now ≡ self.old.now) }
-        ensures mail { OnOk result (self.new.mail ≡ self.old.mail) }
-        ensures acts { OnOk result (KeepsActs self.old.actors self.new.actors) }
-        ensures moved { OnOk result (self.new.actors.moved ≡ self.old.actors.moved) }
-        ensures deeds { OnOk result (MarksDeeds actor (IsOfMissing known.now.names self.old.mail spot) (IsOfMessage known.now.names spot)
-            nothing self.old.actors self.new.actors) }
-    {
-        if let Some(unique) = known.unique_at(spot) {
-            let key = (spot.folder, unique);
-            let is_added = self.mail.count(key) == 0;
-            let mut about = self.actors.done(actor, key);
-            about.note_change(self.now);
-            about.is_added = about.is_added || is_added;
-            self.actors.keep(actor, key, about)?;
-        }
-        Ok(())
-    }
-
-    fn note_taken(
-        &mut self,
-        known: &Known,
-        actor: u32,
-        spot: Spot,
-        is_unlink: bool,
-    ) -> Result<(), AllocError>
-        ensures found { OnOk result (self.new.found ≡ self.old.found) }
-        ensures files { OnOk result (self.new.files ≡ self.old.files) }
-        ensures mail { OnOk result (self.new.mail ≡ self.old.mail) }
-        ensures acts { OnOk result (KeepsActs self.old.actors self.new.actors) }
-        ensures moves { OnOk result
-            (NotesMoves actor self.old.now (GoesBy known.now.names spot self.old.mail) self.old.actors self.new.actors) }
-        ensures deeds { OnOk result (MarksDeeds actor nothing (IsOfMessage known.now.names spot)
-            (λ k. IsOfMissing known.now.names self.old.mail spot k × (is_unlink ≡ true)) self.old.actors self.new.actors) }
-    {
-        let Some(unique) = known.unique_at(spot) else {
-            return Ok(());
-        };
-        let key = (spot.folder, unique);
-        let is_gone = self.mail.count(key) == 0;
-        let mut about = self.actors.done(actor, key);
-        about.note_change(self.now);
-        about.is_unlinked = about.is_unlinked || (is_gone && is_unlink);
-        self.actors.keep(actor, key, about)?;
-        if !is_gone {
-            return Ok(());
-        }
-        let folders = self.mail.folders_with(unique)?;
-        for folder in folders.iter() {
-            self.actors.note_moved(actor, key, *folder, self.now)?;
-        }
-        Ok(())
-    }
-
-    /// A path is there from the moment `at` on.
-    pub(super) fn add_path(
-        &mut self,
-        known: &Known,
-        at: usize,
-        spot: Spot,
-        file: u32,
-    ) -> Result<(), AllocError>
-        ensures found { OnOk result (self.new.found ≡ self.old.found) }
-        ensures files { OnOk result (self.new.files ≡ self.old.files) }
-        ensures now { OnOk result (self.new.now ≡ self.old.now) }
-        ensures mailed { OnOk result (AddAt (unique_in known.now.names spot) spot file self.old.mail self.new.mail) }
-        ensures actors { OnOk result (self.new.actors ≡ self.old.actors) }
-        ensures times { OnOk result ((folder u : ℕ) → CameAt known.now.names (kept_moment at) (Some (spot, file)) folder u
-            (message_of self.old.mail folder u) (message_of self.new.mail folder u)) }
-    {
-        let Some(unique) = known.unique_at(spot) else {
-            return Ok(());
-        };
-        let key = (spot.folder, unique);
-        let since = moment_of(at);
-        self.mail.make(key, Move::Comes { since, file })?;
-        self.mail.copy(file, unique)
-    }
-
-    /// A path names another file than before.
     fn turn_path(
         &mut self,
         known: &Known,
@@ -329,24 +247,107 @@ impl Watch {
         self.mail.uncopy(old, unique);
         self.mail.copy(new, unique)
     }
+}
 
-    /// A path is there for the last time before this step.
-    fn take_path(&mut self, known: &Known, spot: Spot, file: u32) -> Result<(), AllocError>
-        ensures found { OnOk result (self.new.found ≡ self.old.found) }
-        ensures files { OnOk result (self.new.files ≡ self.old.files) }
-        ensures now { OnOk result (self.new.now ≡ self.old.now) }
-        ensures mailed { OnOk result (TakeAt (unique_in known.now.names spot) spot file self.old.mail self.new.mail) }
-        ensures actors { OnOk result (self.new.actors ≡ self.old.actors) }
-        ensures times { OnOk result ((folder u : ℕ) → WentAt known.now.names self.old.now (Some (spot, file)) folder u
-            (message_of self.old.mail folder u) (message_of self.new.mail folder u)) }
+impl Actors {
+    fn note_added(
+        &mut self,
+        known: &Known,
+        mail: &Mail,
+        actor: u32,
+        now: usize,
+        spot: Spot,
+    ) -> Result<(), AllocError>
+        ensures acts { OnOk result (KeepsActs self.old self.new) }
+        ensures moved { OnOk result (self.new.moved ≡ self.old.moved) }
+        ensures deeds { OnOk result (MarksDeeds actor (IsOfMissing known.now.names mail.now spot) (IsOfMessage known.now.names spot)
+            nothing self.old self.new) }
     {
-        let at = self.now;
+        if let Some(unique) = known.unique_at(spot) {
+            let key = (spot.folder, unique);
+            let is_added = mail.count(key) == 0;
+            let mut about = self.done(actor, key);
+            about.note_change(now);
+            about.is_added = about.is_added || is_added;
+            self.keep(actor, key, about)?;
+        }
+        Ok(())
+    }
+
+    fn note_taken(
+        &mut self,
+        known: &Known,
+        mail: &Mail,
+        actor: u32,
+        now: usize,
+        spot: Spot,
+        is_unlink: bool,
+    ) -> Result<(), AllocError>
+        ensures acts { OnOk result (KeepsActs self.old self.new) }
+        ensures moves { OnOk result (NotesMoves actor now (GoesBy known.now.names spot mail.now) self.old self.new) }
+        ensures deeds { OnOk result (MarksDeeds actor nothing (IsOfMessage known.now.names spot)
+            (λ k. IsOfMissing known.now.names mail.now spot k × (is_unlink ≡ true)) self.old self.new) }
+    {
         let Some(unique) = known.unique_at(spot) else {
             return Ok(());
         };
         let key = (spot.folder, unique);
-        self.mail.make(key, Move::Goes { last: at })?;
-        self.mail.uncopy(file, unique);
+        let is_gone = mail.count(key) == 0;
+        let mut about = self.done(actor, key);
+        about.note_change(now);
+        about.is_unlinked = about.is_unlinked || (is_gone && is_unlink);
+        self.keep(actor, key, about)?;
+        if !is_gone {
+            return Ok(());
+        }
+        let folders = mail.folders_with(unique)?;
+        for folder in folders.iter() {
+            self.note_moved(actor, key, *folder, now)?;
+        }
+        Ok(())
+    }
+}
+
+impl Mail {
+    /// A path is there from the moment `at` on.
+    pub(super) fn add_path(
+        &mut self,
+        known: &Known,
+        at: usize,
+        spot: Spot,
+        file: u32,
+    ) -> Result<(), AllocError>
+        ensures mailed { OnOk result (AddAt (unique_in known.now.names spot) spot file self.old self.new) }
+        ensures times { OnOk result ((folder u : ℕ) → CameAt known.now.names (kept_moment at) (Some (spot, file)) folder u
+            (message_of self.old folder u) (message_of self.new folder u)) }
+    {
+        let Some(unique) = known.unique_at(spot) else {
+            return Ok(());
+        };
+        let key = (spot.folder, unique);
+        let since = moment_of(at);
+        self.make(key, Move::Comes { since, file })?;
+        self.copy(file, unique)
+    }
+
+    /// A path is there for the last time at the moment `at`.
+    fn take_path(
+        &mut self,
+        known: &Known,
+        at: usize,
+        spot: Spot,
+        file: u32,
+    ) -> Result<(), AllocError>
+        ensures mailed { OnOk result (TakeAt (unique_in known.now.names spot) spot file self.old self.new) }
+        ensures times { OnOk result ((folder u : ℕ) → WentAt known.now.names at (Some (spot, file)) folder u
+            (message_of self.old folder u) (message_of self.new folder u)) }
+    {
+        let Some(unique) = known.unique_at(spot) else {
+            return Ok(());
+        };
+        let key = (spot.folder, unique);
+        self.make(key, Move::Goes { last: at })?;
+        self.uncopy(file, unique);
         Ok(())
     }
 }

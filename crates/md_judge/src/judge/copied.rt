@@ -1,12 +1,10 @@
 //! Which messages files are copies of.
 ghost use Rattle.std.specs.Prelude.{◌≡◌, ◌↔◌, ◌<◌, ℕ, IsTrue, IfOk, OnOk, slice_get, true};
-ghost use Rattle.md_judge.specs.Copies.{copies_by, copies_of, is_place};
-ghost use Rattle.md_judge.specs.Mailed.{Recounts, one_more, one_fewer};
+ghost use Rattle.md_judge.specs.Mailed.{copies_by, copies_of, is_place, Recounts, one_more, one_fewer};
 
 use std::alloc::{AllocError, Global};
 use std::collections::BTreeMap;
 
-/// How many paths of messages of a unique name a file has.
 #[derive(Clone, Copy)]
 struct Copies {
     unique: u32,
@@ -35,7 +33,6 @@ impl Copied {
         }
     }
 
-    /// Whether the file has a path of a message of the unique name.
     pub(super) fn has(&self, file: u32, unique: u32) -> bool
         ensures { IsTrue result ↔ (0 < copies_of self.now file unique) }
     {
@@ -48,7 +45,6 @@ impl Copied {
         }
     }
 
-    /// How many paths of messages of the unique name are kept in the file's first place.
     fn first_count(&self, file: u32, unique: u32) -> u32
         ensures { result ≡ copies_by (slice_get self.now.first.items file) unique }
     {
@@ -81,7 +77,6 @@ impl Copied {
         }
     }
 
-    /// One path more in the first place, which is the unique name's or free.
     fn add_first(&mut self, file: u32, unique: u32) -> Result<(), AllocError>
         ensures { is_place (slice_get self.old.first.items file) unique ≡ true → OnOk result (Recounts file unique one_more self.old self.new) }
     {
@@ -92,7 +87,6 @@ impl Copied {
         Ok(())
     }
 
-    /// The file has a place for the first unique name.
     fn make_room(&mut self, file: u32) -> Result<(), AllocError>
         ensures { OnOk result ((n u : ℕ) → copies_of self.new n u ≡ copies_of self.old n u) }
     {
@@ -102,7 +96,6 @@ impl Copied {
         Ok(())
     }
 
-    /// One path fewer.
     pub(super) fn remove(&mut self, file: u32, unique: u32)
         ensures { Recounts file unique one_fewer self.old self.new }
     {

@@ -4,10 +4,9 @@ ghost use Rattle.std.specs.Option.{option_copied};
 ghost use Rattle.std.specs.Ordering.{nat_cmp};
 ghost use Rattle.std.specs.BTreeMap.{IsOrdered};
 ghost use Rattle.md_dirs.specs.Index.{directory_number};
-ghost use Rattle.md_judge.specs.Known.{file_in, Puts, Makes};
-ghost use Rattle.md_judge.specs.Readings.{was_of};
-ghost use Rattle.md_clauses.specs.Moments.{kept_moment};
-ghost use Rattle.md_judge.specs.Moments.{since_in, was_in, AddsEmpty, PutsMoments, MakesMoments};
+ghost use Rattle.md_judge.specs.Known.{file_in, Puts, Makes, since_in, was_in, AddsEmpty, PutsMoments, MakesMoments};
+ghost use Rattle.md_judge.specs.Listings.{was_of};
+ghost use Rattle.md_clauses.specs.Befores.{kept_moment};
 
 use super::mixed::mixed_name;
 use md_clauses::{Change, Moment, Name, Spot, line_before, moment_of};
@@ -31,7 +30,6 @@ pub(super) struct Directory {
 }
 
 impl Directory {
-    /// The last moment of a name that was there.
     pub(super) fn was(&self, name: Name) -> Option<Moment>
         ensures { result ≡ was_of self.now name }
     {
@@ -100,28 +98,21 @@ impl Directories {
     pub(super) fn file_at(&self, spot: Spot) -> Option<u32>
         ensures { result ≡ file_in self.now.all.items spot }
     {
-        let Some(directory) = self.directory(spot.folder, spot.place) else {
-            return None;
-        };
-        match directory.names.get(&spot.name) {
-            None => None,
-            Some(named) => Some(named.file),
-        }
+        let directory = self.directory(spot.folder, spot.place)?;
+        let named = directory.names.get(&spot.name)?;
+        Some(named.file)
     }
 
-    /// The line that last made a path be there or go.
     pub(super) fn last_change(&self, spot: Spot) -> Option<usize> {
         self.directory(spot.folder, spot.place)?
             .last_change(spot.name)
     }
 
-    /// A path that is there.
     pub(super) fn named_at(&self, spot: Spot) -> Option<Named> {
         let directory = self.directory(spot.folder, spot.place)?;
         directory.names.get(&spot.name).copied()
     }
 
-    /// When a path that was there was so last.
     pub(super) fn was_at(&self, spot: Spot) -> Option<Moment> {
         self.directory(spot.folder, spot.place)?.was(spot.name)
     }
@@ -135,7 +126,6 @@ impl Directories {
         self.put(spot, Named { file, since })
     }
 
-    /// A path is there.
     fn put(&mut self, spot: Spot, named: Named) -> Result<(), AllocError>
         ensures files { OnOk result (Puts spot (Some named.file) self.old.all.items self.new.all.items) }
         ensures moments { OnOk result (PutsMoments spot (Some named.since) (was_in self.old.all.items spot) self.old.all.items self.new.all.items) }
@@ -156,7 +146,6 @@ impl Directories {
         self.put(spot, Named { file, since })
     }
 
-    /// Since when a path is there.
     fn since(&self, spot: Spot) -> Option<Moment>
         ensures { result ≡ since_in self.now.all.items spot }
     {
@@ -178,7 +167,6 @@ impl Directories {
         Ok(())
     }
 
-    /// Makes the change of a line.
     pub(super) fn make(&mut self, line: usize, change: Change) -> Result<(), AllocError>
         ensures files { OnOk result (Makes change self.old.all.items self.new.all.items) }
         ensures moments { OnOk result (MakesMoments change line self.old.all.items self.new.all.items) }
@@ -197,7 +185,6 @@ impl Directories {
     }
 }
 
-/// The number of a directory.
 fn number_of(folder: u32, place: Place) -> usize
     ensures { result ≡ directory_number folder place }
 {

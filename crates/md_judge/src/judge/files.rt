@@ -9,10 +9,8 @@ use md_clauses::{FileFacts, Mark, NO_MARK};
 use md_log::Reply;
 use std::alloc::{AllocError, Global};
 
-/// The most files that a log has.
 pub(super) const MOST_FILES: u32 = 4_000_000_000;
 
-/// A file: what was done to it, and the lines that did it.
 #[derive(Clone, Copy)]
 pub(super) struct Filed {
     pub(super) facts: FileFacts,
@@ -38,14 +36,12 @@ impl FileLines {
         }
     }
 
-    /// The file is written to at a line, and the write answers so.
     fn write(&mut self, line: Mark, reply: Reply) {
         if reply == Reply::Ok || reply == Reply::Fault {
             self.written = line;
         }
     }
 
-    /// The file has one more path of a message, which may be in cur.
     fn show(&mut self, line: Mark, facts: &FileFacts, in_cur: bool) {
         if facts.seen == 0 {
             self.seen = line;
@@ -71,7 +67,6 @@ impl Files {
         }
     }
 
-    /// A file is made.
     pub(super) fn make(
         &mut self,
         line: Mark,
@@ -96,7 +91,6 @@ impl Files {
         self.all.get(file as usize).copied()
     }
 
-    /// A file is written to at a moment, and the write answers so.
     pub(super) fn write(&mut self, line: Mark, file: u32, reply: Reply, now: u64)
         ensures { Changes file (written reply now) self.old.all.items self.new.all.items }
     {
@@ -106,7 +100,6 @@ impl Files {
         }
     }
 
-    /// A file is flushed, and the call answers so.
     pub(super) fn flush(&mut self, file: u32, reply: Reply)
         ensures { Changes file (flushed reply) self.old.all.items self.new.all.items }
     {
@@ -115,7 +108,6 @@ impl Files {
         }
     }
 
-    /// A file has one more path of a message.
     pub(super) fn show(&mut self, line: Mark, file: u32, in_cur: bool) -> Result<(), AllocError>
         ensures { OnOk result (Changes file (shown in_cur) self.old.all.items self.new.all.items) }
     {
@@ -126,7 +118,6 @@ impl Files {
         Ok(())
     }
 
-    /// A file has one path of a message fewer.
     pub(super) fn hide(&mut self, file: u32)
         ensures { Changes file hidden self.old.all.items self.new.all.items }
     {

@@ -5,9 +5,8 @@ ghost use Rattle.md_log.specs.declared.line.Step.{Step};
 ghost use Rattle.md_clauses.specs.declared.changes.Spot.{Spot};
 ghost use Rattle.md_judge.specs.Logs.{Log};
 ghost use Rattle.md_judge.specs.Law.{turn};
-ghost use Rattle.md_judge.specs.Recalls.{IsAt, IsChange, BrokenAt, BrokenByChange};
+ghost use Rattle.md_judge.specs.Filed.{IsAt, IsChange, BrokenAt, BrokenByChange, AreFiled, IsJudged, BrokenByFiles};
 ghost use Rattle.md_clauses.specs.Found.{Notes, KeepsPaths, KeepsMessages};
-ghost use Rattle.md_judge.specs.Filed.{AreFiled, IsJudged, BrokenByFiles};
 ghost use Rattle.md_judge.specs.Files.{is_message_in, named, facts_at, Changes, AtStep, CallStep, LeaveStep, ChangeStep, WriteFinds, AtFinds, NamedFinds, LeaveFinds, ChangeFinds};
 
 use super::files::{Filed, Files};
@@ -17,7 +16,6 @@ use md_dirs::Place;
 use md_log::{Call, Clause, Deed, Reply};
 use std::alloc::AllocError;
 
-/// Who makes a call, and at which line.
 #[derive(Clone, Copy)]
 pub(super) struct Caller {
     pub(super) actor: u32,
@@ -108,7 +106,6 @@ impl Files {
         }
     }
 
-    /// A file is to be written to: whether readers see it, and who made it.
     fn check_written(&self, found: &mut Found, actor: u32, file: u32, reply: Reply)
         ensures { Notes (WriteFinds actor reply (facts_at self.now.all.items file)) found.old found.new }
     {
@@ -127,7 +124,6 @@ impl Files {
         found.note(is_mixed, Clause::Mixed, line_at(lines.made));
     }
 
-    /// Paths come to name files, and name files no longer.
     fn change(
         &mut self,
         found: &mut Found,
@@ -152,7 +148,6 @@ impl Files {
         Ok(())
     }
 
-    /// A path is to name a file: what the file was.
     fn check_named(&self, found: &mut Found, known: &Known, spot: Spot, file: u32)
         ensures { Notes (λ c. (is_message_in known.now.names spot ≡ true) × NamedFinds spot.place (facts_at self.now.all.items file) c) found.old found.new }
     {
@@ -169,7 +164,6 @@ impl Files {
         found.note(is_back, Clause::MovedBack, line_at(lines.cur));
     }
 
-    /// A path names a file from a line on.
     pub(super) fn name(
         &mut self,
         known: &Known,
@@ -185,7 +179,6 @@ impl Files {
         Ok(())
     }
 
-    /// A path, where there is one, no longer names its file.
     fn leave(&mut self, known: &Known, left: Option<(Spot, u32)>)
         ensures { LeaveStep known.now.names left self.old.all.items self.new.all.items }
     {

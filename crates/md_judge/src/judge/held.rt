@@ -2,7 +2,7 @@
 ghost use Rattle.std.specs.Prelude.{◌≡◌, ◌<◌, ℕ, List, Some, slice_get};
 ghost use Rattle.md_name.specs.Letters.{IsOfLetters};
 ghost use Rattle.md_judge.specs.Claims.{HasFlags, RecallsHeld};
-ghost use Rattle.md_judge.specs.Held.{held_both, held_in, held_by, held_of};
+ghost use Rattle.md_judge.specs.Said.{held_both, held_in, held_by, held_of};
 ghost use Rattle.md_judge.specs.Logs.{Log};
 ghost use Rattle.md_judge.specs.Names.{AreMarked};
 ghost use Rattle.md_judge.specs.Recalled.{IsToldAt};
@@ -17,7 +17,6 @@ use md_dirs::Place;
 use md_name::Flags;
 use md_name::laws::only_letters;
 
-/// The same by some names and by others.
 fn both(some: Option<Held>, others: Option<Held>) -> Option<Held>
     ensures { result ≡ held_both some others }
 {

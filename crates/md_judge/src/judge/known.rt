@@ -9,11 +9,9 @@ ghost use Rattle.md_judge.specs.Told.{at, ask_at, ask_between, after_ask, after_
 ghost use Rattle.md_log.specs.declared.line.Step.{Step};
 ghost use Rattle.md_log.specs.declared.line.Call.TheVariants as call;
 ghost use Rattle.md_judge.specs.Law.{turn};
-ghost use Rattle.md_judge.specs.Acts.{IsActOf, Does, NamesFirst, ReadsNone, IsAnswerCall, UnlinksPath};
-ghost use Rattle.md_judge.specs.Changes.{IsOlder, Leads};
+ghost use Rattle.md_judge.specs.Acts.{IsActOf, Does, NamesFirst, ReadsNone, IsAnswerCall, UnlinksPath, IsOlder, Leads};
 ghost use Rattle.md_judge.specs.Files.{unique_in, is_message_in};
-ghost use Rattle.md_judge.specs.Known.{EachSpot, IsBelow, files_after, Stands, Holds, Leaves};
-ghost use Rattle.md_judge.specs.Moments.{IsKnownAt, GoesOn};
+ghost use Rattle.md_judge.specs.Known.{EachSpot, IsBelow, files_after, Stands, Holds, Leaves, IsKnownAt, GoesOn};
 ghost use Rattle.md_judge.specs.Names.{AreNumbered, KeepNumbers, GrowsUniques, AreMarked};
 ghost use Rattle.md_judge.specs.Recalled.{IsSpotOf, IsToldAt, HasFolders, Agrees};
 
@@ -26,7 +24,6 @@ use md_dirs::{Path, Place};
 use md_log::{Call, Deed, LineFault, Naming, Reply, Step};
 use std::alloc::{AllocError, Global};
 
-/// What a call did to paths, and whether it was answered so.
 #[derive(Clone, Copy)]
 pub(super) struct Act {
     /// No directory gives the reply.
@@ -50,7 +47,6 @@ pub(super) const NO_ACT: Act = Act {
     turned_before: None,
 };
 
-/// What a log tells so far of its directories.
 #[derive(Drop)]
 pub(super) struct Known {
     pub(super) names: Names,
@@ -74,7 +70,6 @@ impl Known {
         }
     }
 
-    /// A path by numbers.
     pub(super) fn spot(&mut self, path: &Path) -> Result<Spot, AllocError>
         ensures spot { IfOk result (λ s. IsSpotOf self.new.names path.now s) }
         ensures keeps { KeepNumbers self.old.names self.new.names }
@@ -96,11 +91,10 @@ impl Known {
     {
         match spot.place {
             Place::Tmp => None,
-            _ => self.names.facts(spot.name).unique,
+            _ => self.names.unique_number(spot.name),
         }
     }
 
-    /// Whether a path names a message.
     pub(super) fn is_message(&self, spot: Spot) -> bool
         ensures { result ≡ is_message_in self.now.names spot }
     {
@@ -166,7 +160,6 @@ impl Known {
         Ok((spot, file))
     }
 
-    /// Goes on by a step of this line.
     pub(super) fn step(&mut self, line: usize, step: &Step) -> Result<Act, AllocError>
         ensures told { (lines : ℕ → ℕ) (l : Log) (i : ℕ) → IsToldAt lines l i self.old
             → slice_get l.steps i ≡ Some (record { number = line; step = step.now }) → lines i ≡ line → line < 4294967295
@@ -221,7 +214,7 @@ impl Known {
                 let new = self.spot(new)?;
                 self.between(line, *naming, old, new, *reply)
             }
-            Call::List { .. } | Call::Answer { .. } => Ok(NO_ACT),
+            _ => Ok(NO_ACT),
         }
     }
 
@@ -330,31 +323,19 @@ pub(super) fn change_at(
     ensures unlinks { UnlinksPath result.taken result.is_unlink deed reply }
 {
     match reply {
-        Reply::Ok => made_at(deed, spot, there, next),
+        Reply::Ok => match deed {
+            Deed::Create => create_change(spot, there, next),
+            Deed::Unlink => match there {
+                None => NO_CHANGE,
+                Some(file) => unlink_change(spot, file),
+            },
+            Deed::Write => NO_CHANGE,
+            Deed::Flush => NO_CHANGE,
+        },
         _ => NO_CHANGE,
     }
 }
 
-/// What a call on one path does that was made.
-fn made_at(deed: Deed, spot: Spot, there: Option<u32>, next: u32) -> Change
-    ensures leads { (path : Spot → Path) (s : State) (now : ℕ) → file_at s (path spot) ≡ there → next ≡ length s.files → IsOlder there next
-        → Leads path result s ((ask_at deed (path spot) now).after s) }
-    ensures spots { EachSpot (λ q. q ≡ spot) result }
-    ensures below { IsBelow (files_after deed Reply.Ok next) result }
-    ensures unlinks { UnlinksPath result.taken result.is_unlink deed Reply.Ok }
-{
-    match deed {
-        Deed::Create => create_change(spot, there, next),
-        Deed::Unlink => match there {
-            None => NO_CHANGE,
-            Some(file) => unlink_change(spot, file),
-        },
-        Deed::Write => NO_CHANGE,
-        Deed::Flush => NO_CHANGE,
-    }
-}
-
-/// What a call on two paths does.
 pub(super) fn change_between(
     naming: Naming,
     old: Spot,
@@ -370,27 +351,10 @@ pub(super) fn change_between(
     ensures unlinks { result.is_unlink ≡ false }
 {
     match reply {
-        Reply::Ok => made_between(naming, old, new, file, there),
+        Reply::Ok => match file {
+            None => NO_CHANGE,
+            Some(file) => naming_change(naming, old, new, file, there),
+        },
         _ => NO_CHANGE,
-    }
-}
-
-/// What a call on two paths does that was made.
-fn made_between(
-    naming: Naming,
-    old: Spot,
-    new: Spot,
-    file: Option<u32>,
-    there: Option<u32>,
-) -> Change
-    ensures leads { (path : Spot → Path) (s : State) → file_at s (path old) ≡ file → file_at s (path new) ≡ there
-        → Leads path result s ((ask_between naming (path old) (path new)).after s) }
-    ensures spots { EachSpot (λ q. (q ≡ old) ⊎ (q ≡ new)) result }
-    ensures below { (bound : ℕ) → IsOlder file bound → IsBelow bound result }
-    ensures unlinks { result.is_unlink ≡ false }
-{
-    match file {
-        None => NO_CHANGE,
-        Some(file) => naming_change(naming, old, new, file, there),
     }
 }

@@ -1,25 +1,24 @@
 //! Readings of directories, and listings.
 ghost use Rattle.std.specs.Prelude.{◌≡◌, ◌≢◌, ◌<◌, ◌↔◌, IsTrue, IfSome, ℕ, List, Some, None, OnOk, IfOk, unwrap_or};
+ghost use Rattle.std.specs.Bool.{nat_le};
 ghost use Rattle.std.specs.Ordering.{nat_cmp};
 ghost use Rattle.std.specs.BTreeSet as ordered;
 ghost use Rattle.std.specs.Option.{option_copied, option_map};
+ghost use Rattle.md_dirs.specs.declared.paths.Path.{Path};
 ghost use Rattle.md_dirs.specs.declared.paths.Place.{Place};
 ghost use Rattle.md_log.specs.declared.line.Step.{Step};
 ghost use Rattle.md_judge.specs.Logs.{Log};
-ghost use Rattle.md_judge.specs.Law.{turn, NotADirectory, Unlisted};
+ghost use Rattle.md_judge.specs.Law.{turn, NotADirectory, Unlisted, IsNeverThere, IsAlwaysThere};
 ghost use Rattle.md_log.specs.declared.clause.Clause.TheVariants as clause;
 ghost use Rattle.md_judge.specs.Actors.{NotesLook};
 ghost use Rattle.md_clauses.specs.Found.{Notes, NotesOne, Keeps, KeepsReplies, KeepsFiles, KeepsMessages, KeepsAnswers};
 ghost use Rattle.md_judge.specs.declared.judge.directories.Named.{Named};
-ghost use Rattle.md_judge.specs.Readings.{shown_wrongly, lacked, wrong_name, PartFinds, IsPartOf, BrokenByPart};
-ghost use Rattle.md_judge.specs.Open.{reading_of, first_in, shows_in, ShowsMore, IsOver, KeepsPart, IsToldPart};
-ghost use Rattle.md_judge.specs.Gathered.{gathered_of, gathered_in, nothing_gathered, with_read, is_complete, Gathers, EndsReading, KeepsGathered, RecallsGathered, IsMailTold, IsToldEnd};
-ghost use Rattle.md_judge.specs.Listings.{lacking, is_lacking, was_at_each, ListFinds, LeavesOut, IsCompleted, BrokenByListing};
+ghost use Rattle.md_judge.specs.Listings.{was_since, IsNameOf, IsHereSince, shown_wrongly, lacked, wrong_name, PartFinds, IsPartOf, BrokenByPart, lacking, is_lacking, was_at_each, ListFinds, LeavesOut, IsCompleted, BrokenByListing};
+ghost use Rattle.md_judge.specs.Open.{reading_of, first_in, shows_in, ShowsMore, IsOver, KeepsPart, IsToldPart, gathered_of, gathered_in, nothing_gathered, with_read, is_complete, Gathers, EndsReading, KeepsGathered, RecallsGathered, IsMailTold, IsToldEnd};
 
-use super::directories::Directory;
+use super::directories::{Directory, Named};
 use super::known::Known;
 use super::mail::{Mail, Message};
-use super::since::{is_there_since, was_there_since};
 use super::tables::Names;
 use super::watch::Watch;
 use md_clauses::{Found, Listed, Name};
@@ -60,10 +59,8 @@ impl Reading {
     }
 }
 
-/// What actors read of folders.
 pub(super) type Listings = BTreeMap<(u32, u32), Listing>;
 
-/// What an actor read of a folder.
 #[derive(Drop)]
 pub(super) struct Listing {
     /// The last step at which it did.
@@ -75,7 +72,6 @@ pub(super) struct Listing {
     has_cur: bool,
     /// The first and the last moment of each reading of this listing.
     spans: Vec<(usize, usize)>,
-    /// The messages that they showed.
     shown: BTreeSet<u32>,
 }
 
@@ -123,7 +119,6 @@ impl Listing {
         }
     }
 
-    /// Takes the reading of a place, which is over.
     fn take(&mut self, alloc: Global, place: Place) -> Reading
         ensures over { IsOver (reading_of self.exit.now place).first (λ n. ordered.contains nat_cmp (reading_of self.exit.now place).shown n) }
         ensures others { (p : Place) → (p ≡ place → ⊥) → reading_of self.exit.now p ≡ reading_of self.entry.now p }
@@ -140,7 +135,6 @@ impl Listing {
         reading
     }
 
-    /// A reading of new or cur is over.
     fn finish(
         &mut self,
         names: &Names,
@@ -154,7 +148,7 @@ impl Listing {
         ensures looked { self.exit.now.looked ≡ self.entry.now.looked }
     {
         for name in shown.iter() {
-            if let Some(unique) = names.facts(*name).unique {
+            if let Some(unique) = names.unique_number(*name) {
                 self.shown.insert(unique)?;
             }
         }
@@ -163,7 +157,6 @@ impl Listing {
         Ok(())
     }
 
-    /// It has read a place.
     fn note_read(&mut self, place: Place)
         ensures { self.exit.now ≡ with_read place self.entry.now }
     {
@@ -192,7 +185,6 @@ impl Listing {
         self.shown.clear();
     }
 
-    /// The first message of the folder that the listing lacks.
     fn lacking(&self, mail: &Mail, folder: u32) -> Option<u32>
         ensures finds { result ≡ lacking self.now mail.now folder }
         ensures law { (line : ℕ → ℕ) (name : ℕ → List ℕ) (first begin i : ℕ) (l : Log) (x : Step)
@@ -226,7 +218,6 @@ impl Listing {
         listed.is_left_out()
     }
 
-    /// Whether a message was there at each reading.
     fn was_there(&self, message: Option<&Message>) -> bool
         ensures { result ≡ was_at_each self.now.spans.items (option_copied message.entry) }
     {
@@ -284,7 +275,6 @@ fn check_part(
     found.note(is_wrong, Clause::NotADirectory, before);
 }
 
-/// A name that a part shows, or lacks where it is the last, as no directory does.
 fn wrong_name(
     directory: &Directory,
     reading: &Reading,
@@ -329,8 +319,35 @@ fn lacked(directory: &Directory, reading: &Reading, first: usize) -> Option<Name
     None
 }
 
+/// Whether a directory had a name at a moment since the first of a reading.
+pub(super) fn was_there_since(directory: &Directory, name: Name, first: usize) -> bool
+    ensures kept { result ≡ was_since directory.now name first }
+    ensures law { (line : ℕ → ℕ) (l : Log) (begin i : ℕ) (x : Step) (p : Path) → IsNameOf line l begin i p directory.now name first
+        → (IsTrue result → ⊥) ↔ IsNeverThere (turn l i x) begin p }
+{
+    is_kept_since(directory, name, first)
+}
+
+fn is_kept_since(directory: &Directory, name: Name, line: usize) -> bool
+    ensures { result ≡ was_since directory.now name line }
+{
+    let was = match directory.was(name) {
+        None => false,
+        Some(last) => last as usize >= line,
+    };
+    was || directory.names.contains_key(&name)
+}
+
+/// Whether a name that is there was there at each moment since the first of a reading.
+pub(super) fn is_there_since(named: Named, first: usize) -> bool
+    ensures kept { result ≡ nat_le named.since first }
+    ensures law { (line : ℕ → ℕ) (l : Log) (begin i : ℕ) (x : Step) (p : Path) → IsHereSince line l begin i p named first
+        → IsTrue result ↔ IsAlwaysThere (turn l i x) begin p }
+{
+    named.since as usize <= first
+}
+
 impl Watch {
-    /// A part of a reading.
     pub(super) fn list(
         &mut self,
         known: &Known,

@@ -1,23 +1,18 @@
 //! The messages of folders.
-ghost use Rattle.std.specs.Prelude.{◌≡◌, ◌↔◌, ◌⊎◌, ◌+◌, ◌-◌, ◌<◌, ◌++◌, ◌∷◌, ℕ, List, [], Some, None, IsTrue, IsSome, OnOk, IfOk, is_some, slice_get, slice_set};
+ghost use Rattle.std.specs.Prelude.{◌≡◌, ◌↔◌, ◌⊎◌, ◌+◌, ◌-◌, ◌<◌, ◌++◌, ◌∷◌, ℕ, [], Some, None, IsTrue, IsSome, OnOk, IfOk, is_some, slice_get, slice_set};
 ghost use Rattle.std.specs.Option.{option_copied};
 ghost use Rattle.md_judge.specs.Messages.{WasFile};
 ghost use Rattle.md_judge.specs.Listings.{is_of, times_of, was_in, was_through, message_of, present_in, IsIn};
-ghost use Rattle.md_judge.specs.Copies.{copies_of};
+ghost use Rattle.md_judge.specs.Mailed.{copies_of, count_of, count_after, IsBy, Moves, MovesOne, MakesOne, Prepares, KeepsOthers, is_free, is_first, fresh, begun, Recounts, one_more, one_fewer, TimedBy, KeepsSets, AddsFolder};
 ghost use Rattle.md_judge.specs.Said.{presence_by};
-ghost use Rattle.md_judge.specs.Timed.{TimedBy};
-ghost use Rattle.md_judge.specs.Present.{KeepsSets, AddsFolder};
-ghost use Rattle.md_judge.specs.Mailed.{count_of, count_after, IsBy, Moves, MovesOne, MakesOne, Prepares, KeepsOthers, is_free, is_first, fresh, begun, Recounts, one_more, one_fewer};
 
 use super::copied::Copied;
 use md_clauses::{Moment, Presence, line_before, moment_of};
 use std::alloc::{AllocError, Global};
 use std::collections::{BTreeMap, BTreeSet};
 
-/// A message: its folder, and the number of its unique name.
 pub(super) type Key = (u32, u32);
 
-/// The message of a unique name in a folder.
 #[derive(Drop)]
 pub(super) struct Message {
     folder: u32,
@@ -26,7 +21,6 @@ pub(super) struct Message {
     /// The first file that it was.
     file: u32,
     pub(super) since: Moment,
-    /// What few messages have.
     more: Option<Box<Past>>,
 }
 
@@ -66,14 +60,12 @@ impl Message {
         }
     }
 
-    /// Whether it is a message of this folder.
     fn is_of(&self, folder: u32) -> bool
         ensures { result ≡ is_of self.now folder }
     {
         self.folder == folder && folder != NO_FOLDER
     }
 
-    /// It has a past from now on, where it had none.
     fn begin_past(&mut self, alloc: Global) -> Result<(), AllocError>
         ensures more { OnOk result (self.new ≡ record self.old { more = self.new.more }) }
         ensures files { OnOk result ((n : ℕ) → WasFile self.new n ↔ WasFile self.old n) }
@@ -103,13 +95,9 @@ impl Message {
         }
     }
 
-    /// The line at which it went last.
     pub(super) fn gone_at(&self) -> Option<usize> {
-        let Some(past) = &self.more else {
-            return None;
-        };
-        let time = past.times.last()?;
-        Some(time.1)
+        let past = self.more.as_ref()?;
+        Some(past.times.last()?.1)
     }
 
     pub(super) fn was_file(&self, file: u32) -> bool
@@ -124,7 +112,6 @@ impl Message {
         }
     }
 
-    /// It makes a move.
     fn make(&mut self, alloc: Global, step: Move) -> Result<(), AllocError>
         ensures moves { OnOk result (Moves (count_after step) (IsBy step) (Some self.old) (Some self.new)) }
         ensures folder { OnOk result (self.new.folder ≡ self.old.folder) }
@@ -156,7 +143,6 @@ impl Message {
         Ok(())
     }
 
-    /// It is a file.
     fn be(&mut self, alloc: Global, file: u32) -> Result<(), AllocError>
         ensures more { OnOk result (self.new ≡ record self.old { more = self.new.more }) }
         ensures files { OnOk result ((n : ℕ) → WasFile self.new n ↔ (WasFile self.old n ⊎ (n ≡ file))) }
@@ -209,15 +195,12 @@ fn was_through(times: &[(usize, usize)], first: usize, last: usize) -> bool
     false
 }
 
-/// The messages of all folders.
 #[derive(Drop)]
 pub(super) struct Mail {
     alloc: Global,
     /// The message of each unique name in the folder where it came first, by the number of the name.
     first: Vec<Message>,
-    /// Those in other folders.
     others: BTreeMap<Key, Message>,
-    /// The unique names that are in each folder.
     present: Vec<BTreeSet<u32>>,
     copied: Copied,
 }
@@ -254,7 +237,6 @@ impl Mail {
         }
     }
 
-    /// A step does this to a message.
     pub(super) fn make(&mut self, key: Key, step: Move) -> Result<(), AllocError>
         ensures moves { OnOk result (MovesOne key.0 key.1 (count_after step) (IsBy step) self.old self.new) }
         ensures copied { OnOk result (self.new.copied ≡ self.old.copied) }
@@ -265,7 +247,6 @@ impl Mail {
         self.keep_present(key, step)
     }
 
-    /// Where the message comes, there is one that may have no path yet.
     fn prepare(&mut self, key: Key, step: Move) -> Result<(), AllocError>
         ensures prepares { OnOk result (Prepares step key.0 key.1 self.old self.new) }
         ensures present { OnOk result (self.new.present ≡ self.old.present) }
@@ -296,7 +277,6 @@ impl Mail {
         Ok(())
     }
 
-    /// Keeps whether the folder has the message.
     fn keep_present(&mut self, key: Key, step: Move) -> Result<(), AllocError>
         ensures rest { OnOk result (self.new ≡ record self.old { present = self.new.present }) }
         ensures present { OnOk result (KeepsSets key.0 key.1 step (count_of (message_of self.old key.0 key.1)) self.old self.new) }
@@ -318,14 +298,12 @@ impl Mail {
         Ok(())
     }
 
-    /// Whether the message ever was in its folder.
     fn has(&self, key: Key) -> bool
         ensures { result ≡ is_some (message_of self.now key.0 key.1) }
     {
         self.message(key).is_some()
     }
 
-    /// Whether the unique name came to this folder first.
     fn is_first(&self, key: Key) -> bool
         ensures { result ≡ is_first (slice_get self.now.first.items key.1) key.0 }
     {
@@ -349,7 +327,6 @@ impl Mail {
         self.put(key, Message::new(key.0, since, file))
     }
 
-    /// The unique name has a place for the folder where it comes first.
     fn make_room(&mut self, unique: u32) -> Result<(), AllocError>
         ensures messages { OnOk result ((f v : ℕ) → message_of self.new f v ≡ message_of self.old f v) }
         ensures present { OnOk result (self.new.present ≡ self.old.present) }
@@ -396,7 +373,6 @@ impl Mail {
         }
     }
 
-    /// How many paths the message has.
     pub(super) fn count(&self, key: Key) -> u32
         ensures { result ≡ count_of (message_of self.now key.0 key.1) }
     {
@@ -406,7 +382,6 @@ impl Mail {
         }
     }
 
-    /// The message, where it ever was in its folder.
     pub(super) fn presence(&self, key: Key) -> Option<Presence>
         ensures { result ≡ presence_by self.now key }
     {
@@ -422,21 +397,18 @@ impl Mail {
         line_before(self.message(key)?.since as usize)
     }
 
-    /// The unique names that are in a folder.
     pub(super) fn present(&self, folder: u32) -> Option<&BTreeSet<u32>>
         ensures { option_copied result ≡ slice_get self.now.present.items folder }
     {
         self.present.get(folder as usize)
     }
 
-    /// Whether the file is a message of the unique name in any folder.
     pub(super) fn is_copied(&self, file: u32, unique: u32) -> bool
         ensures { IsTrue result ↔ (0 < copies_of self.now.copied file unique) }
     {
         self.copied.has(file, unique)
     }
 
-    /// The folders that have a message of the unique name.
     pub(super) fn folders_with(&self, unique: u32) -> Result<Vec<u32>, AllocError>
         ensures { IfOk result (λ folders. (f : ℕ) → IsIn folders.items f ↔ IsIn (present_in self.now f) unique) }
     {
@@ -452,7 +424,6 @@ impl Mail {
         Ok(folders)
     }
 
-    /// Whether the folder has the message.
     fn is_present(&self, key: Key) -> bool
         ensures { IsTrue result ↔ IsIn (present_in self.now key.0) key.1 }
     {
@@ -462,7 +433,6 @@ impl Mail {
         }
     }
 
-    /// One more path of the file is a message of the unique name.
     pub(super) fn copy(&mut self, file: u32, unique: u32) -> Result<(), AllocError>
         ensures copied { OnOk result (Recounts file unique one_more self.old.copied self.new.copied) }
         ensures messages { self.new ≡ record self.old { copied = self.new.copied } }

@@ -23,7 +23,6 @@ const LEAST_TRIES: usize = 100_000;
 
 const TRIES_A_STEP: usize = 64;
 
-/// Why there is no order.
 #[derive(Clone, Copy)]
 pub(crate) enum Unplaced {
     NoMemory,
@@ -50,7 +49,6 @@ pub(crate) struct NoOrder {
     pub(crate) why: Unplaced,
 }
 
-/// A place in the order.
 #[derive(Clone, Copy)]
 struct Position {
     /// Where the steps that may come here begin among the choices, and which of them is next to be tried.
@@ -60,13 +58,11 @@ struct Position {
     asleep: usize,
 }
 
-/// The search for an order.
 #[derive(Drop)]
 struct Search<'a> {
     alloc: Global,
     trial: Trial<'a>,
     steps: &'a [Asked],
-    /// The moments at which steps are placed.
     moments: &'a [usize],
     by_begin: BTreeSet<(u64, usize)>,
     by_end: BTreeSet<(u64, usize)>,
@@ -82,7 +78,6 @@ struct Search<'a> {
 }
 
 impl Search<'_> {
-    /// Searches until an order is found.
     fn find(&mut self) -> Result<Vec<usize>, NoOrder> {
         let why = match self.run() {
             Ok(None) => match self.order() {
@@ -98,7 +93,6 @@ impl Search<'_> {
         })
     }
 
-    /// Places the steps, or says why they have no places.
     fn run(&mut self) -> Result<Option<Unplaced>, AllocError> {
         for (at, step) in self.steps.iter().enumerate() {
             self.by_begin.insert((step.ticks.begin, at))?;
@@ -124,7 +118,6 @@ impl Search<'_> {
         Ok(Some(Unplaced::TooManyOrders))
     }
 
-    /// Opens the next place.
     fn open(&mut self, asleep: usize) -> Result<(), AllocError> {
         let choices = self.choices.len();
         self.choose()?;
@@ -145,7 +138,6 @@ impl Search<'_> {
         Ok(())
     }
 
-    /// Adds the steps that may come next by their ticks to the choices.
     fn choose(&mut self) -> Result<(), AllocError> {
         let before = self.choices.len();
         let Some((end, _)) = self.by_end.first() else {
@@ -191,7 +183,6 @@ impl Search<'_> {
         }
     }
 
-    /// The moment of the last place.
     fn now(&self) -> usize {
         let depth = self.positions.len();
         let moment = self.moments.get(depth.saturating_sub(1));
@@ -290,7 +281,6 @@ impl Judge {
         self.search(&all, &names, moments)
     }
 
-    /// Looks for an order.
     fn search(
         &self,
         steps: &[Asked],
@@ -315,7 +305,6 @@ impl Judge {
         search.find()
     }
 
-    /// Makes a step ready to be placed, with the names that it shows.
     fn prepare(
         &mut self,
         all: &mut Vec<Asked>,
@@ -328,11 +317,7 @@ impl Judge {
         let Some(Waiting { step, .. }) = waiting else {
             return Ok(());
         };
-        let mut asked = self.asked(names, step)?;
-        if let Some(ticks) = step.ticks {
-            asked.ticks = ticks;
-        }
-        all.push(asked)?;
+        all.push(self.asked(names, step)?)?;
         Ok(())
     }
 
@@ -340,50 +325,60 @@ impl Judge {
         ensures told { (lines : ℕ → ℕ) (l : Log) (i : ℕ) → Remembers lines l i self.old → OnOk result (Remembers lines l i self.new) }
         ensures allowed { OnOk result (self.new.allowed ≡ self.old.allowed) }
     {
-        let mut asked = ANSWER;
+        let answer = Asked {
+            ticks: step.ticks.unwrap_or(ANSWER.ticks),
+            ..ANSWER
+        };
         match &step.call {
             Call::At { deed, path, reply } => {
-                asked.deal = Deal::At(*deed);
-                asked.reply = *reply;
-                asked.old = self.spot(path)?;
-                asked.new = asked.old;
+                let at = self.spot(path)?;
+                Ok(Asked {
+                    deal: Deal::At(*deed),
+                    reply: *reply,
+                    old: at,
+                    new: at,
+                    ..answer
+                })
             }
             Call::Between {
                 naming,
                 old,
                 new,
                 reply,
-            } => {
-                asked.deal = Deal::Between(*naming);
-                asked.reply = *reply;
-                asked.old = self.spot(old)?;
-                asked.new = self.spot(new)?;
-            }
+            } => Ok(Asked {
+                deal: Deal::Between(*naming),
+                reply: *reply,
+                old: self.spot(old)?,
+                new: self.spot(new)?,
+                ..answer
+            }),
             Call::List {
                 folder,
                 place,
                 reply,
                 shown,
             } => {
-                asked.deal = Deal::List;
-                asked.reply = *reply;
-                asked.old = Spot {
+                let begin = names.len();
+                names.extend_from_slice(&self.numbers(shown.as_slice())?)?;
+                let of = Spot {
                     folder: *folder,
                     place: *place,
                     name: ALL,
                 };
-                asked.new = asked.old;
-                asked.actor = self.actor(step.actor.as_slice())?;
-                let begin = names.len();
-                names.extend_from_slice(&self.numbers(shown.as_slice())?)?;
-                asked.shown = (begin, names.len());
+                Ok(Asked {
+                    deal: Deal::List,
+                    reply: *reply,
+                    old: of,
+                    new: of,
+                    actor: self.actor(step.actor.as_slice())?,
+                    shown: (begin, names.len()),
+                    ..answer
+                })
             }
-            Call::Answer { .. } => {}
+            Call::Answer { .. } => Ok(answer),
         }
-        Ok(asked)
     }
 
-    /// A path by numbers.
     fn spot(&mut self, path: &Path) -> Result<Spot, AllocError>
         ensures told { (lines : ℕ → ℕ) (l : Log) (i : ℕ) → Remembers lines l i self.old → OnOk result (Remembers lines l i self.new) }
         ensures allowed { OnOk result (self.new.allowed ≡ self.old.allowed) }
@@ -391,7 +386,6 @@ impl Judge {
         self.known.spot(path)
     }
 
-    /// The number of an actor.
     fn actor(&mut self, actor: &[u8]) -> Result<u32, AllocError>
         ensures told { (lines : ℕ → ℕ) (l : Log) (i : ℕ) → Remembers lines l i self.old → OnOk result (Remembers lines l i self.new) }
         ensures allowed { OnOk result (self.new.allowed ≡ self.old.allowed) }

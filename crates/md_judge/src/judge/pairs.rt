@@ -24,7 +24,6 @@ fn short(number: u32) -> u16
     u16::try_from(number).unwrap_or(NOBODY)
 }
 
-/// Slots by the numbers of unique names.
 #[derive(Drop)]
 struct Column<V> {
     slots: Vec<Slot<V>>,
@@ -71,7 +70,6 @@ impl<V: Copy + Drop> Column<V> {
         is_free && actor < none && key.0 < none
     }
 
-    /// Puts a value, whose slot is its own or has room for it.
     fn put(&mut self, actor: u32, key: Key, value: V) -> Result<(), AllocError>
         ensures { MayPut self.old actor key → OnOk result (Puts actor key (Some value) (in_column self.old) (in_column self.new)) }
     {
@@ -102,7 +100,6 @@ impl<V: Copy + Drop> Column<V> {
         Ok(())
     }
 
-    /// Takes a value, and makes its slot free.
     fn remove(&mut self, actor: u32, key: Key)
         ensures { Puts actor key None (in_column self.old) (in_column self.new) }
     {
@@ -115,7 +112,6 @@ impl<V: Copy + Drop> Column<V> {
     }
 }
 
-/// Where a value is.
 #[derive(Clone, Copy)]
 enum Where {
     First,
@@ -167,7 +163,6 @@ impl<V: Copy + Drop> Pairs<V> {
         }
     }
 
-    /// Where the value is, or may come.
     fn place(&self, actor: u32, key: Key) -> Where
         ensures first { result ≡ Where.First → MayPut self.now.first actor key }
         ensures second { result ≡ Where.Second → (in_column self.now.first actor key ≡ None) × MayPut self.now.second actor key }

@@ -2,7 +2,7 @@
 ghost use Rattle.std.specs.Prelude.{◌≡◌, ◌≢◌, ◌<◌, ◌≤◌, ◌+◌, ◌*◌, ◌/◌, ◌%◌, ◌++◌, ◌∷◌, [], ℕ, List, Some, None, length, slice_get, if◌then◌else◌, IsTrue, IfOk, IfSome, IfNone, OnOk, OnErr};
 ghost use Rattle.std.specs.Option.{option_copied};
 ghost use Rattle.md_name.specs.Names.{split_of, info_of, flags_of};
-ghost use Rattle.md_judge.specs.Files.{name_facts, is_trashed_in};
+ghost use Rattle.md_judge.specs.Files.{unique_number, is_trashed_in};
 ghost use Rattle.md_judge.specs.Words.{hash_of, AreApart, Finds};
 ghost use Rattle.md_judge.specs.Names.{StandFor, IsNumber, AreNumbered, KeepNumbers, GrowsUniques, AreMarked, has_trashed, alike_in, AddsAlike, NotesAlike, IsUnique};
 
@@ -14,10 +14,8 @@ use std::collections::BTreeMap;
 use std::hash::{FoldHasher, Hasher};
 use std::marker::Model;
 
-/// The most words that a table numbers.
 const MOST_WORDS: usize = 4_000_000_000;
 
-/// The hash by which a word is looked for.
 fn hash_of(word: &[u8]) -> u32
     ensures { result ≡ hash_of word.now }
 {
@@ -26,7 +24,6 @@ fn hash_of(word: &[u8]) -> u32
     (hasher.finish() % 4_294_967_296) as u32
 }
 
-/// The numbers under which words are looked for.
 #[derive(Drop)]
 struct Index {
     alloc: Global,
@@ -73,7 +70,6 @@ impl Index {
     }
 }
 
-/// The number, where the word of that number is this one.
 fn checked(words: &Words, number: Option<&u32>, word: &[u8]) -> Option<u32>
     ensures there { IfSome result (λ n. slice_get words.now n ≡ Some word.now) }
     ensures none { IfNone result ((n : ℕ) → option_copied number.entry ≡ Some n → slice_get words.now n ≡ Some word.now → ⊥) }
@@ -136,7 +132,6 @@ impl Table {
         let _ = &self.words;
     }
 
-    /// The number of a word that has this hash.
     fn find(&self, hash: u32, word: &[u8]) -> Option<u32>
         requires { hash ≡ hash_of word.now }
         ensures there { IfSome result (λ n. slice_get self.now n ≡ Some word.now) }
@@ -167,19 +162,9 @@ impl Table {
     }
 }
 
-/// What a name says of its message.
-#[derive(Clone, Copy)]
-pub(super) struct NameFacts {
-    /// The number of its unique part, where the name is a message's.
-    pub(super) unique: Option<u32>,
-}
-
-const NO_FACTS: NameFacts = NameFacts { unique: None };
-
 /// The number that stands for the end of a name that is no message's.
 const NO_ENDING: u32 = 4_294_967_295;
 
-/// How many numbers there are for the ends of names.
 pub(super) const ENDINGS: u64 = 4_294_967_296;
 
 /// Names, with what they say. Of a message's name the unique part is kept once, and so is what comes after it.
@@ -190,9 +175,7 @@ pub(super) struct Names {
     endings: Table,
     /// Whether each ending shows the flag T.
     trashed: Vec<bool>,
-    /// The endings that show these flags.
     alike: BTreeMap<u64, Vec<u32>>,
-    /// Names that are no message's.
     others: Table,
 }
 
@@ -229,7 +212,7 @@ impl Names {
         ensures number { IfOk result (λ n. IsNumber self.new name.now n) }
         ensures keeps { KeepNumbers self.old self.new }
         ensures uniques { OnOk result (GrowsUniques self.old self.new) }
-        ensures facts { IfOk result (λ n. IsUnique self.new (split_of name.now) (name_facts self.new n).unique) }
+        ensures facts { IfOk result (λ n. IsUnique self.new (split_of name.now) (unique_number self.new n)) }
         ensures numbered { OnOk result (AreNumbered self.new) }
     {
         let number = self.number_of(name)?;
@@ -248,7 +231,6 @@ impl Names {
         }
     }
 
-    /// The number of a name that is no message's.
     fn other(&mut self, name: &[u8]) -> Result<Name, AllocError>
         ensures number { IfOk result (λ n. StandFor self.new name.now None (n / 4294967296) (n % 4294967296)) }
         ensures keeps { KeepNumbers self.old self.new }
@@ -258,7 +240,6 @@ impl Names {
         Ok(name_of(number, NO_ENDING))
     }
 
-    /// The number of a message's name that has this unique part.
     fn message(&mut self, name: &[u8], unique: &[u8], info: Info) -> Result<Name, AllocError>
         ensures number { IfOk result (λ n. StandFor self.new name.now (Some (unique.now, info)) (n / 4294967296) (n % 4294967296)) }
         ensures keeps { KeepNumbers self.old self.new }
@@ -268,7 +249,6 @@ impl Names {
         Ok(name_of(self.unique(unique)?, ending))
     }
 
-    /// The number of what comes after a unique part, and says this.
     fn ending(&mut self, ending: &[u8], info: Info) -> Result<u32, AllocError>
         ensures number { IfOk result (λ n. slice_get self.new.endings n ≡ Some ending.now) }
         ensures few { IfOk result (λ n. n < 4294967295) }
@@ -283,7 +263,6 @@ impl Names {
         Ok(number)
     }
 
-    /// Keeps what a new ending says.
     fn note_flags(&mut self, number: u32, info: Info) -> Result<(), AllocError>
         ensures words { (self.new.uniques ≡ self.old.uniques) × (self.new.endings ≡ self.old.endings) × (self.new.others ≡ self.old.others) }
         ensures trashed { OnOk result (self.new.trashed.items ≡ self.old.trashed.items ++ has_trashed (flags_of info) ∷ []) }
@@ -301,7 +280,6 @@ impl Names {
         }
     }
 
-    /// One more ending shows these flags.
     fn note_alike(&mut self, number: u32, flags: u64) -> Result<(), AllocError>
         ensures rest { self.new ≡ record self.old { alike = self.new.alike } }
         ensures alike { OnOk result (AddsAlike flags number self.old self.new) }
@@ -323,7 +301,6 @@ impl Names {
         self.others.are_apart();
     }
 
-    /// The endings that show these flags.
     pub(super) fn alike(&self, flags: u64) -> &[u32]
         ensures { result.now ≡ alike_in self.now flags }
     {
@@ -333,7 +310,6 @@ impl Names {
         }
     }
 
-    /// Whether the name of a message shows the flag T.
     pub(super) fn is_trashed(&self, name: Name) -> bool
         ensures { result ≡ is_trashed_in self.now name }
     {
@@ -341,16 +317,15 @@ impl Names {
         self.trashed.get(ending as usize).copied().unwrap_or(false)
     }
 
-    pub(super) fn facts(&self, name: Name) -> NameFacts
-        ensures { result ≡ name_facts self.now name }
+    /// The number of a name's unique part, where it is a message's.
+    pub(super) fn unique_number(&self, name: Name) -> Option<u32>
+        ensures { result ≡ unique_number self.now name }
     {
         let ending = (name % ENDINGS) as u32;
         if ending == NO_ENDING {
-            return NO_FACTS;
+            return None;
         }
-        NameFacts {
-            unique: Some((name / ENDINGS) as u32),
-        }
+        Some((name / ENDINGS) as u32)
     }
 }
 

@@ -10,7 +10,6 @@ use std::marker::Model;
 #[derive(Drop)]
 pub(super) struct Words {
     text: Vec<u8>,
-    /// Where each word ends.
     ends: Vec<u32>,
 }
 
@@ -49,7 +48,6 @@ impl Words {
         self.text.get(begin as usize..end as usize)
     }
 
-    /// Whether the word of a number is this one.
     pub(super) fn is_at(&self, number: u32, word: &[u8]) -> bool
         ensures { IsTrue result ↔ (slice_get self.now number ≡ Some word.now) }
     {

@@ -1,26 +1,24 @@
 //! What actors told their users, beside what is so.
-ghost use Rattle.std.specs.Prelude.{◌≡◌, ℕ, List, Some};
+ghost use Rattle.std.specs.Prelude.{◌≡◌, ◌↔◌, ℕ, List, Some, IsTrue};
 ghost use Rattle.md_log.specs.declared.clause.Clause.TheVariants as clause;
 ghost use Rattle.md_log.specs.declared.line.Said.TheVariants as answer;
 ghost use Rattle.md_log.specs.declared.line.Step.{Step};
 ghost use Rattle.md_name.specs.Letters.{Set, IsOfLetters};
-ghost use Rattle.md_judge.specs.Claims.{RecallsSo};
-ghost use Rattle.md_judge.specs.Law.{turn, GaveUp, AnsweredFalsely};
+ghost use Rattle.md_judge.specs.Claims.{ClaimFinds, IsAnswerOf, IsClaim, BrokenByClaim, RecallsSo};
+ghost use Rattle.md_judge.specs.Law.{turn, IsSuccess, GaveUp, AnsweredFalsely};
 ghost use Rattle.md_judge.specs.Logs.{Log};
 ghost use Rattle.md_judge.specs.Actors.{Tells, begun_by, IsAnswering};
 ghost use Rattle.md_judge.specs.Said.{claim_by};
-ghost use Rattle.md_clauses.specs.Found.{Keeps, NotesOne, KeepsFiles, KeepsMessages};
+ghost use Rattle.md_clauses.specs.Found.{Keeps, Notes, NotesOne, KeepsFiles, KeepsMessages};
 
-use super::claims::check_claim;
 use super::known::Known;
 use super::listing::Listings;
 use super::mail::Key;
 use super::watch::Watch;
-use md_clauses::Claim;
-use md_log::Said;
+use md_clauses::{Claim, Found};
+use md_log::{Clause, Said};
 
 impl Watch {
-    /// An answer about a message.
     pub(super) fn answer(
         &mut self,
         known: &Known,
@@ -52,7 +50,6 @@ impl Watch {
         self.actors.told(actor, key);
     }
 
-    /// What is kept of an answer.
     fn claim(&self, known: &Known, listings: &Listings, actor: u32, said: Said, key: Key) -> Claim
         ensures whole { (n : ℕ) → begun_by self.entry.now.actors actor key ≡ Some n
             → result ≡ claim_by known.now self.entry.now listings.now actor said key n }
@@ -78,4 +75,23 @@ impl Watch {
             moved,
         }
     }
+}
+
+fn is_success(said: &Said) -> bool
+    ensures { IsTrue result ↔ IsSuccess said.now }
+{
+    !matches!(said, Said::Failed | Said::NotThere)
+}
+
+/// An actor answers about a message: whether it gave up, and whether what it says is so.
+fn check_claim(found: &mut Found, claim: &Claim)
+    ensures finds { Notes (ClaimFinds claim.now) found.old found.new }
+    ensures law { (line : ℕ → ℕ) (first i folder : ℕ) (unique : List ℕ) (l : Log) (x : Step)
+        → IsClaim line first i folder unique l x claim.now → Notes (BrokenByClaim (turn l i x)) found.old found.new }
+    ensures gives_up { (line : ℕ → ℕ) (first i folder : ℕ) (unique : List ℕ) (l : Log) (x : Step)
+        → IsAnswerOf line first i folder unique l x claim.now → NotesOne clause.GaveUp (GaveUp (turn l i x)) found.old found.new }
+{
+    let gives_up = is_success(&claim.said) && claim.gives_up();
+    found.note(gives_up, Clause::GaveUp, claim.about.act_line());
+    found.note(claim.is_false(), Clause::AnsweredFalsely, claim.denied_by());
 }

@@ -4,8 +4,7 @@
 use super::acts::{is_wrong_at, is_wrong_between};
 use super::directories::{Directories, Named};
 use super::known::{change_at, change_between};
-use super::listing::{Listings, Reading};
-use super::since::is_there_since;
+use super::listing::{Listings, Reading, is_there_since};
 use md_clauses::{Change, Moment, Name, Spot, moment_of};
 use md_dirs::Place;
 use md_log::{Deed, Naming, Reply, Ticks};
@@ -56,7 +55,6 @@ pub(super) const ANSWER: Asked = Asked {
 };
 
 impl Asked {
-    /// Whether it changes names.
     fn is_change(&self) -> bool {
         match self.deal {
             Deal::At(Deed::Create | Deed::Unlink) | Deal::Between(_) => self.reply == Reply::Ok,
@@ -87,7 +85,6 @@ fn meets(one: Spot, two: Spot) -> bool {
         && (one.name == two.name || one.name == ALL || two.name == ALL)
 }
 
-/// What tried calls made of a path.
 #[derive(Clone, Copy)]
 struct Tried {
     named: Option<Named>,
@@ -101,10 +98,8 @@ struct Part {
     shown: (usize, usize),
 }
 
-/// A path, and a moment.
 type PathThen = (u32, u32, Name, usize);
 
-/// An actor, a folder, a place and a moment.
 type PartThen = (u32, u32, u32, usize);
 
 /// What tried calls make of the directories and of readings. The directories stay as they are.
@@ -114,8 +109,6 @@ pub(super) struct Trial<'a> {
     listings: &'a Listings,
     names: &'a [Name],
     tried: BTreeMap<PathThen, Tried>,
-    /// The paths of which anything was ever tried.
-    paths: BTreeSet<(u32, u32, Name)>,
     parts: BTreeMap<PartThen, Part>,
     /// The names that a reading showed that is looked at.
     shown: BTreeSet<Name>,
@@ -136,7 +129,6 @@ impl Trial<'_> {
             listings,
             names,
             tried: BTreeMap::new(alloc),
-            paths: BTreeSet::new(alloc),
             parts: BTreeMap::new(alloc),
             shown: BTreeSet::new(alloc),
             next_file: u32::MAX,
@@ -145,7 +137,7 @@ impl Trial<'_> {
 
     /// What was tried of a path last, or is so of it.
     fn tried_at(&self, spot: Spot) -> Tried {
-        let last = (spot.folder, spot.place as u32, spot.name, usize::MAX);
+        let last = path_then(spot, usize::MAX);
         match self.tried.range(..=last).next_back() {
             Some((path, tried)) if (path.0, path.1, path.2) == (last.0, last.1, last.2) => *tried,
             _ => Tried {
@@ -156,13 +148,9 @@ impl Trial<'_> {
     }
 
     fn file_at(&self, spot: Spot) -> Option<u32> {
-        match self.tried_at(spot).named {
-            None => None,
-            Some(named) => Some(named.file),
-        }
+        Some(self.tried_at(spot).named?.file)
     }
 
-    /// Whether the directories give the call's reply at this moment.
     pub(super) fn fits(&mut self, asked: &Asked, now: usize) -> Result<bool, AllocError> {
         let is_old = self.file_at(asked.old).is_some();
         match asked.deal {
@@ -190,10 +178,10 @@ impl Trial<'_> {
         }
     }
 
-    /// Whether each name that the part shows was there since the first part.
     fn is_rightly_shown(&self, asked: &Asked, first: usize) -> bool {
         for name in shown_in(self.names, asked.shown) {
-            let tried = self.tried_at(named_in(asked.old, *name));
+            let name = *name;
+            let tried = self.tried_at(Spot { name, ..asked.old });
             if tried.named.is_none() && !is_from(tried.was, first) {
                 return false;
             }
@@ -207,15 +195,18 @@ impl Trial<'_> {
             return false;
         };
         for (name, _) in directory.names.iter() {
-            if self.lacks(named_in(of, *name), first) {
+            let name = *name;
+            if self.lacks(Spot { name, ..of }, first) {
                 return false;
             }
         }
-        for (folder, place, name) in self.paths.range((of.folder, of.place as u32, 0)..) {
-            if (*folder, *place) != (of.folder, of.place as u32) {
+        let from = (of.folder, of.place as u32, 0, 0);
+        for (then, _) in self.tried.range(from..) {
+            if (then.0, then.1) != (from.0, from.1) {
                 break;
             }
-            if self.lacks(named_in(of, *name), first) {
+            let name = then.2;
+            if self.lacks(Spot { name, ..of }, first) {
                 return false;
             }
         }
@@ -265,7 +256,6 @@ impl Trial<'_> {
         }
     }
 
-    /// Does what a call did whose reply fits.
     pub(super) fn make(&mut self, asked: &Asked, now: usize) -> Result<(), AllocError> {
         let file = self.file_at(asked.old);
         match asked.deal {
@@ -284,7 +274,6 @@ impl Trial<'_> {
         }
     }
 
-    /// Tries the change of a call.
     fn change(&mut self, now: usize, change: Change) -> Result<(), AllocError> {
         let next = moment_of(now.saturating_add(1));
         if let Some((spot, _)) = change.taken {
@@ -303,16 +292,11 @@ impl Trial<'_> {
         Ok(())
     }
 
-    /// Puts what is tried of a path.
     fn put(&mut self, spot: Spot, now: usize, tried: Tried) -> Result<(), AllocError> {
-        let place = spot.place as u32;
-        self.paths.insert((spot.folder, place, spot.name))?;
-        self.tried
-            .insert((spot.folder, place, spot.name, now), tried)?;
+        self.tried.insert(path_then(spot, now), tried)?;
         Ok(())
     }
 
-    /// Goes on with a reading, or ends it.
     fn read(&mut self, asked: &Asked, now: usize) -> Result<(), AllocError> {
         let first = match asked.reply {
             Reply::More => Some(self.first(asked).unwrap_or(now)),
@@ -323,48 +307,31 @@ impl Trial<'_> {
         Ok(())
     }
 
-    /// Takes back what a call did at this moment.
     pub(super) fn undo(&mut self, asked: &Asked, now: usize) {
-        let Asked { old, new, .. } = *asked;
-        self.tried
-            .remove(&(old.folder, old.place as u32, old.name, now));
-        self.tried
-            .remove(&(new.folder, new.place as u32, new.name, now));
+        self.tried.remove(&path_then(asked.old, now));
+        self.tried.remove(&path_then(asked.new, now));
         self.parts.remove(&then(asked, now));
     }
 }
 
-/// The names of a part of a reading, among those of all readings.
 fn shown_in(names: &[Name], shown: (usize, usize)) -> &[Name] {
-    match names.get(shown.0..shown.1) {
-        None => &[],
-        Some(names) => names,
-    }
+    names.get(shown.0..shown.1).unwrap_or(&[])
 }
 
-/// The reading before anything was tried.
+fn path_then(spot: Spot, moment: usize) -> PathThen {
+    (spot.folder, spot.place as u32, spot.name, moment)
+}
+
 fn reading_before<'a>(listings: &'a Listings, asked: &Asked) -> Option<&'a Reading> {
     let listing = listings.get(&(asked.actor, asked.old.folder))?;
     Some(listing.reading(asked.old.place))
 }
 
-/// The part of a reading at a moment.
 fn then(asked: &Asked, moment: usize) -> PartThen {
     let Spot { folder, place, .. } = asked.old;
     (asked.actor, folder, place as u32, moment)
 }
 
-/// A name of a directory.
-fn named_in(of: Spot, name: Name) -> Spot {
-    let Spot { folder, place, .. } = of;
-    Spot {
-        folder,
-        place,
-        name,
-    }
-}
-
-/// Whether a moment is known, and is this one or a later one.
 fn is_from(was: Option<Moment>, first: usize) -> bool {
     match was {
         None => false,

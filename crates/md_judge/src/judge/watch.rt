@@ -2,14 +2,11 @@
 ghost use Rattle.std.specs.Prelude.{◌≡◌, ◌+◌, ◌<◌, ℕ, [], Some, None, OnOk, unwrap_or};
 ghost use Rattle.md_log.specs.declared.clause.Clause.{Clause};
 ghost use Rattle.md_judge.specs.Actors.{begun_by, done_by, moved_by, no_about};
-ghost use Rattle.md_judge.specs.Copies.{copies_of};
+ghost use Rattle.md_judge.specs.Mailed.{copies_of, AddAt, CameAt, AddsFolder};
 ghost use Rattle.md_judge.specs.Files.{named, unique_in, Changes};
 ghost use Rattle.md_clauses.specs.Found.{Has};
 ghost use Rattle.md_judge.specs.Listings.{message_of};
-ghost use Rattle.md_judge.specs.Mailed.{AddAt};
-ghost use Rattle.md_clauses.specs.Moments.{kept_moment};
-ghost use Rattle.md_judge.specs.Present.{AddsFolder};
-ghost use Rattle.md_judge.specs.Timed.{CameAt};
+ghost use Rattle.md_clauses.specs.Befores.{kept_moment};
 
 use super::about::Actors;
 use super::files::Files;
@@ -18,7 +15,6 @@ use super::mail::Mail;
 use md_clauses::{Found, Spot};
 use std::alloc::{AllocError, Global};
 
-/// What steps did to files and messages so far.
 #[derive(Drop)]
 pub(super) struct Watch {
     pub(super) alloc: Global,
@@ -27,7 +23,6 @@ pub(super) struct Watch {
     pub(super) mail: Mail,
     /// The moment at which the step begins that is judged.
     pub(super) now: usize,
-    /// What is found at it.
     pub(super) found: Found,
 }
 
@@ -51,7 +46,6 @@ impl Watch {
         }
     }
 
-    /// One more folder, after the others.
     pub(super) fn add_folder(&mut self) -> Result<(), AllocError>
         ensures files { self.new.files ≡ self.old.files }
         ensures mail { self.new.mail ≡ record self.old.mail { present = self.new.mail.present } }
@@ -61,7 +55,6 @@ impl Watch {
         self.mail.add_folder()
     }
 
-    /// Goes on to the moment of a line.
     pub(super) fn go_to(&mut self, moment: usize)
         ensures files { self.new.files ≡ self.old.files }
         ensures mail { self.new.mail ≡ self.old.mail }
@@ -87,7 +80,6 @@ impl Watch {
         self.actors.note_line(actor, self.now)
     }
 
-    /// A path names a file at the beginning.
     pub(super) fn put(
         &mut self,
         known: &Known,
@@ -102,6 +94,7 @@ impl Watch {
             (message_of self.old.mail folder u) (message_of self.new.mail folder u)) }
     {
         self.files.name(known, line, spot, file)?;
-        self.add_path(known, line.saturating_add(1), spot, file)
+        self.mail
+            .add_path(known, line.saturating_add(1), spot, file)
     }
 }

@@ -2,7 +2,7 @@ use Rattle.std.proofs.Common.{length, refl, sym, ap, subst, ◌∙◌}
 use Rattle.md_dirs.specs.State.{State, file_at}
 use Rattle.md_judge.specs.declared.judge.files.Files.{Files}
 use Rattle.md_judge.specs.declared.judge.mail.Mail.{Mail}
-use Rattle.md_judge.specs.Present.{AddsFolder}
+use Rattle.md_judge.specs.Mailed.{AddsFolder}
 use Rattle.md_judge.specs.Filed.{AreFiled, name_at}
 use Rattle.md_judge.proofs.Actors.{acting-first}
 use Rattle.md_judge.proofs.Beginning.{folder-told}

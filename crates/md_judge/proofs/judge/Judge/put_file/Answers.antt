@@ -8,10 +8,9 @@ use Rattle.md_dirs.proofs.PathOrder.{path_total}
 use Rattle.md_log.specs.declared.error.LineFault.{LineFault}
 use Rattle.md_judge.specs.Filed.{name_at}
 use Rattle.md_judge.specs.Files.{named, unique_in, Changes}
-use Rattle.md_judge.specs.Mailed.{AddAt, TellsMail}
+use Rattle.md_judge.specs.Mailed.{AddAt, TellsMail, CameAt}
 use Rattle.md_judge.specs.Listings.{message_of}
-use Rattle.md_clauses.specs.Moments.{kept_moment}
-use Rattle.md_judge.specs.Timed.{CameAt}
+use Rattle.md_clauses.specs.Befores.{kept_moment}
 use Rattle.md_judge.proofs.Actors.{acting-first, more-messages}
 use Rattle.md_judge.proofs.Mailbegun.{tells-put}
 use Rattle.md_judge.proofs.Opened.{filed-file, file-log}

@@ -1,5 +1,5 @@
 use Rattle.md_judge.proofs.Growing.{grows}
-use Rattle.md_judge.proofs.Stepping.{on-ok}
+use Rattle.md_judge.proofs.Stepping.{on-ok, at-next, clocked, rests}
 use Rattle.std.proofs.Common.{ℕ, suc, ◌≡◌, ◌↔◌, inl, List, ◌<◌, OnOk, Option, Some, slice_get, length, refl, sym, ap, subst, ◌∙◌, arith}
 use Rattle.std.proofs.lemmas.Bool.{ltb-true}
 use Rattle.md_dirs.specs.declared.paths.Path.{Path}
@@ -13,31 +13,26 @@ use Rattle.std.specs.Prelude.{unwrap_or}
 use Rattle.md_clauses.specs.declared.about.About.{About}
 use Rattle.md_judge.specs.declared.judge.mail.Mail.{Mail}
 use Rattle.md_judge.specs.Claims.{RecallsActs, RecallsSo, IsLastLine}
-use Rattle.md_judge.specs.Deeds.{RecallsDeeds}
+use Rattle.md_judge.specs.Actors.{RecallsDeeds, AreActing, GoesWith, IsAnswering, MovedAt, NotesAct, NotesLook, NotesMoves, MayStand, acted, begun_by, done_by, move_cmp, moved_by, IsOfMissing, OnPath, ChangesPaths, Unlinks, MarksChange}
 use Rattle.md_judge.specs.Listings.{message_of}
 use Rattle.md_judge.specs.declared.judge.files.Files.{Files}
 use Rattle.md_log.specs.declared.line.Said.{Said}
-use Rattle.md_judge.specs.Logs.{Log}
+use Rattle.md_judge.specs.Logs.{Log, Numbered}
 use Rattle.std.specs.BTreeMap.{get}
 use Rattle.md_clauses.specs.declared.changes.Spot.{Spot}
-use Rattle.md_judge.specs.Actors.{AreActing, GoesWith, IsAnswering, MovedAt, NotesAct, NotesLook, NotesMoves, MayStand, acted, begun_by, done_by, move_cmp, moved_by}
 use Rattle.md_judge.specs.Acts.{IsAnswerCall, ReadsNone}
 use Rattle.md_judge.specs.Filed.{AreFiled, IsJudged, BrokenByFiles, name_at}
 use Rattle.md_clauses.specs.Found.{Has, Keeps, NotesOne, KeepsMessages, KeepsFiles, KeepsAnswers, NotesFiles}
-use Rattle.md_judge.specs.Gathered.{KeepsGathered, AreGathered, IsMailTold}
-use Rattle.md_judge.specs.Mailed.{AreMailed, ArePresent, KeepsPresent, TellsMail, NotesMessages, count_of}
-use Rattle.md_judge.specs.Marks.{IsOfMissing, OnPath, ChangesPaths, Unlinks, MarksChange}
-use Rattle.md_judge.specs.Open.{Listings, first_in, shows_in, KeepsPart, AreNames, AreOpen, IsToldPart}
+use Rattle.md_judge.specs.Open.{KeepsGathered, AreGathered, IsMailTold, Listings, first_in, shows_in, KeepsPart, AreNames, AreOpen, IsToldPart}
+use Rattle.md_judge.specs.Mailed.{AreMailed, ArePresent, KeepsPresent, TellsMail, NotesMessages, count_of, AreTimed, TellsTimes}
 use Rattle.md_judge.specs.Recalled.{IsToldAt, HasFolders}
 use Rattle.md_judge.specs.Words.{AreApart, KeepWords}
 use Rattle.md_clauses.specs.declared.found.Found.{Found}
 use Rattle.md_judge.specs.declared.judge.known.Known.{Known}
 use Rattle.md_judge.specs.declared.judge.watch.Watch.{Watch}
 use Rattle.md_judge.specs.Law.{turn, Breaks, IsWrongCall, NotADirectory, Overwritten, Unlisted, GaveUp, AnsweredFalsely}
-use Rattle.md_judge.specs.Logs.{Numbered}
 use Rattle.md_judge.specs.Said.{claim_by}
 use Rattle.md_judge.specs.Told.{moment, at, after_step, after_call, IsThere, IsStep, IsSpan, ActsOn, Looks}
-use Rattle.md_judge.specs.Timed.{AreTimed, TellsTimes}
 use Rattle.md_judge.specs.Verdict.{Remembers}
 use Rattle.md_judge.proofs.Acted.{acts-on, on-acts}
 use Rattle.md_judge.proofs.Actors.{acting-before, acting-called, acting-read, acting-answered, no-looks, stood}
@@ -61,7 +56,6 @@ use Rattle.md_judge.proofs.Unlisting.{rests-none}
 use Rattle.md_judge.proofs.Uniqued.{grows-on}
 use Rattle.md_judge.proofs.Reopened.{IsNoPart, open-before, open-rests, open-next, answer-no-part, reads-none}
 use Rattle.md_judge.proofs.Sparing.{found-none, found-one, ok-then, ok-two, ok-three, ok-both}
-use Rattle.md_judge.proofs.Stepping.{at-next, clocked, rests}
 use Rattle.md_judge.proofs.judge.Judge.step.Goals as goal
 
 -- ---- what is not judged

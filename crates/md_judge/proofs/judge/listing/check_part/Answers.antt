@@ -2,7 +2,7 @@ use Rattle.std.proofs.Common.{ℕ, ◌<◌, Option, IfSome, subst, ◌∙◌, ru
 use Rattle.std.proofs.lemmas.Grind.{common_steps}
 use Rattle.md_judge.specs.Law.{turn}
 use Rattle.md_clauses.specs.Found.{Notes}
-use Rattle.md_judge.specs.Readings.{PartFinds, BrokenByPart}
+use Rattle.md_judge.specs.Listings.{PartFinds, BrokenByPart}
 use Rattle.md_judge.proofs.Notes.{renoted}
 use Rattle.md_judge.proofs.Parts.{part-lawful}
 use Rattle.md_judge.proofs.judge.listing.check_part.Goals as goal

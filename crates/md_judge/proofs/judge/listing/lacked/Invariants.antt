@@ -1,6 +1,6 @@
 use Rattle.std.proofs.Common.{◌≡◌}
 use Rattle.std.specs.List.{find}
-use Rattle.md_judge.specs.Readings.{is_lacked, lacked}
+use Rattle.md_judge.specs.Listings.{is_lacked, lacked}
 use Rattle.md_judge.proofs.judge.listing.lacked.Given as goal
 
 -- what the names that are left have is what all have

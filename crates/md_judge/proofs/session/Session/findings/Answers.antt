@@ -2,9 +2,8 @@ use Rattle.std.proofs.Common.{List, ◌↔◌, sym, subst}
 use Rattle.md_judge.specs.declared.log.Finding.{Finding}
 use Rattle.md_judge.specs.Law.{IsFinding}
 use Rattle.md_judge.specs.Orders.{AreFoundInOrder}
-use Rattle.md_judge.specs.Ordered.{AreInOrder}
+use Rattle.md_judge.specs.Verdict.{AreInOrder, IsAmong}
 use Rattle.md_judge.specs.Taken.{with_given}
-use Rattle.md_judge.specs.Verdict.{IsAmong}
 use Rattle.md_judge.proofs.session.Session.findings.Goals as goal
 
 pub returns : goal.returns

@@ -4,8 +4,7 @@ use Rattle.md_judge.specs.declared.judge.Judge.{Judge}
 use Rattle.md_log.specs.declared.clause.Clause.TheVariants as clause
 use Rattle.md_clauses.specs.Found.{Has}
 use Rattle.md_judge.specs.Law.{turn, Breaks}
-use Rattle.md_judge.specs.Verdict.{Remembers}
-use Rattle.md_judge.specs.Ordered.{AreInOrder, AreEarlier}
+use Rattle.md_judge.specs.Verdict.{Remembers, AreInOrder, AreEarlier}
 use Rattle.md_judge.specs.Placed.{AreInOrderAtLines, AreBelowAtLine}
 use Rattle.md_judge.proofs.Ordered.{clause-next}
 use Rattle.md_judge.proofs.Verdicts.{clauses, clauses-numbered, adds-next, adds-all}

@@ -1,8 +1,7 @@
 use Rattle.std.proofs.Common.{◌≡◌}
 use Rattle.md_log.specs.declared.clause.Clause.{Clause}
-use Rattle.md_judge.specs.Ordered.{AreEarlier, AreInOrder}
+use Rattle.md_judge.specs.Verdict.{AreEarlier, AreInOrder, IsBroken, AddsFinding, KeepsHead}
 use Rattle.md_judge.specs.Placed.{AreInOrderAtLines, AreBelowAtLine}
-use Rattle.md_judge.specs.Verdict.{IsBroken, AddsFinding, KeepsHead}
 use Rattle.md_judge.proofs.Verdicts.{Passed}
 use Rattle.md_judge.proofs.session.Session.judge_step.Given as goal
 

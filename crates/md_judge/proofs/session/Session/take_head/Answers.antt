@@ -1,5 +1,6 @@
-use Rattle.std.proofs.Common.{◌≡◌, ◌↔◌, ◌⊎◌, Result, Ok, IsOk, refl, sym, ap, subst, ◌∙◌}
+use Rattle.std.proofs.Common.{ℕ, ◌≡◌, ◌↔◌, ◌⊎◌, List, Result, Ok, IsOk, refl, sym, ap, subst, ◌∙◌}
 use Rattle.std.proofs.lemmas.Result.{err_from_is_err_and}
+use Rattle.md_log.specs.Folders.{with_folder}
 use Rattle.md_log.specs.declared.error.LineFault.{LineFault}
 use Rattle.md_log.specs.declared.line.Line.{Line}
 use Rattle.md_log.specs.declared.clause.Clause.{Clause}
@@ -13,24 +14,25 @@ use Rattle.md_judge.proofs.Taken.{folder-ok, folder-wrong, remembers-head}
 use Rattle.md_judge.proofs.Verdicts.{allow-read, folder-read, path-read, file-rest, also-rest}
 use Rattle.md_judge.proofs.session.Session.take_head.Goals as goal
 
-pub returns-in_err-add-in-Folder-clause-agrees : goal.returns-in_err-add-in-Folder-clause-agrees
-returns-in_err-add-in-Folder-clause-agrees c =
+pub returns-in_err-name_folder-in-Folder-clause-agrees : goal.returns-in_err-name_folder-in-Folder-clause-agrees
+returns-in_err-name_folder-in-Folder-clause-agrees c =
     let p = err_from_is_err_and c.from_residual.result c.from_residual.ensures.1 in
     λ l read none. rw (p.1, p.2) (λ known. ap (with_line l c.args.number) c.in-Folder.is
-    ∙ folder-wrong c.args.number l c.args.self.now c.in-Folder.name _ read (c.in_err-add-in-Folder.ensures.folders known))
+    ∙ folder-wrong c.args.number l c.args.self.now c.in-Folder.name _ read
+    (ap (λ (name : List ℕ). with_folder c.args.self.now.folders name) (sym c.as_slice.ensures) ∙ c.in_err-name_folder-in-Folder.ensures.folders known))
 
 pub returns-in-Folder : goal.returns-in-Folder
-returns-in-Folder c = record {
+returns-in-Folder c = let named = ap (λ (name : List ℕ). with_folder c.args.self.now.folders name) (sym c.as_slice.ensures) in record {
   read = λ l l' read none head is.
       let done : Result (Unit {0}) LineFault = Ok tt in
-      folder-read c.args.number l l' c.args.self.now (record c.args.self.now { folders = c.add.new.self; judge = c.add_folder.new.self }) read none refl
+      folder-read c.args.number l l' c.args.self.now (record c.args.self.now { folders = c.name_folder.new.folders; judge = c.add_folder.new.self }) read none refl
       refl refl c.go_to.new.self c.go_to.ensures.told c.go_to.ensures.allowed done
-      c.in_ok-add_folder-in-Folder.ensures.allowed c.in-Folder.name c.in_ok-add-in-Folder.ensures.folders
+      c.in_ok-add_folder-in-Folder.ensures.allowed c.in-Folder.name (named ∙ c.in_ok-name_folder-in-Folder.ensures.folders)
       (subst (λ (x : Line). with_line l c.args.number x ≡ Ok l') c.in-Folder.is is) c.in_ok-add_folder-in-Folder.ensures.told;
   waits = refl;
   agrees = λ l read none.
       subst (λ (x : Line). IsOk (with_line l c.args.number x)) (sym c.in-Folder.is)
-      (folder-ok c.args.number l c.args.self.now c.in-Folder.name _ read c.in_ok-add-in-Folder.ensures.folders);
+      (folder-ok c.args.number l c.args.self.now c.in-Folder.name _ read (named ∙ c.in_ok-name_folder-in-Folder.ensures.folders));
 }
 
 pub returns-in-Allow : goal.returns-in-Allow

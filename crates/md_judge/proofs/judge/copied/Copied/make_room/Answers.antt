@@ -1,6 +1,6 @@
 use Rattle.std.proofs.Common.{◌+◌, ◌∙◌, refl, ap, unwrap_or, slice_get}
 use Rattle.std.specs.BTreeMap.{get}
-use Rattle.md_judge.specs.Copies.{copies_by}
+use Rattle.md_judge.specs.Mailed.{copies_by}
 use Rattle.md_judge.specs.Listings.{message_cmp}
 use Rattle.md_judge.proofs.Writing.{room-copies}
 use Rattle.md_judge.proofs.judge.copied.Copied.make_room.Goals as goal

@@ -1,5 +1,5 @@
 use Rattle.std.proofs.Common.{◌≡◌, ℕ}
-use Rattle.md_judge.specs.Copies.{copies_of}
+use Rattle.md_judge.specs.Mailed.{copies_of}
 use Rattle.md_judge.proofs.judge.copied.Copied.make_room.Given as goal
 
 abbrev pub invariant-loop : goal.invariant-loop

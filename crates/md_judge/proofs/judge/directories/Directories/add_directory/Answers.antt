@@ -1,6 +1,6 @@
 use Rattle.std.proofs.Common.{List, sym, subst}
 use Rattle.md_judge.specs.declared.judge.directories.Directory.{Directory}
-use Rattle.md_judge.specs.Moments.{AddsEmpty}
+use Rattle.md_judge.specs.Known.{AddsEmpty}
 use Rattle.md_judge.proofs.Beginning.{adds-one}
 use Rattle.md_judge.proofs.judge.directories.Directories.add_directory.Goals as goal
 

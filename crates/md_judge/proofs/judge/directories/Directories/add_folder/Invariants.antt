@@ -1,4 +1,4 @@
-use Rattle.md_judge.specs.Moments.{AddsEmpty}
+use Rattle.md_judge.specs.Known.{AddsEmpty}
 use Rattle.md_judge.proofs.judge.directories.Directories.add_folder.Given as goal
 
 abbrev pub invariant-loop : goal.invariant-loop

@@ -1,6 +1,6 @@
 use Rattle.std.proofs.Common.{ℕ, ◌≡◌, ◌+◌, Some, ap, subst, sym, arith}
 use Rattle.md_clauses.specs.declared.changes.Spot.{Spot}
-use Rattle.md_clauses.specs.Moments.{kept_moment}
+use Rattle.md_clauses.specs.Befores.{kept_moment}
 use Rattle.md_judge.proofs.Moments.{makes_moments, Takes, Turns, Adds}
 use Rattle.md_judge.proofs.judge.directories.Directories.make.Goals as goal
 use Rattle.md_judge.proofs.judge.directories.Directories.make.Goals.{in-Some+in_ok-take, in_default, in-Some-turned+in_ok-turn, in_default-turned}

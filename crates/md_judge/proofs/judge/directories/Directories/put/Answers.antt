@@ -1,6 +1,6 @@
 use Rattle.std.proofs.Common.{Some, refl, length, arith}
 use Rattle.std.proofs.lemmas.Option.{slice_get_read}
-use Rattle.md_judge.specs.Moments.{was_in}
+use Rattle.md_judge.specs.Known.{was_in}
 use Rattle.md_judge.proofs.Spots.{puts, puts_moments, stays}
 use Rattle.md_judge.proofs.judge.directories.Directories.put.Goals as goal
 

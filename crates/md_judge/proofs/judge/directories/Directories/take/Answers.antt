@@ -2,7 +2,7 @@ use Rattle.std.proofs.Common.{None, Some, cond, refl, ◌∙◌, length, arith}
 use Rattle.std.specs.Ordering.{nat_cmp, eq_by_cmp}
 use Rattle.std.specs.BTreeMap.{get}
 use Rattle.std.proofs.lemmas.Option.{slice_get_read}
-use Rattle.md_clauses.specs.Moments.{kept_moment}
+use Rattle.md_clauses.specs.Befores.{kept_moment}
 use Rattle.md_judge.proofs.Spots.{puts, puts_moments, ends}
 use Rattle.md_judge.proofs.judge.directories.Directories.take.Goals as goal
 

@@ -4,7 +4,7 @@ use Rattle.md_log.specs.declared.line.Deed.TheVariants as deed
 use Rattle.md_judge.specs.Law.{turn}
 use Rattle.md_clauses.specs.Found.{Notes}
 use Rattle.md_judge.specs.Files.{is_message_in, AtFinds}
-use Rattle.md_judge.specs.Recalls.{BrokenAt}
+use Rattle.md_judge.specs.Filed.{BrokenAt}
 use Rattle.md_judge.proofs.Notes.{renoted}
 use Rattle.md_judge.proofs.Lawful.{at-lawful}
 use Rattle.md_judge.proofs.judge.files.Files.at.Goals as goal

@@ -1,8 +1,7 @@
-use Rattle.md_judge.specs.Filed.{AreFiled, BrokenByFiles}
+use Rattle.md_judge.specs.Filed.{AreFiled, BrokenByFiles, BrokenByChange}
 use Rattle.md_judge.specs.Files.{ChangeFinds, ChangeStep}
 use Rattle.md_clauses.specs.Found.{Notes, KeepsPaths, KeepsMessages}
 use Rattle.md_judge.specs.Law.{turn}
-use Rattle.md_judge.specs.Recalls.{BrokenByChange}
 use Rattle.std.proofs.Common.{suc}
 use Rattle.md_judge.proofs.Judged.{notes-both, on-both, filed-call, change-call}
 use Rattle.md_judge.proofs.Sparing.{keeps-on, added-on, files-spare-paths, files-spare-added, ok-then, change-more}

@@ -3,7 +3,7 @@ use Rattle.std.proofs.lemmas.Grind.{common_steps}
 use Rattle.md_judge.specs.Law.{turn}
 use Rattle.md_clauses.specs.Found.{Notes}
 use Rattle.md_judge.specs.Files.{ChangeFinds}
-use Rattle.md_judge.specs.Recalls.{BrokenByChange}
+use Rattle.md_judge.specs.Filed.{BrokenByChange}
 use Rattle.md_judge.proofs.Notes.{renoted}
 use Rattle.md_judge.proofs.Lawful.{change-lawful}
 use Rattle.md_judge.proofs.judge.files.Files.change.Goals as goal

@@ -5,10 +5,8 @@ use Rattle.md_clauses.specs.declared.changes.Spot.{Spot}
 use Rattle.md_clauses.specs.declared.changes.Change.{Change}
 use Rattle.md_judge.specs.declared.judge.known.Known.{Known}
 use Rattle.md_judge.specs.Told.{at, ask_at, after_ask}
-use Rattle.md_judge.specs.Changes.{IsOlder, Leads}
-use Rattle.md_judge.specs.Known.{files_after, number_at, Stands, Holds, EachPath, EachSpot, IsHoused}
-use Rattle.md_judge.specs.Moments.{GoesOn}
-use Rattle.md_judge.specs.Acts.{UnlinksPath}
+use Rattle.md_judge.specs.Acts.{IsOlder, Leads, UnlinksPath}
+use Rattle.md_judge.specs.Known.{files_after, number_at, Stands, Holds, EachPath, EachSpot, IsHoused, GoesOn}
 use Rattle.md_log.specs.declared.line.Call.TheVariants as call
 use Rattle.md_judge.specs.Recalled.{IsSpotOf, HasNumber}
 use Rattle.md_judge.proofs.Pathed.{path_by, path-is, place-by}

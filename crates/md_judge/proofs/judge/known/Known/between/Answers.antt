@@ -5,9 +5,8 @@ use Rattle.md_clauses.specs.declared.changes.Spot.{Spot}
 use Rattle.md_clauses.specs.declared.changes.Change.{Change}
 use Rattle.md_judge.specs.declared.judge.known.Known.{Known}
 use Rattle.md_judge.specs.Told.{at, ask_between, after_ask}
-use Rattle.md_judge.specs.Changes.{IsOlder, Leads}
-use Rattle.md_judge.specs.Known.{number_at, Stands, Holds, EachSpot, IsHoused}
-use Rattle.md_judge.specs.Moments.{GoesOn}
+use Rattle.md_judge.specs.Acts.{IsOlder, Leads}
+use Rattle.md_judge.specs.Known.{number_at, Stands, Holds, EachSpot, IsHoused, GoesOn}
 use Rattle.md_judge.specs.Recalled.{IsSpotOf, HasNumber}
 use Rattle.md_judge.proofs.Pathed.{path_by, path-is, place-by}
 use Rattle.md_judge.proofs.Telling.{known-by, comes, told-by}

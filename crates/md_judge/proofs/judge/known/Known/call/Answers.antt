@@ -1,12 +1,17 @@
-use Rattle.std.proofs.Common.{suc, ◌≡◌, ◌<◌, ◌^◌, inl, inr, true, Result, Ok, Err, IfOk, Some, None, false, refl, sym, subst, ap, ◌∙◌}
-use Rattle.md_dirs.specs.State.{has_folder}
+use Rattle.std.proofs.Common.{ℕ, ◌≡◌, ◌<◌, ◌^◌, true, Result, Ok, Err, IfOk, Some, None, false, refl, sym, subst, ◌∙◌}
+use Rattle.md_dirs.specs.State.{State, has_folder}
+use Rattle.md_dirs.specs.declared.paths.Path.{Path}
 use Rattle.md_log.specs.declared.line.Call.{Call}
+use Rattle.md_log.specs.declared.line.Call.TheVariants as call
+use Rattle.md_log.specs.declared.line.Deed.{Deed}
+use Rattle.md_log.specs.declared.line.Naming.{Naming}
+use Rattle.md_log.specs.declared.line.Reply.{Reply}
 use Rattle.md_judge.specs.declared.judge.known.Act.{Act}
 use Rattle.md_judge.specs.declared.judge.tables.Names.{Names}
-use Rattle.md_judge.specs.Acts.{IsAnswerCall, IsWrongAsk, IsActOf, NamesFirst}
-use Rattle.md_judge.specs.Law.{turn}
+use Rattle.md_judge.specs.Acts.{IsAnswerCall, IsWrongAsk, IsActOf, NamesFirst, ReadsNone}
+use Rattle.md_judge.specs.Law.{Turn, turn}
 use Rattle.md_judge.specs.Told.{at, ask_at, ask_between, after_ask, after_call}
-use Rattle.md_judge.specs.Moments.{GoesOn}
+use Rattle.md_judge.specs.Known.{GoesOn}
 use Rattle.md_judge.specs.Recalled.{IsSpotOf, HasFolders}
 use Rattle.md_judge.proofs.Acting.{acts-at, acts-between, acts-none, done-none}
 use Rattle.md_judge.proofs.Pathed.{path_by, path-is}
@@ -14,7 +19,6 @@ use Rattle.md_judge.proofs.Stepping.{rests, on-ok}
 use Rattle.md_judge.proofs.Uniqued.{grows-none, grows-on}
 use Rattle.md_judge.proofs.Telling.{known-by}
 use Rattle.md_judge.specs.Names.{IsNumber}
-use Rattle.md_judge.specs.Acts.{ReadsNone}
 use Rattle.md_judge.proofs.judge.known.Known.call.Goals as goal
 
 -- a call on no path does nothing to paths
@@ -159,72 +163,27 @@ returns-in_ok-new-in-Between c = record {
       (grows-none third last c.between.ensures.names));
 }
 
-pub returns-in-List : goal.returns-in-List
-returns-in-List c = record {
-  told = λ now lines l i told goes there.
-      let same : at l (suc i) ≡ at l i = elim c.in-List.is [
-        | inl is ↦ goes.next ∙ ap (λ v. after_call v now (at l i)) is.4
-        | inr is ↦ goes.next ∙ ap (λ v. after_call v now (at l i)) is.3
-      ] in
-      rests lines l i c.args.self.now told same;
-  acts = λ now lines l i x told goes there is clock.
-      let same : at l (suc i) ≡ at l i = elim c.in-List.is [
-        | inl of ↦ goes.next ∙ ap (λ v. after_call v now (at l i)) of.4
-        | inr of ↦ goes.next ∙ ap (λ v. after_call v now (at l i)) of.3
-      ] in
-      let none : IsWrongAsk (turn l i x) x.call → ⊥ = elim c.in-List.is [
-        | inl of ↦ subst (λ v. IsWrongAsk (turn l i x) v → ⊥) (sym (is ∙ of.4)) (λ wrong. wrong)
-        | inr of ↦ subst (λ v. IsWrongAsk (turn l i x) v → ⊥) (sym (is ∙ of.3)) (λ wrong. wrong)
-      ] in
-      acts-none l i x _ refl refl same none;
-  done = λ now lines l i x told goes there is.
-      let same : at l (suc i) ≡ at l i = elim c.in-List.is [
-        | inl of ↦ goes.next ∙ ap (λ v. after_call v now (at l i)) of.4
-        | inr of ↦ goes.next ∙ ap (λ v. after_call v now (at l i)) of.3
-      ] in
-      done-none c.args.self.now.names l i x _ refl same (elim c.in-List.is [ inl of ↦ λ d p r e. let no = of.4 in cc | inr of ↦ λ d p r e. let no = of.3 in cc ]);
-  clock = refl;
-  keeps = λ name n is. is;
-  first = elim c.in-List.is [
-    | inl of ↦ subst (λ (v : Call). NamesFirst c.args.self.now.names v no-act) (sym of.4) tt
-    | inr of ↦ subst (λ (v : Call). NamesFirst c.args.self.now.names v no-act) (sym of.3) tt
-  ];
-  lists = λ reads. refl;
-  answers = λ is. refl;
-  uniques = grows-none c.args.self.now.names c.args.self.now.names refl;
-}
+-- a call on no path does nothing, and is never wrong
+nothing : (v : Call) → ((d : Deed) (p : Path) (r : Reply) → v ≡ call.At d p r → ⊥) → ((n : Naming) (p q : Path) (r : Reply) → v ≡ call.Between n p q r → ⊥)
+    → ((now : ℕ) (s : State) → after_call v now s ≡ s) × ((t : Turn) → IsWrongAsk t v → ⊥) × ((names : Names) → NamesFirst names v no-act)
+nothing (call.At d p r) no-at no-between = absurd (no-at d p r refl)
+nothing (call.Between n p q r) no-at no-between = absurd (no-between n p q r refl)
+nothing (call.List f p r shown) no-at no-between = (λ now s. refl, λ t wrong. wrong, λ names. tt)
+nothing (call.Answer s f u) no-at no-between = (λ now s. refl, λ t wrong. wrong, λ names. tt)
 
-pub returns-in-List-2 : goal.returns-in-List-2
-returns-in-List-2 c = record {
-  told = λ now lines l i told goes there.
-      let same : at l (suc i) ≡ at l i = elim c.in-List.is [
-        | inl is ↦ goes.next ∙ ap (λ v. after_call v now (at l i)) is.4
-        | inr is ↦ goes.next ∙ ap (λ v. after_call v now (at l i)) is.3
-      ] in
-      rests lines l i c.args.self.now told same;
-  acts = λ now lines l i x told goes there is clock.
-      let same : at l (suc i) ≡ at l i = elim c.in-List.is [
-        | inl of ↦ goes.next ∙ ap (λ v. after_call v now (at l i)) of.4
-        | inr of ↦ goes.next ∙ ap (λ v. after_call v now (at l i)) of.3
-      ] in
-      let none : IsWrongAsk (turn l i x) x.call → ⊥ = elim c.in-List.is [
-        | inl of ↦ subst (λ v. IsWrongAsk (turn l i x) v → ⊥) (sym (is ∙ of.4)) (λ wrong. wrong)
-        | inr of ↦ subst (λ v. IsWrongAsk (turn l i x) v → ⊥) (sym (is ∙ of.3)) (λ wrong. wrong)
-      ] in
-      acts-none l i x _ refl refl same none;
-  done = λ now lines l i x told goes there is.
-      let same : at l (suc i) ≡ at l i = elim c.in-List.is [
-        | inl of ↦ goes.next ∙ ap (λ v. after_call v now (at l i)) of.4
-        | inr of ↦ goes.next ∙ ap (λ v. after_call v now (at l i)) of.3
-      ] in
-      done-none c.args.self.now.names l i x _ refl same (elim c.in-List.is [ inl of ↦ λ d p r e. let no = of.4 in cc | inr of ↦ λ d p r e. let no = of.3 in cc ]);
-  clock = refl;
-  keeps = λ name n is. is;
-  first = elim c.in-List.is [
-    | inl of ↦ subst (λ (v : Call). NamesFirst c.args.self.now.names v no-act) (sym of.4) tt
-    | inr of ↦ subst (λ (v : Call). NamesFirst c.args.self.now.names v no-act) (sym of.3) tt
-  ];
-  lists = λ reads. refl;
-  answers = λ is. refl;
-  uniques = grows-none c.args.self.now.names c.args.self.now.names refl;
-}
+pub returns-in_default : goal.returns-in_default
+returns-in_default c =
+    let names = c.args.self.now.names in
+    let none = nothing c.args.call.now c.in_default.not-At c.in_default.not-Between in record {
+      told = λ now lines l i told goes there. rests lines l i c.args.self.now told (goes.next ∙ none.0 now (at l i));
+      acts = λ now lines l i x told goes there is clock. acts-none l i x _ refl refl (goes.next ∙ none.0 now (at l i))
+          (subst (λ w. IsWrongAsk (turn l i x) w → ⊥) (sym is) (none.1 (turn l i x)));
+      done = λ now lines l i x told goes there is. done-none names l i x _ refl (goes.next ∙ none.0 now (at l i))
+          (λ d p r e. c.in_default.not-At d p r (sym is ∙ e));
+      clock = refl;
+      keeps = λ name n is. is;
+      first = none.2 names;
+      lists = λ reads. refl;
+      answers = λ is. refl;
+      uniques = grows-none names names refl;
+    }

@@ -1,7 +1,7 @@
 use Rattle.std.proofs.Common.{ℕ, List, Option, ◌∙◌, sym, ap, subst}
 use Rattle.md_clauses.specs.declared.claims.Held.{Held}
 use Rattle.md_judge.specs.Claims.{HasFlags, RecallsHeld}
-use Rattle.md_judge.specs.Held.{held_by}
+use Rattle.md_judge.specs.Said.{held_by}
 use Rattle.md_judge.specs.Names.{alike_in}
 use Rattle.md_judge.specs.Told.{at}
 use Rattle.md_judge.proofs.Held.{held-told}

@@ -3,7 +3,7 @@ use Rattle.std.proofs.lemmas.List.{take_all}
 use Rattle.std.proofs.lemmas.List.Sums.{fold_more}
 use Rattle.md_dirs.specs.declared.paths.Place.TheVariants.{Cur}
 use Rattle.md_clauses.specs.declared.claims.Held.{Held}
-use Rattle.md_judge.specs.Held.{held_both, held_in, spot_by, held_by}
+use Rattle.md_judge.specs.Said.{held_both, held_in, spot_by, held_by}
 use Rattle.md_judge.specs.Recalled.{spot_of}
 use Rattle.md_judge.proofs.judge.known.Known.held_by.Goals as goal
 

@@ -1,5 +1,5 @@
 use Rattle.std.proofs.Common.{◌≡◌, take}
-use Rattle.md_judge.specs.Held.{held_by}
+use Rattle.md_judge.specs.Said.{held_by}
 use Rattle.md_judge.proofs.judge.known.Known.held_by.Given as goal
 
 abbrev pub invariant-loop-ending : goal.invariant-loop-ending

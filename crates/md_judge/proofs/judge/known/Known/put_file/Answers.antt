@@ -1,5 +1,5 @@
 use Rattle.std.proofs.Common.{◌≤◌, ◌∙◌, true, false, IsOk, is_some, refl, sym, ap, subst, arith}
-use Rattle.md_clauses.specs.Moments.{kept_moment}
+use Rattle.md_clauses.specs.Befores.{kept_moment}
 use Rattle.md_judge.proofs.Beginning.{file-told, file-said}
 use Rattle.md_judge.proofs.judge.known.Known.put_file.Goals as goal
 

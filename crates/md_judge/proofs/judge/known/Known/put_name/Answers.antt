@@ -1,5 +1,5 @@
 use Rattle.std.proofs.Common.{◌≤◌, ◌∙◌, true, false, IsOk, is_some, refl, sym, ap, subst, arith}
-use Rattle.md_clauses.specs.Moments.{kept_moment}
+use Rattle.md_clauses.specs.Befores.{kept_moment}
 use Rattle.md_judge.proofs.Beginning.{name-told, name-said, still-of, told-at}
 use Rattle.md_judge.proofs.judge.known.Known.put_name.Goals as goal
 

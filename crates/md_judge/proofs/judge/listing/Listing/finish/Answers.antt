@@ -2,7 +2,7 @@ use Rattle.std.proofs.Common.{ℕ, ◌≡◌, ◌↔◌, ◌∷◌, inl, inr, []
 use Rattle.std.specs.Ordering.{nat_cmp}
 use Rattle.std.specs.BTreeSet as ordered
 use Rattle.md_judge.specs.declared.judge.listing.Listing.{Listing}
-use Rattle.md_judge.specs.Gathered.{Gathered, gathered_of, also_read}
+use Rattle.md_judge.specs.Open.{Gathered, gathered_of, also_read}
 use Rattle.md_judge.proofs.Finishing.{HasMore, more-passes, more-comes, more-none, in-keys, read-more}
 use Rattle.md_judge.proofs.judge.listing.Listing.finish.Goals as goal
 
@@ -22,8 +22,8 @@ loop-name-preserved-in_ok-insert c =
           let before = subst (λ (ns : List ℕ). HasMore names has ns u
           ↔ HasMore names (ordered.contains nat_cmp c.args.self.now.shown) (ordered.keys c.args.shown.now) u) c.in-Some.ensures.steps
           (c.loop-name.invariant.shown u) in
-          let one = more-comes names has more n c.in-Some-unique.unique left u
-          (ap (λ f. f.unique) (sym c.facts.ensures) ∙ c.in-Some-unique.is) c.in_ok-insert.ensures.updates.0 in
+          let one = more-comes names has more n c.in-Some-unique_number.unique left u
+          (sym c.unique_number.ensures ∙ c.in-Some-unique_number.is) c.in_ok-insert.ensures.updates.0 in
           (λ h. before.0 (one.1 h), λ h. one.0 (before.1 h));
     }
 
@@ -42,7 +42,7 @@ loop-name-preserved c =
           let before = subst (λ (ns : List ℕ). HasMore names has ns u
           ↔ HasMore names (ordered.contains nat_cmp c.args.self.now.shown) (ordered.keys c.args.shown.now) u) c.in-Some.ensures.steps
           (c.loop-name.invariant.shown u) in
-          let one = more-passes names has n left u (ap (λ f. f.unique) (sym c.facts.ensures) ∙ c.in_default.is) in
+          let one = more-passes names has n left u (sym c.unique_number.ensures ∙ c.in_default.is) in
           (λ h. before.0 (one.1 h), λ h. one.0 (before.1 h));
     }
 

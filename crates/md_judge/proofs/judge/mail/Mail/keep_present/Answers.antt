@@ -2,8 +2,7 @@ use Rattle.std.proofs.Common.{◌↔◌, true, false, length, refl, sym, subst, 
 use Rattle.std.proofs.lemmas.Option.{slice_get_read}
 use Rattle.md_judge.specs.declared.judge.mail.Move.{Move}
 use Rattle.md_judge.specs.Listings.{message_of, IsIn}
-use Rattle.md_judge.specs.Mailed.{count_of}
-use Rattle.md_judge.specs.Present.{PresentBy}
+use Rattle.md_judge.specs.Mailed.{count_of, PresentBy}
 use Rattle.std.specs.BTreeSet as ordered
 use Rattle.md_judge.proofs.Presence.{set-one, set-others, sets-put, left-some, left-none}
 use Rattle.md_judge.proofs.judge.mail.Mail.keep_present.Goals as goal

@@ -1,11 +1,8 @@
-use Rattle.std.proofs.Common.{sym, subst, ap, ◌∙◌}
+use Rattle.std.proofs.Common.{sym, subst, ap, ◌∙◌, Option}
 use Rattle.md_judge.specs.declared.judge.mail.Mail.{Mail}
-use Rattle.md_judge.specs.Mailed.{count_of, count_after, IsBy, MovesOne}
+use Rattle.md_judge.specs.Mailed.{count_of, count_after, IsBy, MovesOne, TimedBy, KeepsSets}
 use Rattle.md_judge.specs.declared.judge.mail.Message.{Message}
-use Rattle.std.proofs.Common.{Option}
 use Rattle.md_judge.specs.Listings.{message_of}
-use Rattle.md_judge.specs.Present.{KeepsSets}
-use Rattle.md_judge.specs.Timed.{TimedBy}
 use Rattle.md_judge.proofs.Sparing.{ok-then, ok-two}
 use Rattle.md_judge.proofs.Timely.{timed-by, same-message}
 use Rattle.md_judge.proofs.Writing.{made-one}

@@ -2,7 +2,7 @@ use Rattle.std.proofs.Common.{◌≡◌, ◌<◌, ◌++◌, ◌∷◌, [], Some,
 use Rattle.md_judge.specs.declared.judge.mail.Move.{Move}
 use Rattle.md_judge.specs.declared.judge.mail.Move.TheVariants.{Goes}
 use Rattle.md_judge.specs.Listings.{times_of}
-use Rattle.md_judge.specs.Timed.{TimedBy}
+use Rattle.md_judge.specs.Mailed.{TimedBy}
 use Rattle.md_judge.proofs.Sparing.{ok-two}
 use Rattle.md_judge.proofs.judge.mail.Message.make.Goals as goal
 

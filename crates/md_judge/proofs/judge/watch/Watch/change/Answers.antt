@@ -3,12 +3,10 @@ use Rattle.md_log.specs.declared.clause.Clause.TheVariants as clause
 use Rattle.md_judge.specs.declared.judge.about.Actors.{Actors}
 use Rattle.md_judge.specs.declared.judge.mail.Mail.{Mail}
 use Rattle.md_judge.specs.declared.judge.watch.Watch.{Watch}
-use Rattle.md_judge.specs.Actors.{GoesWith, KeepsActs, NotesMoves}
+use Rattle.md_judge.specs.Actors.{GoesWith, KeepsActs, NotesMoves, MarksChange}
 use Rattle.md_clauses.specs.Found.{Keeps, KeepsFiles, KeepsAnswers}
 use Rattle.md_judge.specs.Law.{turn, TwoNames, Gone, UsedAgain}
-use Rattle.md_judge.specs.Mailed.{MakeStep}
-use Rattle.md_judge.specs.Marks.{MarksChange}
-use Rattle.md_judge.specs.Timed.{MakesTimes}
+use Rattle.md_judge.specs.Mailed.{MakeStep, MakesTimes}
 use Rattle.md_judge.proofs.Sparing.{keeps-one, keeps-same, unnoted, notes-one, one-notes, turned-found, same-files, files-on, unnoted-files, unnoted-added, added-same, answers-same, answers-on, unnoted-answers}
 use Rattle.md_judge.proofs.Posted.{tells-step}
 use Rattle.md_judge.proofs.judge.watch.Watch.change.Goals as goal

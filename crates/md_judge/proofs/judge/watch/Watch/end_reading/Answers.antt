@@ -5,9 +5,8 @@ use Rattle.md_dirs.specs.declared.paths.Place.TheVariants.{Tmp}
 use Rattle.md_log.specs.declared.line.Reply.{Reply}
 use Rattle.md_log.specs.declared.line.Reply.TheVariants as reply
 use Rattle.md_judge.specs.declared.judge.listing.Reading.{Reading}
-use Rattle.md_judge.specs.Gathered.{Gathered, gathered_of, nothing_gathered, left_of, Gathers, IsToldEnd}
+use Rattle.md_judge.specs.Open.{Gathered, gathered_of, nothing_gathered, left_of, Gathers, IsToldEnd, reading_of}
 use Rattle.md_judge.specs.Law.{turn, Unlisted}
-use Rattle.md_judge.specs.Open.{reading_of}
 use Rattle.md_judge.proofs.Unlisting.{text_of, is-completed, goes-on-still, part-none, reads-one}
 use Rattle.md_log.specs.declared.clause.Clause.TheVariants as clause
 use Rattle.md_judge.specs.declared.judge.watch.Watch.{Watch}

@@ -7,8 +7,7 @@ use Rattle.md_dirs.specs.declared.paths.Place.{Place}
 use Rattle.md_log.specs.declared.line.Reply.TheVariants as reply
 use Rattle.md_judge.specs.declared.judge.listing.Listing.{Listing}
 use Rattle.md_judge.specs.Listings.{message_cmp}
-use Rattle.md_judge.specs.Gathered.{Gathered, gathered_of, gathered_by, gathered_in, EndsReading, RecallsGathered, IsMailTold, IsToldEnd}
-use Rattle.md_judge.specs.Open.{reading_of, first_of, shows_of, IsOver, IsPartKept, AreNumbersOf}
+use Rattle.md_judge.specs.Open.{Gathered, gathered_of, gathered_by, gathered_in, EndsReading, RecallsGathered, IsMailTold, IsToldEnd, reading_of, first_of, shows_of, IsOver, IsPartKept, AreNumbersOf}
 use Rattle.md_judge.proofs.Finishing.{gathered-elsewhere}
 use Rattle.md_judge.proofs.Unlisting.{part-none}
 use Rattle.md_judge.specs.declared.judge.mail.Mail.{Mail}

@@ -1,9 +1,7 @@
 use Rattle.std.proofs.Common.{ℕ, ◌∙◌, subst}
-use Rattle.md_judge.specs.Actors.{GoesWith, NotesMoves}
+use Rattle.md_judge.specs.Actors.{GoesWith, NotesMoves, IsOfMessage, OnPath, Unlinks, MarksDeeds, MarksChange, nothing}
 use Rattle.md_judge.specs.Listings.{message_of}
-use Rattle.md_judge.specs.Mailed.{TakeStep, MakeStep}
-use Rattle.md_judge.specs.Marks.{IsOfMessage, OnPath, Unlinks, MarksDeeds, MarksChange, nothing}
-use Rattle.md_judge.specs.Timed.{WentAt, MakesTimes}
+use Rattle.md_judge.specs.Mailed.{TakeStep, MakeStep, WentAt, MakesTimes}
 use Rattle.md_judge.proofs.Moving.{moves-then}
 use Rattle.md_judge.proofs.Marking.{change-marks}
 use Rattle.md_judge.proofs.Sparing.{ok-then}

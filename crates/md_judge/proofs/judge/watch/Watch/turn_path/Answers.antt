@@ -4,8 +4,7 @@ use Rattle.md_judge.specs.declared.judge.mail.Mail.{Mail}
 use Rattle.md_clauses.specs.declared.about.About.{About}
 use Rattle.md_judge.specs.Actors.{done_by}
 use Rattle.md_judge.specs.Files.{unique_in}
-use Rattle.md_judge.specs.Mailed.{Recounts, one_more, one_fewer, TurnAt}
-use Rattle.md_judge.specs.Timed.{TimesStay}
+use Rattle.md_judge.specs.Mailed.{Recounts, one_more, one_fewer, TurnAt, TimesStay}
 use Rattle.md_judge.proofs.Lined.{acts-kept, changed-same}
 use Rattle.md_judge.proofs.Marking.{turned-marks}
 use Rattle.md_judge.proofs.Sparing.{ok-then}
