@@ -17,12 +17,10 @@ use Rattle.md_core.specs.Tracing.{trace_of}
 use Rattle.md_store.specs.declared.calling.CallError.{CallError}
 use Rattle.md_store.specs.declared.step.StoreStep.{StoreStep}
 use Rattle.md_store.specs.declared.calling.CallError.TheVariants.{Refused, NoMemory, Unanswered, Untold}
-use Rattle.md_store.specs.Calling.{RefusesSince, Accepts, StopsCall, GivesSince, AnswersCall, Answers, Leaves, Stops, Ends}
-use Rattle.md_store.specs.Locks.{StepsSince}
+use Rattle.md_store.specs.Calling.{RefusesSince, Accepts, StopsCall, GivesSince, AnswersCall, Answers, Leaves, Stops, Ends, plain_refusal, IsWhy}
+use Rattle.md_store.specs.Locks.{StepsSince, Stands, TellsSince}
 use Rattle.md_store.specs.Ongoing.{IsSince, GoesOn}
 use Rattle.md_store.specs.Pages.{Held}
-use Rattle.md_store.specs.Refusals.{plain_refusal, IsWhy}
-use Rattle.md_store.specs.Telling.{Stands, TellsSince}
 use Rattle.md_store.proofs.Ongoing.{goes_later}
 use Rattle.md_store.proofs.Since.{EachHasItsJob}
 use Rattle.md_store.proofs.Told.{at-end}

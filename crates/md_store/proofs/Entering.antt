@@ -5,7 +5,7 @@ use mathlib.Core.List.{IsPrefix}
 use prog.Atomic.{either}
 use Rattle.logbook.specs.Pages.{Cell, Nib, View, cell, adds, gives, no_nib, step, Moves, Goes}
 use Rattle.md_core.specs.Runs.{Run}
-use Rattle.md_store.specs.declared.entered.Entered.{Entered}
+use Rattle.md_store.specs.declared.book.Entered.{Entered}
 use Rattle.md_store.specs.Ongoing.{GoesOn}
 use Rattle.md_store.specs.Rules.{run_in, no_entry, opening_entries, next_from, Follows, AreUsed, MadeNone, first_pen, IsChained, MayEnter, MakesPen, AddsEntry}
 use Rattle.md_store.proofs.Beginnings.{all_of_it, begins_later, no_longer}

@@ -5,7 +5,7 @@ use Rattle.md_core.specs.Runs.{Run, beginning, run_from, machine_of, dirs_of, ef
 use Rattle.md_view.specs.Named.{Named}
 use Rattle.md_store.specs.declared.rule.Knowledge.{Knowledge}
 use Rattle.md_store.specs.Pages.{Page}
-use Rattle.md_store.specs.Histories.{named_after}
+use Rattle.md_store.specs.Listing.{named_after}
 use Rattle.md_store.specs.Locks.{IsFresh}
 use Rattle.md_store.specs.Publishing.{Publishes, knower}
 

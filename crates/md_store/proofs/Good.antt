@@ -17,8 +17,7 @@ use Rattle.md_view.proofs.Keyed.{in-order}
 use Rattle.md_view.proofs.LawHolds.{good-listing, LegalKeepPlaces}
 use Rattle.md_view.proofs.Readings.{reading-sorted}
 use Rattle.md_store.specs.declared.error.ListError.{ListError}
-use Rattle.md_store.specs.Histories.{IsLegalFrom, read_at, listing}
-use Rattle.md_store.specs.Listing.{IsGoodFrom, Finishes, Lists, Reading}
+use Rattle.md_store.specs.Listing.{IsLegalFrom, read_at, listing, IsGoodFrom, Finishes, Lists, Reading}
 use Rattle.md_store.proofs.Beginnings.{no_longer, cut_at_end, begins_later}
 
 -- a reading is in order

@@ -7,7 +7,7 @@ use lib.ListN.{get_elem?}
 use Rattle.crossbeam_utils.specs.Register.{Admits, Turns, TurnsAt, Forks, Merges}
 use Rattle.atomic_table.proofs.Lists.{at_set, at_snoc}
 use Rattle.md_view.specs.Named.{Named, AreMessages, after_change}
-use Rattle.md_store.specs.Histories.{named_after, IsLegalFrom}
+use Rattle.md_store.specs.Listing.{named_after, IsLegalFrom}
 use Rattle.md_store.specs.declared.rule.Knowledge.{Knowledge}
 use Rattle.md_store.specs.Pages.{Page, Note}
 use Rattle.md_store.specs.Publishing.{newcomer, knower, IsTrueOf, Leads, Kept, Learns, page_after, CanFollow, MayPublish, Publishes}

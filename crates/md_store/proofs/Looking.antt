@@ -6,8 +6,7 @@ use Rattle.md_view.specs.declared.entry.Entry.{Entry}
 use Rattle.md_view.specs.Named.{Named, AreMessages}
 use Rattle.md_store.specs.declared.error.ListError.{ListError}
 use Rattle.md_store.specs.declared.rule.Knowledge.{Knowledge}
-use Rattle.md_store.specs.Histories.{named_after, IsLegalFrom}
-use Rattle.md_store.specs.Listing.{seen_in, IsLooked, Sees}
+use Rattle.md_store.specs.Listing.{named_after, IsLegalFrom, seen_in, IsLooked, Sees}
 use Rattle.md_store.specs.Pages.{Log, Page}
 use Rattle.md_store.specs.Publishing.{Learns}
 

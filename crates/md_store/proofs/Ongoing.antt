@@ -4,7 +4,7 @@ use mathlib.Core.List.{IsPrefix}
 use Rattle.md_jobs.specs.declared.call.Call.{Call}
 use Rattle.md_core.specs.Machine.{Occurrence}
 use Rattle.md_core.specs.Runs.{Run, and_call, and_event, effects_of}
-use Rattle.md_store.specs.declared.entered.Entered.{Entered}
+use Rattle.md_store.specs.declared.book.Entered.{Entered}
 use Rattle.md_store.specs.Ongoing.{IsSince, GoesOn, no_run}
 use Rattle.md_store.specs.Rules.{last_run, run_in, AreInOrder}
 use Rattle.md_store.proofs.Beginnings.{begins_itself, begins_later, shorter_begins}

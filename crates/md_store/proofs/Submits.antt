@@ -17,7 +17,7 @@ use Rattle.md_core.specs.declared.world.submit.SubmitRefused.{SubmitRefused}
 use Rattle.md_core.specs.Machine.{Standing, working, answered}
 use Rattle.md_core.specs.Runs.{Run, new_run, IsRefusal, step_refusal}
 use Rattle.md_core.specs.Submitting.{submit_refusal, first_met, checks, uses, is_used, too_many, bad_tries, most_bytes}
-use Rattle.md_store.specs.Refusals.{plain_refusal, IsWhy, MakesName}
+use Rattle.md_store.specs.Calling.{plain_refusal, IsWhy, MakesName}
 
 abbrev Checks : Type 0
 Checks = List (Bool × CoreError)

@@ -14,12 +14,12 @@ use Rattle.md_core.specs.Runs.{Run, jobs_of, and_event, effects_of, step_refusal
 use Rattle.md_core.specs.Stepping.{IsRun, ShowsStep, Succeeds}
 use Rattle.md_jobs.specs.declared.error.CoreError.{CoreError}
 use Rattle.md_store.specs.declared.step.StoreStep.{StoreStep}
-use Rattle.md_store.specs.declared.news.News.{News}
-use Rattle.md_store.specs.declared.news.News.TheVariants.{NoEffect, Told, Later}
-use Rattle.md_store.specs.Locks.{Both}
+use Rattle.md_store.specs.declared.step.News.{News}
+use Rattle.md_store.specs.declared.step.News.TheVariants.{NoEffect, Told, Later}
+use Rattle.md_store.specs.Locks.{Both, Tells, Stands, HoldsAfter, TellsSince}
 use Rattle.md_store.specs.Ongoing.{IsSince, GoesOn}
 use Rattle.md_store.specs.Pages.{Held}
-use Rattle.md_store.specs.Telling.{Tells, Stands, HoldsAfter, TellsSince}
+use Rattle.md_core.proofs.Traces.Grown.{grows-by-step}
 use Rattle.md_store.proofs.Beginnings.{all_of_it, no_longer}
 
 -- the first that passes
@@ -79,17 +79,19 @@ pub tells-since : (begun r : Run) (s : Both) → IsSince begun r → IsRun r →
     → MatchResult res (λ _. step_refusal (job_at (jobs_of r) job) ≡ None) Why
     → IfOk res (λ x. s.run ≡ and_event r (occurrence job now own (is_fault x.out.reply)))
     → IfOk res (λ x. ShowsStep r s.run (occurrence job now own (is_fault x.out.reply)) x.out)
-    → IfOk res (λ x. GrowsByStep (trace_of r) (trace_of s.run) job x.out)
     → (before after : Held) → GoesOn before.run r → OnOk res (after.run ≡ s.run)
     → IfOk res (λ x. Tells x.news x.out.effect s job before.history after.history)
     → IfOk res (λ x. TellsSince begun job now own x before after)
-tells-since begun r s since run job now own (Ok x) Why taken is shows grows before after goes same told =
+tells-since begun r s since run job now own (Ok x) Why taken is shows before after goes same told =
     let e : Occurrence = occurrence job now own (is_fault x.out.reply) in
+    let shown : ShowsStep r (and_event r e) e x.out = subst (λ (t : Run). ShowsStep r t e x.out) is shows in
+    let grows : GrowsByStep (trace_of r) (trace_of s.run) job x.out =
+    subst (λ (t : Run). GrowsByStep (trace_of r) (trace_of t) job x.out) (sym is) (grows-by-step r e x.out shown) in
     record {
-      step = record { run = r; since = since; goes = goes; is_run = run; taken = taken; shows = subst (λ (t : Run). ShowsStep r t e x.out) is shows };
+      step = record { run = r; since = since; goes = goes; is_run = run; taken = taken; shows = shown };
       run = same ∙ is;
       told = subst (λ (t : Run). HoldsAfter x.news (effects_of t) before.history after.history) (sym same)
           (holds x.news x.out.effect s job before.history after.history told);
       answered = subst (λ (t : Run). IfSome x.out.answer (IsAnswered (trace_of t) job)) (sym same) (answers r s.run job x.out grows);
     }
-tells-since begun r s since run job now own (Err e) Why taken is shows grows before after goes same told = tt
+tells-since begun r s since run job now own (Err e) Why taken is shows before after goes same told = tt

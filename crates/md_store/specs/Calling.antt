@@ -1,27 +1,43 @@
 -- What a call of a store leaves, from its submission to its answer.
 use Rattle.std.specs.Prelude.{◌≡◌, ◌⊎◌, ℕ, Option, Some, None, Result, Ok, Err}
+use Rattle.md_dirs.specs.State.{bare}
+use Rattle.md_dirs.specs.Calls.{fresh}
 use Rattle.md_jobs.specs.declared.error.CoreError.{CoreError}
 use Rattle.md_jobs.specs.declared.error.CoreError.TheVariants as core
-use Rattle.md_jobs.specs.declared.answer.Answer.{Answer}
 use Rattle.md_jobs.specs.declared.call.Call.{Call}
+use Rattle.md_jobs.specs.declared.call.Call.TheVariants.{Deliver, Copy}
+use Rattle.md_core.specs.Runs.{new_run, Run, jobs_of, step_refusal, IsRefusal}
+use Rattle.md_core.specs.Submitting.{submit_refusal}
+use Rattle.md_jobs.specs.declared.answer.Answer.{Answer}
 use Rattle.md_jobs.specs.declared.step.StepOut.{StepOut}
 use Rattle.md_core.specs.Answering.{Says}
 use Rattle.md_core.specs.Interleaving.{Acts}
 use Rattle.md_core.specs.Machine.{job_at}
 use Rattle.md_core.specs.Trace.{IsAnswered, call_at}
 use Rattle.md_core.specs.Tracing.{trace_of}
-use Rattle.md_core.specs.Runs.{Run, jobs_of, step_refusal, IsRefusal}
 use Rattle.md_core.specs.Stepping.{IsRun}
 use Rattle.md_store.specs.declared.calling.CallError.{CallError}
 use Rattle.md_store.specs.declared.calling.CallError.TheVariants.{Refused, NoMemory, Unanswered, Untold}
-use Rattle.md_store.specs.Locks.{SubmitsSince, StepsSince}
+use Rattle.md_store.specs.Locks.{SubmitsSince, StepsSince, Stands}
 use Rattle.md_store.specs.Ongoing.{IsSince, GoesOn}
 use Rattle.md_store.specs.Pages.{Held}
-use Rattle.md_store.specs.Refusals.{plain_refusal, IsWhy}
-use Rattle.md_store.specs.Telling.{Stands}
 
--- a step of this job was refused so in a run that goes on from the one that the store was opened with, and from this one of the store's
--- own
+-- where a call is refused whatever the store holds: by the checks of a world without messages and jobs
+abbrev pub plain_refusal : ℕ → Call → Option CoreError
+plain_refusal folders asked = submit_refusal (new_run (fresh (bare folders))) asked
+
+-- the call makes a message of a new name: it is a delivery or a copy
+abbrev pub MakesName : Call → Type 0
+MakesName (Deliver folder unique body chunk) = Unit {0}
+MakesName (Copy folder unique to fresh tries) = Unit {0}
+MakesName asked = ⊥
+
+-- an error of a call is this refusal, or else rests on what the store holds or on memory; only a delivery or a copy has a used name
+abbrev pub IsWhy : Call → Option CoreError → CoreError → Type 0
+IsWhy asked None e = (e ≡ core.TooManyJobs) ⊎ ((e ≡ core.NameUsed) × MakesName asked) ⊎ (e ≡ core.NoMemory)
+IsWhy asked (Some refusal) e = e ≡ refusal
+
+-- a step of this job was refused so in a run that goes on from the one at the opening, and from this one of the store's own
 pub record RefusesSince (begun held : Run) (job : ℕ) (e : CoreError) : Type 0 where
   pub run : Run
   pub since : IsSince begun run
@@ -40,22 +56,19 @@ pub record StopsCall (begun held : Run) (job : ℕ) (call : Call) (e : CoreError
   pub refused : RefusesSince begun held job e
   pub whose : call_at refused.run.calls job ≡ Some call
 
--- a step of this job was taken in a run that goes on from this one of the store's own, and gave this answer; it is the job's in a later
--- one
+-- a step of this job, in a run that goes on from this one of the store's own, gave this answer; it is the job's in a later one
 pub record GivesSince (begun held late : Run) (job now : ℕ) (own : Option ℕ) (a : Answer) : Type 0 where
   pub out : StepOut
   pub stepped : StepsSince begun held job now own out
   pub answer : out.answer ≡ Some a
   pub answered : IsAnswered (trace_of late) job a
 
--- A job of this call was answered so in a run: with success the call took effect at one step of its job, and with any other answer it took
--- none, and the answer says what happened.
+-- a job of this call was answered so in a run: with success it took effect at one step, else at none, and the answer says what happened
 pub record AnswersCall (run : Run) (job : ℕ) (call : Call) (a : Answer) : Type 0 where
   pub acts : Acts (trace_of run) job call a
   pub says : Says (trace_of run) job call a
 
--- The answer of a call is that of a step of its job, and of just this call, in the run that is held. Where it says that the call took
--- effect, that effect is in the history that is held.
+-- The answer of a call is that of a step of its job, of just this call, in the run that is held, and the effect of success is held.
 pub record Answers (begun : Run) (folders : ℕ) (call : Call) (now : ℕ) (own : Option ℕ) (a : Answer) (before after : Held) : Type 0 where
   pub job : ℕ
   pub accepted : Accepts begun after.run folders call job

@@ -1,18 +1,34 @@
--- What readings and listings of what is published show.
-use Rattle.std.specs.Prelude.{◌≡◌, ◌<◌, ℕ, length, Option, Some, None, List}
-use mathlib.Core.List.{IsPrefix}
+-- Histories from opening names, and what readings and listings show of them.
+use Rattle.std.specs.Prelude.{ℕ, List, ◌≡◌, ◌<◌, length, Option, Some, None}
+use Rattle.md_dirs.specs.declared.paths.Place.{Place}
 use Rattle.md_dirs.specs.declared.paths.Place.TheVariants.{New, Cur}
+use Rattle.md_core.specs.History.{names_after, IsLegal, Names, names_of}
 use Rattle.md_jobs.specs.declared.effect.Effect.{Effect}
-use Rattle.md_core.specs.History.{Names, names_of}
-use Rattle.md_core.specs.Mailbox.{mailbox_of}
-use Rattle.md_core.specs.Runs.{Run, dirs_of}
 use Rattle.md_view.specs.declared.entry.Entry.{Entry}
-use Rattle.md_view.specs.Law.{names_after_first, IsGoodListing}
 use Rattle.md_view.specs.Named.{Named, AreMessages}
 use Rattle.md_view.specs.Readings.{reading_of, join_of}
-use Rattle.md_store.specs.Histories.{named_after, IsLegalFrom, read_at, listing}
+use mathlib.Core.List.{IsPrefix}
+use Rattle.md_core.specs.Mailbox.{mailbox_of}
+use Rattle.md_core.specs.Runs.{Run, dirs_of}
+use Rattle.md_view.specs.Law.{names_after_first, IsGoodListing}
 use Rattle.md_store.specs.Pages.{Log, Page}
 use Rattle.md_store.specs.declared.rule.Knowledge.{Knowledge}
+
+-- the names at the end of a history
+abbrev pub named_after : Named → List Effect → Named
+named_after opening history = record { folders = opening.folders; names = names_after opening.names history }
+
+-- each effect of the history is allowed after those before it, and no job has two
+abbrev pub IsLegalFrom : Named → List Effect → Type 0
+IsLegalFrom opening history = IsLegal opening.folders opening.names history
+
+-- the entries of a directory at the end of a history
+abbrev pub read_at : ℕ → Place → Named → List Effect → List Entry
+read_at folder place opening history = reading_of (named_after opening history).names folder place
+
+-- a listing whose new is that of one history, and whose cur is that of a later one
+abbrev pub listing : ℕ → Named → List Effect → List Effect → List Entry
+listing folder opening h1 h2 = join_of (read_at folder New opening h1) (read_at folder Cur opening h2)
 
 -- a first reading: its folder, the entries of new, and the history at whose end they were read
 pub record Reading : Type 0 where
@@ -47,8 +63,7 @@ pub record Sees (v : Knowledge) (held : List Effect) (folder : ℕ) (new : Optio
 abbrev pub IsGoodFrom : ℕ → Named → List Effect → List Effect → List Entry → Type 0
 IsGoodFrom folder opening h1 now entries = IsGoodListing (names_after_first opening.names now) folder (length h1) (length now) entries
 
--- What a second reading gives: the join of the first one, which is new at the end of its history, with cur at the end of what is held. That
--- is a good listing between the two.
+-- what a second reading gives: the join of the first one with cur at the end of what is held, which is a good listing between the two
 pub record Finishes (opening : Named) (first : Reading) (now : List Effect) (entries : List Entry) : Type 0 where
   pub new_is : first.entries ≡ read_at first.folder New opening first.history
   pub entries_are : entries ≡ join_of first.entries (read_at first.folder Cur opening now)

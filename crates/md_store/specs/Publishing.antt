@@ -7,7 +7,7 @@ use lib.ListN.{get_elem?}
 use Rattle.logbook.specs.Pages.{Book}
 use Rattle.md_jobs.specs.declared.effect.Effect.{Effect}
 use Rattle.md_view.specs.Named.{Named, AreMessages, after_change}
-use Rattle.md_store.specs.Histories.{named_after, IsLegalFrom}
+use Rattle.md_store.specs.Listing.{named_after, IsLegalFrom}
 use Rattle.md_store.specs.Pages.{Page, Note}
 use Rattle.md_store.specs.declared.rule.Knowledge.{Knowledge}
 
@@ -27,8 +27,7 @@ newcomer = record { opened = false; opening = no_names; held = record { book = n
 abbrev pub knower : Named → Page → Knowledge
 knower opening p = record { opened = true; opening = opening; held = p.front }
 
--- what a seat knows is so: it holds a beginning of the published history; and one that was told of its store knows the opening names and
--- the book
+-- what a seat knows is so: a beginning of the published history; and, if it was told of its store, the opening names and the book
 abbrev pub IsTrueOf : Named → Page → Knowledge → Type 0
 IsTrueOf opening p v = (v.opened ≡ true → (v.opening ≡ opening) × (v.held.book ≡ p.front.book)) × IsPrefix v.held.log p.front.log
 

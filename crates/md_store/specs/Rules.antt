@@ -3,7 +3,7 @@ use Rattle.std.specs.Prelude.{ℕ, ◌≡◌, ◌≢◌, ◌<◌, true, List, []
 use Rattle.logbook.specs.Pages.{Cell, Step, View, Book, Named, Nib, cell, may_write, may_make}
 use Rattle.md_core.specs.Runs.{Run}
 use Rattle.md_store.specs.Ongoing.{GoesOn, no_run}
-use Rattle.md_store.specs.declared.entered.Entered.{Entered}
+use Rattle.md_store.specs.declared.book.Entered.{Entered}
 
 -- the head of a book
 abbrev pub head_of : Book → Named

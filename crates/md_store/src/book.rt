@@ -6,26 +6,26 @@
 //! A book of `logbook` gives nobody the sole right to add to its list. But it gives pens: a cell that the book doesn't hold yet is written by
 //! one pen alone. So each entry names the pen that made it, which is then used up, and the pen that makes the next. Who has that one has seen
 //! all entries, since nobody else can make the next, and so entering a run never fails, and shows that each token is a beginning of it.
-ghost use Rattle.std.specs.Prelude.{◌≡◌, ◌⊎◌, [], length, false, IsTrue, IfSome};
+ghost use Rattle.std.specs.Prelude.{◌≡◌, ◌⊎◌, [], length, false, IsTrue, IfSome, None, ◌<◌};
 ghost use mathlib.Core.List.{IsPrefix};
 ghost use Rattle.md_core.specs.Runs.{effects_of};
 ghost use Rattle.md_store.specs.Ongoing.{GoesOn};
-ghost use Rattle.md_store.specs.Rules.{MayEnter, first_pen, head_of};
+ghost use Rattle.md_store.specs.Rules.{head_of, run_in, opening_entries, no_entry, first_pen, next_from, IsChained, MayEnter, MakesPen, AddsEntry};
+ghost use base.Fml.{ftrue};
+ghost use Rattle.std.specs.Coded.{codes};
+ghost use Rattle.md_name.specs.contracts.flags.Flags as flags;
+ghost use Rattle.md_store.specs.Pages.{Log, Course};
+ghost use Rattle.md_dirs.specs.State.{state_code};
 
-use crate::entered::Entered;
 use logbook::{Gain, Offer, Opening, Pen, Plain, Play, Rule, Seen, Start, Word};
 use md_core::World;
-use md_dirs::Dirs;
+use md_dirs::{Dirs, PlainDirs};
 use std::marker::Model;
 
 /// The rule of a book: each entry was made by the pen that the one before names, and that pen is used up; and its run goes on.
 pub struct Chained;
 
 impl Rule<Entered, u64> for Chained {
-    ghost use Rattle.std.specs.Prelude.{[]};
-    ghost use base.Fml.{ftrue};
-    ghost use Rattle.md_store.specs.Rules.{IsChained};
-
     ghost holds = { λ cells entries. IsChained cells entries };
 
     ghost first = { [] };
@@ -43,8 +43,6 @@ impl Rule<Entered, u64> for Chained {
 pub struct NoTrade;
 
 impl Gain<Entered, u64> for NoTrade {
-    ghost use base.Fml.{ftrue};
-
     ghost after = { λ names about answer. ftrue };
 }
 
@@ -52,8 +50,6 @@ impl Gain<Entered, u64> for NoTrade {
 struct FirstRun;
 
 impl<D: Dirs> Opening<World<D>, Entered> for FirstRun {
-    ghost use Rattle.md_store.specs.Rules.{opening_entries};
-
     ghost log = { λ count world. opening_entries world };
 }
 
@@ -61,16 +57,11 @@ impl<D: Dirs> Opening<World<D>, Entered> for FirstRun {
 struct MakePen;
 
 impl Play<Entered, u64> for MakePen {
-    ghost use Rattle.md_store.specs.Rules.{MakesPen};
-
     ghost then = { MakesPen };
 }
 
 /// A step that asks for no entry.
 impl Plain<(), Entered, u64> for MakePen {
-    ghost use Rattle.std.specs.Prelude.{None};
-    ghost use Rattle.md_store.specs.Rules.{no_entry};
-
     ghost ask = { λ nothing. no_entry };
 
     ghost state = { λ nothing. None };
@@ -80,14 +71,10 @@ impl Plain<(), Entered, u64> for MakePen {
 struct AddEntry;
 
 impl Play<Entered, u64> for AddEntry {
-    ghost use Rattle.md_store.specs.Rules.{AddsEntry};
-
     ghost then = { AddsEntry };
 }
 
 impl<D: Dirs> Plain<(&World<D>, &Pen, &Pen), Entered, u64> for AddEntry {
-    ghost use Rattle.std.specs.Prelude.{None};
-
     ghost ask = { λ x. record { world = x.0.now; by = x.1.now.nib.key; next = x.2.now.nib.key } };
 
     ghost state = { λ x. None };
@@ -122,13 +109,6 @@ pub struct Front {
 }
 
 impl Model for Front {
-    ghost use Rattle.std.specs.Prelude.{◌≡◌, ◌<◌, length};
-    ghost use Rattle.std.specs.Coded.{codes};
-    ghost use Rattle.md_name.specs.contracts.flags.Flags as flags;
-    ghost use Rattle.md_core.specs.Runs.{effects_of};
-    ghost use Rattle.md_store.specs.Pages.{Log};
-    ghost use Rattle.md_store.specs.Rules.{run_in};
-
     ghost Value = { Log };
 
     ghost coded = { Prim.hlevel (codes, flags.the_row.coded) };
@@ -139,14 +119,12 @@ impl Model for Front {
 }
 
 impl Front {
-    /// How many effects it has.
     pub fn len(&self) -> u64
         ensures { result ≡ length self.now.log }
     {
         self.count
     }
 
-    /// The same front once more.
     pub fn again(&self) -> Front
         ensures { result ≡ self.now }
     {
@@ -197,13 +175,6 @@ pub struct Moment {
 }
 
 impl Model for Moment {
-    ghost use Rattle.std.specs.Prelude.{◌≡◌, ◌<◌, length};
-    ghost use Rattle.std.specs.Coded.{codes};
-    ghost use Rattle.md_dirs.specs.State.{state_code};
-    ghost use Rattle.md_name.specs.contracts.flags.Flags as flags;
-    ghost use Rattle.md_store.specs.Pages.{Course};
-    ghost use Rattle.md_store.specs.Rules.{run_in};
-
     ghost Value = { Course };
 
     ghost coded = { Prim.hlevel (codes, state_code, flags.the_row.coded) };
@@ -214,7 +185,6 @@ impl Model for Moment {
 }
 
 impl Moment {
-    /// The same moment once more.
     pub fn again(&self) -> Moment
         ensures { result ≡ self.now }
     {
@@ -253,13 +223,6 @@ pub struct Blank {
 }
 
 impl Model for Blank {
-    ghost use Rattle.std.specs.Prelude.{◌≡◌};
-    ghost use Rattle.std.specs.Coded.{codes};
-    ghost use Rattle.md_dirs.specs.State.{state_code};
-    ghost use Rattle.md_name.specs.contracts.flags.Flags as flags;
-    ghost use Rattle.md_store.specs.Pages.{Course};
-    ghost use Rattle.md_store.specs.Rules.{head_of, opening_entries, run_in};
-
     ghost Value = { Course };
 
     ghost coded = { Prim.hlevel (codes, state_code, flags.the_row.coded) };
@@ -312,14 +275,6 @@ pub struct Journal {
 }
 
 impl Model for Journal {
-    ghost use Rattle.std.specs.Prelude.{◌≡◌, ◌<◌, length};
-    ghost use Rattle.std.specs.Coded.{codes};
-    ghost use Rattle.md_dirs.specs.State.{state_code};
-    ghost use Rattle.md_name.specs.contracts.flags.Flags as flags;
-    ghost use Rattle.md_core.specs.Runs.{effects_of};
-    ghost use Rattle.md_store.specs.Pages.{Course};
-    ghost use Rattle.md_store.specs.Rules.{head_of, MayEnter, next_from, run_in};
-
     ghost Value = { Course };
 
     ghost coded = { Prim.hlevel (codes, state_code, flags.the_row.coded) };
@@ -331,7 +286,6 @@ impl Model for Journal {
 }
 
 impl Journal {
-    /// The effects of the run, as far as it was entered.
     pub fn front(&self) -> Front
         ensures { (result.book ≡ self.now.book) × (result.log ≡ effects_of self.now.run) }
     {
@@ -376,4 +330,11 @@ impl Journal {
         self.count = world.effects().len() as u64;
         self.seen = both;
     }
+}
+
+/// A run, as a world has it, the pen that entered it, and the pen that enters the next. No value of it is made.
+pub struct Entered {
+    pub world: World<PlainDirs>,
+    pub by: u64,
+    pub next: u64,
 }

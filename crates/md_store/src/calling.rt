@@ -1,17 +1,13 @@
 // Calls, each from its submission to its answer.
-ghost use Rattle.std.specs.Prelude.{◌≡◌, Some, None, IfOk, IfErr, OnErr};
+ghost use Rattle.std.specs.Prelude.{◌≡◌, Some, IfOk, IfErr, OnErr};
 ghost use mathlib.Core.List.{IsPrefix};
-ghost use Rattle.md_jobs.specs.declared.error.CoreError.TheVariants as core;
-ghost use Rattle.md_store.specs.declared.calling.CallError.TheVariants as refusal;
-ghost use Rattle.md_store.specs.Calling.{Accepts, Answers, GivesSince, Leaves, Ends, Stops};
+ghost use Rattle.md_store.specs.Calling.{Accepts, Answers, GivesSince, Leaves, Ends, Stops, plain_refusal, IsWhy};
 ghost use Rattle.md_store.specs.Ongoing.{GoesOn};
-ghost use Rattle.md_store.specs.Refusals.{plain_refusal, IsWhy};
-ghost use Rattle.md_store.specs.Telling.{Stands};
+ghost use Rattle.md_store.specs.Locks.{Stands};
 
 use crate::naming::Naming;
-use crate::news::News;
 use crate::pass::Pass;
-use crate::step::StoreStep;
+use crate::step::{News, StoreStep};
 use crate::store::Store;
 use md_core::{Answer, Call, CoreError, JobId, SubmitRefused};
 use md_dirs::Dirs;

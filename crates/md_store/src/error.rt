@@ -1,5 +1,5 @@
 // The refusals of a store.
-use std::alloc::{AllocError, AllocFailed};
+use std::alloc::AllocError;
 use thiserror::Error;
 
 /// Why nothing was listed.
@@ -25,17 +25,6 @@ impl From<AllocError> for ListError {
     ghost from_gives = { λ _ e. e ≡ NoMemory };
 
     fn from(_refused: AllocError) -> ListError {
-        ListError::NoMemory
-    }
-}
-
-impl<T: Drop> From<AllocFailed<T>> for ListError {
-    ghost use Rattle.std.specs.Prelude.{◌≡◌};
-    ghost use Rattle.md_store.specs.declared.error.ListError.TheVariants.{NoMemory};
-
-    ghost from_gives = { λ _ e. e ≡ NoMemory };
-
-    fn from(_refused: AllocFailed<T>) -> ListError {
         ListError::NoMemory
     }
 }

@@ -7,14 +7,11 @@
 
 mod book;
 mod calling;
-mod entered;
 mod error;
 mod locked;
 mod naming;
-mod news;
 mod opening;
 mod pass;
-mod posting;
 mod reading;
 mod rule;
 mod shown;
@@ -26,9 +23,8 @@ pub use calling::CallError;
 pub use error::{ListError, OpenError, StoreError};
 pub use locked::Locked;
 pub use naming::Naming;
-pub use news::News;
 pub use opening::{OpenRefused, Prepared, prepare};
 pub use pass::Pass;
 pub use reading::FirstReading;
-pub use step::StoreStep;
+pub use step::{News, StoreStep};
 pub use store::Store;

@@ -1,32 +1,32 @@
 // What is inside the lock: the world, and the writer of what is published.
-ghost use Rattle.std.specs.Prelude.{◌≡◌, ◌≢◌, ◌+◌, ◌<◌, ◌⊎◌, [], length, drop, Some, None, IsSome, MatchBool, IfOk, IfErr, OnOk, OnErr, MatchResult, option_map};
+ghost use Rattle.std.specs.Prelude.{◌≡◌, ◌≢◌, ◌+◌, ◌⊎◌, [], length, drop, Some, None, IsSome, MatchBool, IfOk, IfErr, OnOk, OnErr, MatchResult, option_map};
 ghost use Rattle.std.specs.FinMap as finmap;
 ghost use mathlib.Core.List.{IsPrefix};
-ghost use Rattle.left_right.specs.Sides.{view};
+ghost use Rattle.left_right.specs.Sides.{view as seat_view};
 ghost use Rattle.md_jobs.specs.Asked.{is_fault};
 ghost use Rattle.md_core.specs.Mailbox.{Entry, mailbox_of};
 ghost use Rattle.md_core.specs.Machine.{occurrence, job_at};
-ghost use Rattle.md_core.specs.Runs.{dirs_of, jobs_of, effects_of, and_event, and_call, step_refusal, steps_left, IsRefusal};
+ghost use Rattle.md_core.specs.Runs.{dirs_of, jobs_of, effects_of, and_event, and_call, step_refusal, IsRefusal};
 ghost use Rattle.md_core.specs.Submitting.{submit_refusal};
 ghost use Rattle.md_core.specs.Interleaving.{Interleaves};
-ghost use Rattle.md_core.specs.Tracing.{trace_of, GrowsByStep};
-ghost use Rattle.md_core.specs.Stepping.{IsRun, ShowsStep, Succeeds};
+ghost use Rattle.md_core.specs.Tracing.{trace_of};
+ghost use Rattle.md_core.specs.Stepping.{IsRun, ShowsStep};
 ghost use Rattle.md_view.specs.Named.{named_of};
-ghost use Rattle.md_store.specs.Histories.{IsLegalFrom};
+ghost use Rattle.md_store.specs.Listing.{IsLegalFrom};
 ghost use Rattle.md_store.specs.Publishing.{knower};
-ghost use Rattle.md_store.specs.Locks.{Lags};
+ghost use Rattle.md_store.specs.Locks.{Lags, Both, IsLocked, Tells, IsTold};
 ghost use Rattle.md_store.specs.Ongoing.{IsSince, GoesOn};
-ghost use Rattle.md_store.specs.Telling.{Tells, IsTold};
+ghost use Rattle.std.specs.Coded.{codes};
+ghost use Rattle.md_dirs.specs.State.{state_code};
+ghost use Rattle.md_name.specs.contracts.flags.Flags as flags;
 
 use crate::book::Journal;
 use crate::error::StoreError;
 use crate::naming::Naming;
-use crate::news::News;
 use crate::pass::Pass;
-use crate::posting::post;
 use crate::rule::StoreWriter;
-use crate::step::StoreStep;
-use crate::writing::publish;
+use crate::step::{News, StoreStep};
+use crate::writing::{post, publish};
 use md_core::{Call, CoreError, JobId, StepOut, SubmitRefused, World};
 use md_dirs::{Bytes, Dirs};
 use std::alloc::{AllocError, Global};
@@ -45,13 +45,6 @@ pub struct Locked<D: Dirs, J: Naming> {
 }
 
 impl<D: Dirs, J: Naming> Model for Locked<D, J> {
-    ghost use Rattle.std.specs.Prelude.{◌≡◌, drop};
-    ghost use Rattle.std.specs.Coded.{codes};
-    ghost use Rattle.md_dirs.specs.State.{state_code};
-    ghost use Rattle.md_name.specs.contracts.flags.Flags as flags;
-    ghost use Rattle.left_right.specs.Sides.{view as seat_view};
-    ghost use Rattle.md_store.specs.Locks.{Both, IsLocked};
-
     ghost Value = { Both };
 
     ghost coded = { Prim.hlevel (codes, state_code, flags.the_row.coded) };
@@ -73,7 +66,7 @@ impl<D: Dirs, J: Naming> Locked<D, J> {
         requires world { (named_of world.image ≡ J.opening) × (effects_of world ≡ []) }
         requires named { (journal.book ≡ J.book) × (journal.run ≡ world) }
         requires shown { (writer.desk.shown.value.front.book ≡ J.book) × (writer.desk.shown.value.front.log ≡ []) }
-        requires seat { (view writer.desk.place ≡ knower J.opening writer.desk.shown.value) × (drop writer.behind writer.log.items ≡ []) }
+        requires seat { (seat_view writer.desk.place ≡ knower J.opening writer.desk.shown.value) × (drop writer.behind writer.log.items ≡ []) }
         ensures { (result.run ≡ world) × (result.published ≡ []) }
     {
         Locked {
@@ -102,8 +95,7 @@ impl<D: Dirs, J: Naming> Locked<D, J> {
         world
     }
 
-    /// What the type keeps of any such value: its run goes on from the one that the store was opened with, its effects are published, or
-    /// all of them but the last, and its jobs interleave.
+    /// What the type keeps: its run goes on from the opening, its effects are published, or all but the last, and its jobs interleave.
     pub fn lags(&self)
         ensures since { IsSince J.begun self.now.run }
         ensures image { named_of self.now.run.image ≡ J.opening }
@@ -181,14 +173,10 @@ impl<D: Dirs, J: Naming> Locked<D, J> {
         ensures history { pass.new.history ≡ pass.old.history }
         ensures same_pass { OnErr result (pass.new ≡ pass.old) }
         ensures event { IfOk result (λ out. self.new.run ≡ and_event self.old.run (occurrence job now own (is_fault out.reply))) }
-        ensures trace { IfOk result (GrowsByStep (trace_of self.old.run) (trace_of self.new.run) job) }
         ensures shows { IfOk result (λ out. ShowsStep self.old.run self.new.run (occurrence job now own (is_fault out.reply)) out) }
-        ensures success { IfOk result (λ out. Succeeds self.new.run job out.answer) }
         ensures refused { MatchResult result (λ _. step_refusal (job_at (jobs_of self.old.run) job) ≡ None)
             (IsRefusal (step_refusal (job_at (jobs_of self.old.run) job))) }
         ensures unchanged { OnErr result (self.new ≡ self.old) }
-        ensures nearer { OnOk result (steps_left self.new.run job < steps_left self.old.run job) }
-        ensures others { OnOk result ((n : _) → n ≢ job → job_at (jobs_of self.new.run) n ≡ job_at (jobs_of self.old.run) n) }
     {
         let made = self.world.step(job, now, own);
         self.world.interleaves();
@@ -196,20 +184,6 @@ impl<D: Dirs, J: Naming> Locked<D, J> {
         let out = made?;
         pass.know(self.journal.moment(&self.world));
         Ok(out)
-    }
-
-    // Refuses a step of a job that isn't there or has its answer.
-    fn check(&self, job: JobId) -> Result<(), CoreError>
-        ensures { MatchResult result
-            (λ _. step_refusal (job_at (jobs_of self.now.run) job) ≡ None)
-            (λ e. step_refusal (job_at (jobs_of self.now.run) job) ≡ Some e) }
-    {
-        // A field is looked at, so that what the type keeps is known here.
-        let _kept = &self.journal;
-        match self.world.refusal(job) {
-            Some(error) => Err(error),
-            None => Ok(()),
-        }
     }
 
     // Refuses a step of a job that isn't there or has its answer, and publishes what is left.
@@ -220,7 +194,9 @@ impl<D: Dirs, J: Naming> Locked<D, J> {
             (IsRefusal (step_refusal (job_at (jobs_of self.old.run) job))) }
         ensures unchanged { OnErr result (IsSome (step_refusal (job_at (jobs_of self.old.run) job)) → self.new ≡ self.old) }
     {
-        self.check(job)?;
+        if let Some(error) = self.world.refusal(job) {
+            return Err(error);
+        }
         self.publish_left(rt)?;
         Ok(())
     }
@@ -256,8 +232,7 @@ impl<D: Dirs, J: Naming> Locked<D, J> {
         self.world.submit(call)
     }
 
-    /// A copy of the bytes of the message of a unique name, in new or cur of any folder. None where there is no such message. It is refused
-    /// only when out of memory.
+    /// A copy of the bytes of the message of a unique name, in new or cur of any folder. None where there is no such message.
     pub fn read(&self, alloc: Global, unique: &[u8]) -> Result<Option<Bytes>, StoreError>
         ensures { IfOk result (λ bytes. bytes ≡ option_map (λ (e : Entry). e.bytes) (finmap.get (mailbox_of (dirs_of self.now.run)) unique.now)) }
     {
@@ -295,14 +270,11 @@ impl<D: Dirs, J: Naming> Locked<D, J> {
         // Where the job isn't there, or has its answer, nothing is published either.
         ensures unchanged { OnErr result (IsSome (step_refusal (job_at (jobs_of self.old.run) job)) → self.new ≡ self.old) }
         ensures event { IfOk result (λ s. self.new.run ≡ and_event self.old.run (occurrence job now own (is_fault s.out.reply))) }
-        ensures trace { IfOk result (λ s. GrowsByStep (trace_of self.old.run) (trace_of self.new.run) job s.out) }
         ensures shows { IfOk result (λ s. ShowsStep self.old.run self.new.run (occurrence job now own (is_fault s.out.reply)) s.out) }
-        ensures success { IfOk result (λ s. Succeeds self.new.run job s.out.answer) }
-        ensures nearer { OnOk result (steps_left self.new.run job < steps_left self.old.run job) }
-        ensures others { OnOk result ((n : _) → n ≢ job → job_at (jobs_of self.new.run) n ≡ job_at (jobs_of self.old.run) n) }
         ensures news { IfOk result (λ s. Tells s.news s.out.effect self.new job pass.old.history pass.new.history) }
         ensures told { IfOk result (λ s. IsTold s.news s.out.answer job pass.old.history pass.new.history) }
     {
+        self.world.interleaves();
         pass.is_legal();
         if let Err(error) = self.make_ready(rt, job) {
             self.covers(pass);
@@ -349,7 +321,6 @@ impl<D: Dirs, J: Naming> Locked<D, J> {
         Ok(())
     }
 
-    // Publishes what is left.
     fn publish_left<R: Wait>(&mut self, rt: &R) -> Result<(), AllocError>
         ensures run { self.new.run ≡ self.old.run }
         ensures published { MatchResult result (λ _. self.new.published ≡ effects_of self.old.run) (λ _. self.new.published ≡ self.old.published) }

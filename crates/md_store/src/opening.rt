@@ -3,10 +3,13 @@ ghost use Rattle.std.specs.Prelude.{◌≡◌, ◌<◌, ◌≤◌, ◌⊎◌, []
 ghost use Rattle.left_right.specs.Sides.{view};
 ghost use Rattle.md_view.specs.Named.{named_of, AreMessages};
 ghost use Rattle.md_store.specs.declared.error.OpenError.TheVariants as refusal;
-ghost use Rattle.md_store.specs.Locks.{IsFresh};
+ghost use Rattle.md_store.specs.Locks.{IsFresh, Ready};
 ghost use Rattle.md_core.specs.Stepping.{IsRun};
 ghost use Rattle.md_store.specs.Pages.{new_to};
 ghost use Rattle.md_store.specs.Publishing.{knower};
+ghost use Rattle.std.specs.Coded.{codes};
+ghost use Rattle.md_dirs.specs.State.{state_code};
+ghost use Rattle.md_name.specs.contracts.flags.Flags as flags;
 
 use crate::book::{Blank, Front, Moment};
 use crate::error::OpenError;
@@ -42,12 +45,6 @@ pub struct Prepared<D: Dirs> {
 }
 
 impl<D: Dirs> Model for Prepared<D> {
-    ghost use Rattle.std.specs.Prelude.{◌≡◌, ◌<◌, ◌≤◌};
-    ghost use Rattle.std.specs.Coded.{codes};
-    ghost use Rattle.md_dirs.specs.State.{state_code};
-    ghost use Rattle.md_name.specs.contracts.flags.Flags as flags;
-    ghost use Rattle.md_store.specs.Locks.{Ready, IsFresh};
-
     ghost Value = { Ready };
 
     ghost coded = { Prim.hlevel (codes, state_code, flags.the_row.coded) };
@@ -57,18 +54,15 @@ impl<D: Dirs> Model for Prepared<D> {
     ghost invariant = { λ p. IsFresh p.world × (0 < p.passes) × (p.passes ≤ 64) × (p.blank.run ≡ p.world) };
 }
 
-/// Makes a store of a world ready to be opened, with 1 to 64 passes. The world has no event yet; calls may have been submitted. Refused
-/// `BadPasses` for any other number, and the world comes back.
+/// Makes a store of a world ready to be opened, with 1 to 64 passes; else it is refused `BadPasses`. Calls may have been submitted.
 pub fn prepare<D: Dirs>(world: World<D>, passes: usize) -> Result<Prepared<D>, OpenRefused<D>>
     requires { IsFresh world }
     ensures world { MatchResult result (λ p. (p.run ≡ world) × (p.passes ≡ passes)) (λ e. e.world ≡ world) }
     ensures refused { MatchResult result (λ _. (0 < passes) × (passes ≤ 64)) (λ e. (e.error ≡ refusal.BadPasses) × ((passes ≡ 0) ⊎ (64 < passes))) }
 {
     if passes == 0 || passes > MOST_PASSES {
-        return Err(OpenRefused {
-            error: OpenError::BadPasses,
-            world,
-        });
+        let error = OpenError::BadPasses;
+        return Err(OpenRefused { error, world });
     }
     let blank = Blank::open(&world);
     Ok(Prepared {
@@ -97,27 +91,20 @@ impl<D: Dirs> Prepared<D> {
             passes,
             blank,
         } = self;
+        let error = OpenError::NoMemory;
         let Some(journal) = blank.owned() else {
-            return Err(OpenRefused {
-                error: OpenError::NoMemory,
-                world,
-            });
+            return Err(OpenRefused { error, world });
         };
         let (front, moment) = (journal.front(), journal.moment(&world));
         world.interleaves();
-        let mut writer = match writer_of(rt, alloc, &world, &front, passes) {
-            Ok(writer) => writer,
-            Err(_) => {
-                return Err(OpenRefused {
-                    error: OpenError::NoMemory,
-                    world,
-                });
-            }
+        let Ok(mut writer) = writer_of(rt, alloc, &world, &front, passes) else {
+            return Err(OpenRefused { error, world });
         };
         match seats::<J>(alloc, &mut writer, &front, &moment, passes) {
             Ok(all) => {
                 let locked = Locked::new(alloc, world, journal, writer);
-                Ok((Store::new(Mutex::new(locked)), all))
+                let lock = Mutex::new(locked);
+                Ok((Store { lock }, all))
             }
             Err(error) => {
                 drop(writer.take(rt));
@@ -127,7 +114,6 @@ impl<D: Dirs> Prepared<D> {
     }
 }
 
-// What is published first.
 fn page<D: Dirs>(alloc: Global, world: &World<D>, front: &Front) -> Result<Shown, AllocError>
     requires { IsFresh world.now }
     ensures page { IfOk result (λ p. (p.names ≡ named_of world.now.image) × (p.front ≡ front.now)) }
@@ -185,7 +171,6 @@ fn seat<J: Naming>(
     Ok(Pass::new(reader, front.again(), moment.again()))
 }
 
-// So many passes.
 fn seats<J: Naming>(
     alloc: Global,
     writer: &mut StoreWriter,

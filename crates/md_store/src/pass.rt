@@ -1,15 +1,18 @@
 // Passes, and listings that take no lock.
 ghost use Rattle.std.specs.Prelude.{◌≡◌, ◌<◌, ◌≤◌, ◌⊎◌, true, false, length, IsTrue, IfOk, IfErr, IfSome, OnOk, OnErr, option_map};
 ghost use mathlib.Core.List.{IsPrefix};
-ghost use Rattle.left_right.specs.Sides.{view};
+ghost use Rattle.left_right.specs.Sides.{view as seat_view};
 ghost use Rattle.md_view.specs.Named.{AreMessages};
 ghost use Rattle.md_view.specs.Readings.{IsInOrder};
 ghost use Rattle.md_store.specs.declared.error.ListError.TheVariants as refusal;
-ghost use Rattle.md_store.specs.Histories.{named_after, IsLegalFrom};
+ghost use Rattle.md_store.specs.Listing.{named_after, IsLegalFrom, seen_in, IsLooked, Sees};
 ghost use Rattle.md_core.specs.Stepping.{IsRun};
 ghost use Rattle.md_store.specs.Ongoing.{IsSince, GoesOn};
-ghost use Rattle.md_store.specs.Listing.{seen_in, IsLooked, Sees};
 ghost use Rattle.md_store.specs.Publishing.{IsOf};
+ghost use Rattle.std.specs.Coded.{codes};
+ghost use Rattle.md_name.specs.contracts.flags.Flags as flags;
+ghost use Rattle.md_dirs.specs.State.{state_code};
+ghost use Rattle.md_store.specs.Pages.{Held};
 
 use crate::book::{Front, Moment};
 use crate::error::ListError;
@@ -22,9 +25,8 @@ use md_view::{Entry, TreeNames};
 use std::alloc::{AllocError, Global};
 use std::marker::{Model, PhantomData};
 
-/// A caller's token: a reader, the history that the caller has seen or was told of, and the run of the store as far as the caller was told of
-/// it. Contracts see that history, which is legal from the names that the store was opened with, and that run, which is a beginning of the
-/// store's own.
+/// A caller's token: a reader, the history that the caller has seen or was told of, and the run of the store as far as it was told of that.
+/// Contracts see that history, legal from the names at the opening, and that run, a beginning of the store's own.
 ///
 /// A pass of another store can't be given to a call: a naming type names one store, so that pass has another type. Nor can one that was
 /// dropped: it was moved away. What it held is lost, unless another pass has learned it, and nobody gets its seat.
@@ -37,17 +39,6 @@ pub struct Pass<J: Naming> {
 }
 
 impl<J: Naming> Model for Pass<J> {
-    ghost use Rattle.std.specs.Prelude.{◌≡◌};
-    ghost use Rattle.std.specs.Coded.{codes};
-    ghost use Rattle.md_name.specs.contracts.flags.Flags as flags;
-    ghost use Rattle.left_right.specs.Sides.{view as seat_view};
-    ghost use Rattle.md_dirs.specs.State.{state_code};
-    ghost use Rattle.md_core.specs.Stepping.{IsRun};
-    ghost use Rattle.md_store.specs.Histories.{IsLegalFrom};
-    ghost use Rattle.md_store.specs.Ongoing.{IsSince};
-    ghost use Rattle.md_store.specs.Pages.{Held};
-    ghost use Rattle.md_store.specs.Publishing.{IsOf};
-
     ghost Value = { Held };
 
     ghost coded = { Prim.hlevel (codes, state_code, flags.the_row.coded) };
@@ -60,7 +51,7 @@ impl<J: Naming> Model for Pass<J> {
 
 impl<J: Naming> Pass<J> {
     pub(crate) fn new(reader: StoreReader, front: Front, moment: Moment) -> Pass<J>
-        requires named { IsOf J.opening J.book (view reader.place) × (front.book ≡ J.book) × (moment.book ≡ J.book) }
+        requires named { IsOf J.opening J.book (seat_view reader.place) × (front.book ≡ J.book) × (moment.book ≡ J.book) }
         requires legal { IsLegalFrom J.opening front.log }
         requires run { IsSince J.begun moment.run × IsRun moment.run }
         ensures { (result.history ≡ front.log) × (result.run ≡ moment.run) }
@@ -80,8 +71,7 @@ impl<J: Naming> Pass<J> {
         self.front.len()
     }
 
-    /// What the type keeps of any pass: its history is legal, from the names that the store was opened with, and its run goes on from the one
-    /// that the store was opened with.
+    /// What the type keeps: its history is legal from the names at the opening, and its run goes on from the one at the opening.
     pub fn is_legal(&self)
         ensures legal { IsLegalFrom J.opening self.now.history }
         ensures since { IsSince J.begun self.now.run }
@@ -91,8 +81,7 @@ impl<J: Naming> Pass<J> {
         let _kept = &self.front;
     }
 
-    /// Whether it holds no more than another pass. Then the other begins with all that it holds; otherwise it begins with all that the other
-    /// holds.
+    /// Whether it holds no more than another pass: then the other begins with all that it holds, and otherwise it with all of the other's.
     pub fn begins(&self, other: &Pass<J>) -> bool
         ensures yes { IsTrue result → IsPrefix self.now.history other.now.history }
         ensures no { (result ≡ false) → IsPrefix other.now.history self.now.history }
@@ -100,8 +89,7 @@ impl<J: Naming> Pass<J> {
         self.front.begins(&other.front)
     }
 
-    /// Tells the pass of all that another holds, as a caller that was sent word by another may do: the next listing then begins with that.
-    /// It can't be refused.
+    /// Tells the pass of all that another holds, as a caller that was sent word by another may do: the next listing begins with that.
     pub fn learn_from(&mut self, other: &Pass<J>)
         ensures held { IsPrefix self.old.history self.new.history }
         ensures told { IsPrefix other.now.history self.new.history }
@@ -115,14 +103,12 @@ impl<J: Naming> Pass<J> {
         self.know(moment);
     }
 
-    /// The history that it holds.
     pub(crate) fn front(&self) -> &Front
         ensures { (result.now.log ≡ self.now.history) × (result.now.book ≡ J.book) }
     {
         &self.front
     }
 
-    /// The run that it was told of.
     pub(crate) fn moment(&self) -> &Moment
         ensures { (result.now.run ≡ self.now.run) × (result.now.book ≡ J.book) }
     {
@@ -151,8 +137,7 @@ impl<J: Naming> Pass<J> {
         self.front = self.front.longer(front);
     }
 
-    /// What is published now of a folder: its new, or the join of a first reading with its cur. It begins with all of the history that is
-    /// given. It takes no lock.
+    /// What is published now of a folder, behind all of a history: its new, or the join of a first reading with its cur. It takes no lock.
     pub(crate) fn read(
         &mut self,
         alloc: Global,
@@ -172,30 +157,27 @@ impl<J: Naming> Pass<J> {
         ensures entries { IfOk result (λ v. v.items ≡ seen_in (option_map (λ entries. entries.now) first.entry) folder (named_after J.opening self.new.history).names) }
         ensures err { OnErr result (self.new ≡ self.old) }
     {
-        let Pass {
-            reader,
-            front,
-            moment: _,
-            of: _,
-        } = self;
-        let (entries, seen) = replace_with(reader, (alloc, folder, first, held), entered)?;
-        *front = seen;
+        let (entries, seen) = replace_with(
+            &mut self.reader,
+            (alloc, folder, first, held),
+            entered,
+        )?;
+        self.front = seen;
         Ok(entries)
     }
 }
 
-// Enters what is published, looks, and leaves.
 fn entered(
     reader: StoreReader,
     x: (Global, u32, Option<&[Entry]>, &Front),
 ) -> (StoreReader, Result<(Vec<Entry>, Front), ListError>)
-    requires seat { ((view reader.place).opened ≡ true) × (x.3.now.book ≡ (view reader.place).held.book) }
+    requires seat { ((seat_view reader.place).opened ≡ true) × (x.3.now.book ≡ (seat_view reader.place).held.book) }
     requires order { IfSome x.2 (λ entries. IsInOrder entries.now) }
-    ensures kept { IsOf (view reader.place).opening (view reader.place).held.book (view result.0.place) }
+    ensures kept { IsOf (seat_view reader.place).opening (seat_view reader.place).held.book (seat_view result.0.place) }
     ensures entries { IfOk result.1 (λ r.
-        Sees (view reader.place) x.entry.3.now.log x.entry.1 (option_map (λ entries. entries.now) x.entry.2) r.0.items r.1) }
-    ensures no_folder { IfErr result.1 (λ e. e ≡ refusal.NoFolder → (view reader.place).opening.folders ≤ x.entry.1) }
-    ensures no_memory { IfErr result.1 (λ e. e ≡ refusal.NoMemory → x.entry.1 < (view reader.place).opening.folders) }
+        Sees (seat_view reader.place) x.entry.3.now.log x.entry.1 (option_map (λ entries. entries.now) x.entry.2) r.0.items r.1) }
+    ensures no_folder { IfErr result.1 (λ e. e ≡ refusal.NoFolder → (seat_view reader.place).opening.folders ≤ x.entry.1) }
+    ensures no_memory { IfErr result.1 (λ e. e ≡ refusal.NoMemory → x.entry.1 < (seat_view reader.place).opening.folders) }
 {
     match reader.enter_as::<Learning>() {
         Ok(reading) => {
@@ -232,7 +214,6 @@ fn look(
     Ok((entries, front.again()))
 }
 
-// New of a folder, or the join of a first reading with its cur.
 fn seen(
     alloc: Global,
     names: &TreeNames,

@@ -1,8 +1,9 @@
-// The first half of a listing.
 ghost use Rattle.std.specs.Prelude.{◌≡◌};
 ghost use Rattle.md_dirs.specs.declared.paths.Place.TheVariants.{New};
 ghost use Rattle.md_view.specs.Readings.{IsInOrder};
-ghost use Rattle.md_store.specs.Histories.{IsLegalFrom, read_at};
+ghost use Rattle.md_store.specs.Listing.{IsLegalFrom, read_at, Reading};
+ghost use Rattle.std.specs.Coded.{codes};
+ghost use Rattle.md_name.specs.contracts.flags.Flags as flags;
 
 use crate::book::Front;
 use crate::naming::Naming;
@@ -20,14 +21,6 @@ pub struct FirstReading<J: Naming> {
 }
 
 impl<J: Naming> Model for FirstReading<J> {
-    ghost use Rattle.std.specs.Prelude.{◌≡◌};
-    ghost use Rattle.std.specs.Coded.{codes};
-    ghost use Rattle.md_dirs.specs.declared.paths.Place.TheVariants.{New};
-    ghost use Rattle.md_name.specs.contracts.flags.Flags as flags;
-    ghost use Rattle.md_view.specs.Readings.{IsInOrder};
-    ghost use Rattle.md_store.specs.Histories.{IsLegalFrom, read_at};
-    ghost use Rattle.md_store.specs.Listing.{Reading};
-
     ghost Value = { Reading };
 
     ghost coded = { Prim.hlevel (codes, flags.the_row.coded) };
@@ -63,7 +56,6 @@ impl<J: Naming> FirstReading<J> {
         let _kept = &self.front;
     }
 
-    /// The history at whose end it was read.
     pub(crate) fn front(&self) -> &Front
         ensures { (result.now.log ≡ self.now.history) × (result.now.book ≡ J.book) }
     {

@@ -1,6 +1,10 @@
 // What is published: the names, with the history that led to them.
-ghost use Rattle.std.specs.Prelude.{◌≡◌, ◌++◌, ◌∷◌, [], IfOk, MatchResult};
+ghost use Rattle.std.specs.Prelude.{◌≡◌, MatchResult};
 ghost use Rattle.md_store.specs.Publishing.{page_after};
+ghost use Rattle.std.specs.Coded.{codes};
+ghost use Rattle.md_name.specs.contracts.flags.Flags as flags;
+ghost use Rattle.md_store.specs.Pages.{Note, Page};
+ghost use Rattle.md_view.specs.Named.{named_code};
 
 use crate::book::Front;
 use left_right::Absorb;
@@ -12,28 +16,16 @@ use std::marker::Model;
 /// An effect that is to be published, and the history that ends with it.
 #[derive(Drop)]
 pub struct Post {
-    effect: Effect,
-    front: Front,
+    pub(crate) effect: Effect,
+    pub(crate) front: Front,
 }
 
 impl Model for Post {
-    ghost use Rattle.std.specs.Coded.{codes};
-    ghost use Rattle.md_name.specs.contracts.flags.Flags as flags;
-    ghost use Rattle.md_store.specs.Pages.{Note};
-
     ghost Value = { Note };
 
     ghost coded = { Prim.hlevel (codes, flags.the_row.coded) };
 
     ghost view = { λ p. record { effect = p.effect; front = p.front } };
-}
-
-impl Post {
-    pub fn new(effect: Effect, front: Front) -> Post
-        ensures { (result.effect ≡ effect) × (result.front ≡ front) }
-    {
-        Post { effect, front }
-    }
 }
 
 /// The names, and the history that led to them from the opening names.
@@ -44,11 +36,6 @@ pub struct Shown {
 }
 
 impl Model for Shown {
-    ghost use Rattle.std.specs.Coded.{codes};
-    ghost use Rattle.md_name.specs.contracts.flags.Flags as flags;
-    ghost use Rattle.md_view.specs.Named.{named_code};
-    ghost use Rattle.md_store.specs.Pages.{Page};
-
     ghost Value = { Page };
 
     ghost coded = { Prim.hlevel (codes, named_code, flags.the_row.coded) };
@@ -75,7 +62,6 @@ impl Shown {
         &self.names
     }
 
-    // Takes in the next effect.
     fn take(&mut self, post: &Post) -> Result<(), AllocError>
         ensures { MatchResult result (λ _. self.new ≡ page_after self.old post.now) (λ _. self.new ≡ self.old) }
     {
@@ -88,8 +74,6 @@ impl Shown {
 }
 
 impl Absorb<Post> for Shown {
-    ghost use Rattle.md_store.specs.Publishing.{page_after};
-
     type State = Shown;
 
     ghost state = { λ s. s };

@@ -6,13 +6,10 @@ ghost use Rattle.md_jobs.specs.declared.error.CoreError.TheVariants as core;
 ghost use Rattle.md_core.specs.Runs.{effects_of};
 ghost use Rattle.md_view.specs.Named.{named_of};
 ghost use Rattle.md_store.specs.declared.error.ListError.TheVariants as refusal;
-ghost use Rattle.md_store.specs.Calling.{RefusesSince};
-ghost use Rattle.md_store.specs.Histories.{IsLegalFrom, read_at};
-ghost use Rattle.md_store.specs.Listing.{Lists, Finishes, ShowsLast};
-ghost use Rattle.md_store.specs.Locks.{SubmitsSince, RefusesCall, ReadsSince, HoldsAll};
+ghost use Rattle.md_store.specs.Calling.{RefusesSince, plain_refusal, IsWhy};
+ghost use Rattle.md_store.specs.Listing.{IsLegalFrom, read_at, Lists, Finishes, ShowsLast};
+ghost use Rattle.md_store.specs.Locks.{SubmitsSince, RefusesCall, ReadsSince, HoldsAll, IsNews, IsTold, TellsSince};
 ghost use Rattle.md_store.specs.Ongoing.{IsSince, GoesOn};
-ghost use Rattle.md_store.specs.Refusals.{plain_refusal, IsWhy};
-ghost use Rattle.md_store.specs.Telling.{IsNews, IsTold, TellsSince};
 
 use crate::error::{ListError, StoreError};
 use crate::locked::Locked;
@@ -35,14 +32,10 @@ const PAUSES: u32 = 32;
 
 /// A store that threads share: a world inside a lock, and what of it is published. Each caller has a pass of the same naming type.
 pub struct Store<D: Dirs, J: Naming> {
-    lock: Mutex<Locked<D, J>>,
+    pub(crate) lock: Mutex<Locked<D, J>>,
 }
 
 impl<D: Dirs, J: Naming> Store<D, J> {
-    pub(crate) fn new(lock: Mutex<Locked<D, J>>) -> Store<D, J> {
-        Store { lock }
-    }
-
     /// Lends the store inside its lock, so that a caller submits, steps and reads under one lock, with clauses that say exactly what each does;
     /// `Locked::lags` says what is known of it at first. It waits until the lock is free, and other threads wait until the guard is let go, by
     /// `MutexGuard::unlock`. Listings need no lock.
@@ -129,8 +122,7 @@ impl<D: Dirs, J: Naming> Store<D, J> {
     }
 
     /// A copy of the bytes of the message of a unique name, in new or cur of any folder: they are whole, as they were delivered, copied, or
-    /// there when the store was opened. None where there is no such message. It is refused only when out of memory. The clause speaks of some
-    /// run that goes on from the opening.
+    /// there at the opening. None where there is no such message. The clause speaks of some run that goes on from the opening.
     pub fn read<R: Wait>(
         &self,
         rt: &R,

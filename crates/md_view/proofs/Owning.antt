@@ -1,5 +1,5 @@
 -- Entries that own their names together: what stands in a text stays when it goes on behind.
-use Rattle.std.proofs.Common.{ℕ, ◌≡◌, ◌+◌, ◌-◌, ◌≤◌, ◌++◌, ◌∙◌, List, [], ◌∷◌, All, arith, map, length, length-take-le, take, drop, refl, sym, ap, slice_range, true}
+use Rattle.std.proofs.Common.{ℕ, ◌≡◌, ◌+◌, ◌-◌, ◌≤◌, ◌++◌, ◌∙◌, List, [], ◌∷◌, All, arith, map, length, length-take-le, take, drop, refl, sym, ap, slice_range}
 use Rattle.std.proofs.lemmas.List.{take-append-le, drop-append-le, length-drop, length-append}
 use Rattle.std.proofs.Math.Seq.{drop-append_seam, take-length}
 use Rattle.std.proofs.lemmas.List.Elements.{All-head, All-tail, All-weaker}
@@ -8,7 +8,7 @@ use Rattle.md_name.specs.Names.{is_colon, unique_of}
 use Rattle.md_name.proofs.Firsts.{place_within}
 use Rattle.md_dirs.specs.declared.paths.Place.{Place}
 use Rattle.md_view.specs.declared.owned.Piece.{Piece}
-use Rattle.md_view.specs.Owned.{entry_of, IsWithin}
+use Rattle.md_view.specs.Rows.{entry_of, IsWithin}
 
 module _ (xs ys : List ℕ) where
   kept-range : (a b : ℕ) → a ≤ b → b ≤ length xs → slice_range (xs ++ ys) a b ≡ slice_range xs a b
@@ -70,7 +70,7 @@ module _ (old name unique text : List ℕ) (start middle : ℕ) (is : text ≡ o
       (λ i. take (some i) (drop (from i) (is i))) ∙ ap (take (length unique)) (drop-append_seam old name) ∙ (own_front name unique own).1
 
   pub own-within : (size : ℕ) (place : Place)
-      → IsWithin text (record { start = start; middle = middle; unique = start; end = start + length unique; size = size; place = place; is_own = true })
+      → IsWithin text (record { start = start; middle = middle; unique = start; end = start + length unique; size = size; place = place })
   own-within size place =
       let short = (own_front name unique own).0 in
       record {

@@ -2,6 +2,7 @@
 ghost use Rattle.std.specs.Prelude.{◌≡◌, ◌<◌, IfOk, IfSome, length, position, true};
 ghost use Rattle.md_name.specs.Names.{is_colon, unique_of};
 ghost use Rattle.md_view.specs.Rows.{entry_of_row};
+ghost use Rattle.md_view.specs.declared.entry.Entry.{Entry};
 
 use md_dirs::{Place, RowRef};
 use md_name::{Bytes, colon_after, first_colon, is_message};
@@ -18,7 +19,7 @@ pub struct Entry {
 }
 
 impl Entry {
-    /// A copy. It is refused only when out of memory.
+    /// A copy.
     pub fn again(&self, alloc: Global) -> Result<Entry, AllocError>
         ensures { IfOk result (λ entry. entry ≡ self.now) }
     {
@@ -34,13 +35,12 @@ impl Entry {
     pub fn lent(&self) -> EntryRef<'_>
         ensures { result ≡ self.now }
     {
-        EntryRef {
-            unique: self.unique.as_slice(),
-            place: self.place,
-            name: self.name.as_slice(),
-            size: self.size,
-            is_own: false,
-        }
+        EntryRef::new(
+            self.unique.as_slice(),
+            self.place,
+            self.name.as_slice(),
+            self.size,
+        )
     }
 }
 
@@ -56,10 +56,6 @@ pub struct EntryRef<'a> {
 }
 
 impl<'a> Model for EntryRef<'a> {
-    ghost use Rattle.std.specs.Prelude.{◌≡◌, true};
-    ghost use Rattle.md_name.specs.Names.{unique_of};
-    ghost use Rattle.md_view.specs.declared.entry.Entry.{Entry};
-
     ghost Value = { Entry };
 
     ghost view = { λ e. record { unique = e.unique.now; place = e.place; name = e.name.now; size = e.size } };
@@ -146,13 +142,7 @@ impl<'a> EntryRef<'a> {
     pub(crate) fn again(&self) -> EntryRef<'a>
         ensures { result ≡ self.now }
     {
-        EntryRef {
-            unique: self.unique,
-            place: self.place,
-            name: self.name,
-            size: self.size,
-            is_own: self.is_own,
-        }
+        EntryRef::known(self.unique, self.place, self.name, self.size, self.is_own)
     }
 
     /// A copy that owns its names, an allocation for each. It is refused only when out of memory.
@@ -167,7 +157,6 @@ impl<'a> EntryRef<'a> {
         })
     }
 
-    // The entry of a row of a directory, if it is a message's.
     #[tactic(auto, using(crate::proofs::Parts::entry_by, crate::proofs::Parts::no_entry))]
     pub(crate) fn of_row(place: Place, row: &RowRef<'a>) -> Option<EntryRef<'a>>
         ensures { result ≡ entry_of_row place row.now }
@@ -176,13 +165,7 @@ impl<'a> EntryRef<'a> {
         if !is_message(row.name(), unique) {
             return None;
         }
-        Some(EntryRef {
-            unique,
-            place,
-            name: row.name(),
-            size: row.size(),
-            is_own: true,
-        })
+        Some(EntryRef::known(unique, place, row.name(), row.size(), true))
     }
 }
 

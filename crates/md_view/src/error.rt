@@ -1,4 +1,3 @@
-// Why a listing is refused.
 ghost use Rattle.std.specs.Prelude.{◌≡◌};
 ghost use Rattle.md_view.specs.declared.error.ViewError.TheVariants.{NoMemory};
 

@@ -1,5 +1,4 @@
-//! What a listing is good for, and which changes fit the names of a store. A law is a function that does nothing: its contract is the law, and
-//! a caller that calls it may rely on it.
+//! What a listing is good for, and which changes fit the names of a store. A law is a function that does nothing, whose caller may rely on it.
 ghost use Rattle.std.specs.Prelude.{◌≡◌, ◌≤◌, List, true};
 ghost use Rattle.md_core.specs.History.{names_of, names_after, IsAllowedAfter, IsLegal};
 ghost use Rattle.md_core.specs.Mailbox.{mailbox_of};

@@ -9,8 +9,6 @@
 mod comparing;
 mod entry;
 mod error;
-mod joined;
-mod joining;
 pub mod laws;
 mod listing;
 mod merging;
@@ -20,9 +18,7 @@ mod read;
 
 pub use entry::{Entry, EntryRef, copied, lend};
 pub use error::ViewError;
-pub use joined::Listing;
-pub use joining::{join, join_lent};
 pub use listing::{BegunListing, list, list_lent};
-pub use merging::Entries;
+pub use merging::{Entries, Listing, join, join_lent};
 pub use names::{EntryTree, Names, NamesIn, TreeNames};
 pub use read::{lent_reading, reading};

@@ -6,7 +6,7 @@ ghost use Rattle.md_view.specs.Law.{names_at, listing_of, HasBegun, IsGoodListin
 
 use crate::entry::{Entry, copied};
 use crate::error::ViewError;
-use crate::joined::Listing;
+use crate::merging::Listing;
 use crate::owned::Owned;
 use crate::read::lent_reading;
 use md_core::World;
@@ -80,8 +80,7 @@ impl BegunListing {
     }
 }
 
-/// The listing of a folder whose two readings are made at one moment: its messages now, in order of unique name. It is refused as
-/// `reading` is.
+/// The listing of a folder whose readings are made at one moment: its messages now, by unique name. It is refused as `reading` is.
 pub fn list<D: Dirs>(alloc: Global, world: &World<D>, folder: u32) -> Result<Vec<Entry>, ViewError>
     ensures entries { IfOk result (λ all. all.items ≡ listing_of (names_at world.now) folder (length world.now.events) (length world.now.events)) }
     ensures folder { IfOk result (λ _. folder < (dirs_of world.now).folders) }

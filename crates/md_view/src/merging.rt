@@ -1,15 +1,17 @@
-// Two readings in order, merged one entry after another.
-ghost use Rattle.std.specs.Prelude.{◌≡◌, ◌≤◌, ◌∷◌, [], IfOk, MatchOption, length};
+// Two readings in order, merged one entry after another: the entries that are left, the two looked through as one list, and made one list.
+ghost use Rattle.std.specs.Prelude.{◌≡◌, ◌≤◌, ◌∷◌, [], IfOk, MatchOption, length, List, drop, IfErr};
 ghost use Rattle.md_view.specs.Readings.{join_of, IsInOrder};
+ghost use Rattle.md_view.specs.declared.entry.Entry.{Entry};
+ghost use Rattle.md_view.specs.declared.error.ViewError.TheVariants.{NoMemory};
 
 use crate::comparing::compare;
-use crate::entry::EntryRef;
+use crate::entry::{Entry, EntryRef, copied, lend};
+use crate::error::ViewError;
 use std::alloc::{AllocError, Global};
 use std::cmp::Ordering;
 use std::marker::Model;
 
-/// The entries of a listing that are left, in order of unique name: those of cur, and those of new whose unique name isn't in cur. Contracts
-/// see them as a list.
+/// The entries of a listing that are left, in order of unique name: those of cur, and those of new whose unique name isn't in cur.
 #[derive(Drop)]
 pub struct Entries<'s, 'a> {
     of_new: &'s [EntryRef<'a>],
@@ -20,10 +22,6 @@ pub struct Entries<'s, 'a> {
 }
 
 impl<'s, 'a> Model for Entries<'s, 'a> {
-    ghost use Rattle.std.specs.Prelude.{List, drop};
-    ghost use Rattle.md_view.specs.declared.entry.Entry.{Entry};
-    ghost use Rattle.md_view.specs.Readings.{join_of, IsInOrder};
-
     ghost Value = { List Entry };
 
     ghost view = { λ e. join_of (drop e.from_new e.of_new.now) (drop e.from_cur e.of_cur.now) };
@@ -32,7 +30,6 @@ impl<'s, 'a> Model for Entries<'s, 'a> {
 }
 
 impl<'s, 'a> Entries<'s, 'a> {
-    // The entries of two readings.
     pub(crate) fn of(new: &'s [EntryRef<'a>], cur: &'s [EntryRef<'a>]) -> Self
         requires new { IsInOrder new.now }
         requires cur { IsInOrder cur.now }
@@ -96,4 +93,81 @@ impl<'s, 'a> Entries<'s, 'a> {
         }
         Ok(all)
     }
+}
+
+/// The listing of a folder, its names lent: a reading of new and one of cur, which are joined as they are looked through and never lie in
+/// memory as one list. Contracts see that list, the join of the two.
+#[derive(Drop)]
+pub struct Listing<'a> {
+    new: Vec<EntryRef<'a>>,
+    cur: Vec<EntryRef<'a>>,
+}
+
+impl<'a> Model for Listing<'a> {
+    ghost Value = { List Entry };
+
+    ghost view = { λ l. join_of l.new.items l.cur.items };
+
+    ghost invariant = { λ l. IsInOrder l.new.items × IsInOrder l.cur.items };
+}
+
+impl<'a> Listing<'a> {
+    pub(crate) fn of(new: Vec<EntryRef<'a>>, cur: Vec<EntryRef<'a>>) -> Self
+        requires new { IsInOrder new.items }
+        requires cur { IsInOrder cur.items }
+        ensures { result ≡ join_of new.entry.items cur.entry.items }
+    {
+        Listing { new, cur }
+    }
+
+    /// Its entries, one after another: each look through them compares the two readings anew.
+    pub fn entries(&self) -> Entries<'_, 'a>
+        ensures { result ≡ self.now }
+    {
+        Entries::of(&self.new, &self.cur)
+    }
+
+    /// Its entries as one list. Where one of the readings is empty it is the other; else it is one allocation. No name is copied.
+    pub fn into_vec(self, alloc: Global) -> Result<Vec<EntryRef<'a>>, AllocError>
+        ensures { IfOk result (λ all. all.items ≡ self.entry) }
+    {
+        if self.new.is_empty() {
+            return Ok(self.cur);
+        }
+        if self.cur.is_empty() {
+            return Ok(self.new);
+        }
+        self.entries().collect(alloc)
+    }
+}
+
+/// The listing of a folder: the entries of cur, and those of new whose unique name isn't in cur, in order of unique name.
+///
+/// New is to be read before cur: a message that is moved from new to cur between them is then in both, and cur counts. Both lists are in
+/// order of unique name, none twice, as `reading` gives them. It is refused only when out of memory.
+pub fn join(alloc: Global, new: &[Entry], cur: &[Entry]) -> Result<Vec<Entry>, ViewError>
+    requires new { IsInOrder new.now }
+    requires cur { IsInOrder cur.now }
+    ensures entries { IfOk result (λ all. all.items ≡ join_of new.now cur.now) }
+    ensures order { IfOk result (λ all. IsInOrder all.items) }
+    ensures refusal { IfErr result (λ error. error ≡ NoMemory) }
+{
+    let new = lend(alloc, new)?;
+    let cur = lend(alloc, cur)?;
+    let all = join_lent(alloc, &new, &cur)?;
+    Ok(copied(alloc, &all)?)
+}
+
+/// The same of lent entries: one allocation, and no name is copied. It is refused only when out of memory.
+pub fn join_lent<'a>(
+    alloc: Global,
+    new: &[EntryRef<'a>],
+    cur: &[EntryRef<'a>],
+) -> Result<Vec<EntryRef<'a>>, AllocError>
+    requires new { IsInOrder new.now }
+    requires cur { IsInOrder cur.now }
+    ensures entries { IfOk result (λ all. all.items ≡ join_of new.now cur.now) }
+    ensures order { IfOk result (λ all. IsInOrder all.items) }
+{
+    Entries::of(new, cur).collect(alloc)
 }

@@ -1,10 +1,11 @@
 // The names of a store, kept up to date change by change.
 ghost use Rattle.std.specs.Prelude.{◌≡◌, IfOk, IfErr, OnOk, OnErr};
 ghost use Rattle.md_core.specs.Runs.{dirs_of};
-ghost use Rattle.md_view.specs.Named.{named_of, after_change, AreMessages};
+ghost use Rattle.md_view.specs.Named.{named_of, after_change, AreMessages, Named, named_code};
 ghost use Rattle.md_dirs.specs.declared.paths.Place.TheVariants.{Cur};
 ghost use Rattle.md_view.specs.Readings.{reading_of, join_of, IsInOrder};
 ghost use Rattle.md_view.specs.declared.error.ViewError.TheVariants.{NoMemory};
+ghost use Rattle.md_view.specs.Held.{held_names, HoldNames};
 
 mod apply;
 mod entry_list;
@@ -15,7 +16,7 @@ mod tree;
 
 use crate::entry::{Entry, EntryRef, copied, lend};
 use crate::error::ViewError;
-use crate::joining::join_lent;
+use crate::merging::join_lent;
 use apply::apply_to;
 use entry_list::EntryList;
 use folder::{FolderNames, all_again, all_of};
@@ -25,10 +26,8 @@ use std::alloc::{AllocError, Global};
 use std::marker::Model;
 pub use tree::EntryTree;
 
-/// The names of a store: for each folder the messages of new and of cur, in order of unique name.
-///
-/// Contracts see how many folders there are, and of each message what a listing shows, by its unique name. `Names` and `TreeNames` keep
-/// these in two ways.
+/// The names of a store: for each folder the messages of new and of cur, in order of unique name. `Names` and `TreeNames` keep them in two
+/// ways. Contracts see how many folders there are, and of each message what a listing shows, by its unique name.
 #[derive(Drop)]
 pub struct NamesIn<L: EntryList> {
     alloc: Global,
@@ -42,9 +41,6 @@ pub type Names = NamesIn<Vec<Entry>>;
 pub type TreeNames = NamesIn<EntryTree>;
 
 impl<L: EntryList> Model for NamesIn<L> {
-    ghost use Rattle.md_view.specs.Named.{Named, named_code};
-    ghost use Rattle.md_view.specs.Held.{held_names, HoldNames};
-
     ghost Value = { Named };
 
     ghost coded = { named_code };
@@ -112,7 +108,6 @@ impl<L: EntryList> NamesIn<L> {
         copied(alloc, &all)
     }
 
-    // The messages of a directory of a folder, lent one by one.
     fn lent(
         &self,
         alloc: Global,

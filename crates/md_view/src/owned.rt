@@ -1,14 +1,14 @@
 // Entries that own their names together.
-ghost use Rattle.std.specs.Prelude.{◌≡◌, IfOk, OnOk, take, length};
-ghost use Rattle.md_view.specs.Owned.{entry_of, IsWithin};
+ghost use Rattle.std.specs.Prelude.{◌≡◌, IfOk, OnOk, take, length, List, map, All};
+ghost use Rattle.md_view.specs.Rows.{entry_of, IsWithin};
+ghost use Rattle.md_view.specs.declared.entry.Entry.{Entry};
 
 use crate::entry::EntryRef;
 use md_dirs::Place;
 use std::alloc::{AllocError, Global};
 use std::marker::Model;
 
-/// Where the names of an entry stand in a text: the whole name, and the unique one, which is the beginning of the name where it is known
-/// to be that of the name, and else stands behind it.
+// Where the names of an entry stand in a text: the whole name, and the unique one, which is its beginning, or else stands behind it.
 #[derive(Debug, Clone, Copy)]
 struct Piece {
     start: usize,
@@ -17,7 +17,6 @@ struct Piece {
     end: usize,
     size: u64,
     place: Place,
-    is_own: bool,
 }
 
 impl Piece {
@@ -30,30 +29,25 @@ impl Piece {
         let start = text.len();
         text.extend_from_slice(entry.name())?;
         let middle = text.len();
+        let piece = Piece {
+            start,
+            middle,
+            unique: start,
+            end: start + entry.unique().len(),
+            size: entry.size(),
+            place: entry.place(),
+        };
         if entry.is_own() {
-            return Ok(Piece {
-                start,
-                middle,
-                unique: start,
-                end: start + entry.unique().len(),
-                size: entry.size(),
-                place: entry.place(),
-                is_own: true,
-            });
+            return Ok(piece);
         }
         text.extend_from_slice(entry.unique())?;
         Ok(Piece {
-            start,
-            middle,
             unique: middle,
             end: text.len(),
-            size: entry.size(),
-            place: entry.place(),
-            is_own: false,
+            ..piece
         })
     }
 
-    // The entry, lent by its text.
     fn lent(self, text: &[u8]) -> EntryRef<'_>
         requires { IsWithin text.now self }
         ensures { result ≡ entry_of text.now self }
@@ -63,13 +57,12 @@ impl Piece {
             self.place,
             &text[self.start..self.middle],
             self.size,
-            self.is_own,
+            self.unique < self.middle,
         )
     }
 }
 
-/// Entries that own their names, which stand one behind another: they take two allocations, however many there are. Contracts see the
-/// entries.
+/// Entries that own their names, which stand one behind another: they take two allocations, however many there are.
 #[derive(Debug, Drop)]
 pub struct Owned {
     text: Vec<u8>,
@@ -77,10 +70,6 @@ pub struct Owned {
 }
 
 impl Model for Owned {
-    ghost use Rattle.std.specs.Prelude.{List, map, All};
-    ghost use Rattle.md_view.specs.declared.entry.Entry.{Entry};
-    ghost use Rattle.md_view.specs.Owned.{entry_of, IsWithin};
-
     ghost Value = { List Entry };
 
     ghost view = { λ o. map (entry_of o.text.items) o.pieces.items };
@@ -89,7 +78,6 @@ impl Model for Owned {
 }
 
 impl Owned {
-    /// Copies of entries. It is refused only when out of memory.
     pub fn copied(alloc: Global, entries: &[EntryRef<'_>]) -> Result<Owned, AllocError>
         ensures { IfOk result (λ owned. owned ≡ entries.now) }
     {
@@ -101,7 +89,6 @@ impl Owned {
         Ok(Owned { text, pieces })
     }
 
-    /// The entries, lent one by one. It is refused only when out of memory.
     pub fn lent(&self, alloc: Global) -> Result<Vec<EntryRef<'_>>, AllocError>
         ensures { IfOk result (λ all. all.items ≡ self.now) }
     {

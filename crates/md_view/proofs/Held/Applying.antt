@@ -59,7 +59,7 @@ module _ (n : Named) where
             at = at ∙ (λ i. Some (record { folder = in_folder i; place = in_place i; name = named i; size = m.size }));
           }
 
-  insert-messages : AreMessages n → (u : List ℕ) (m : Listed) → IsMessage n.folders u m
+  pub insert-messages : AreMessages n → (u : List ℕ) (m : Listed) → IsMessage n.folders u m
       → AreMessages (record { folders = n.folders; names = finmap.insert n.names u m })
   insert-messages are u m is v x at = by_key nat_list_cmp_total exact_bytes v u
       (λ same.

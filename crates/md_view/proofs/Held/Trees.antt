@@ -15,8 +15,7 @@ use Rattle.md_core.specs.Mailbox.{name_cmp}
 use Rattle.md_view.specs.declared.entry.Entry.{Entry}
 use Rattle.md_view.specs.declared.names.tree.Leaf.{Leaf}
 use Rattle.md_view.specs.Readings.{with_unique, IsInOrder}
-use Rattle.md_view.specs.Held.{entry_with, renamed, DiffersAt}
-use Rattle.md_view.specs.Trees.{name_of, named, entry_at, entries_in, kept_name, renamed_leaf}
+use Rattle.md_view.specs.Held.{entry_with, renamed, DiffersAt, name_of, named, entry_at, entries_in, kept_name, renamed_leaf}
 use Rattle.std.specs.Prelude.{nat_eq, unwrap_or}
 use Rattle.std.proofs.lemmas.Slice.Eq.{bytes_eq-Decides}
 use Rattle.std.specs.Option.{option_map}

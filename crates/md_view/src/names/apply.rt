@@ -60,14 +60,6 @@ pub fn apply_to<L: EntryList>(
     }
 }
 
-// The entry of a name.
-fn entry_of(place: Place, name: &[u8], size: u64) -> EntryRef<'_>
-    ensures { result ≡ record { unique = unique_of name.now; place = place; name = name.now; size = size } }
-{
-    EntryRef::new(unique_part(name), place, name, size)
-}
-
-// Adds a message, where that fits.
 fn add<L: EntryList>(
     alloc: Global,
     folders: &mut Vec<FolderNames<L>>,
@@ -90,7 +82,6 @@ fn add<L: EntryList>(
     lists.put_new(alloc, place, EntryRef::new(unique, place, name, size))
 }
 
-// Takes a message away, where that fits. It takes no memory.
 fn remove<L: EntryList>(folders: &mut Vec<FolderNames<L>>, folder: u32, place: Place, name: &[u8])
     requires { HoldNames folders.old.items }
     ensures { AreHeld (after_change (held_names folders.old.items) (Remove folder place name.now)) folders.new.items }
@@ -101,7 +92,6 @@ fn remove<L: EntryList>(folders: &mut Vec<FolderNames<L>>, folder: u32, place: P
     }
 }
 
-// Gives a message another name, where that fits.
 fn rename<L: EntryList>(
     alloc: Global,
     folders: &mut Vec<FolderNames<L>>,
@@ -178,14 +168,14 @@ fn rename_away<L: EntryList>(
 {
     let unique = unique_part(name);
     let size = size_of(folders, folder, place, unique);
+    let entry = EntryRef::new(unique_part(to_name), to_place, to_name, size);
     let to_lists = &mut folders[to_folder as usize];
-    to_lists.put(alloc, to_place, entry_of(to_place, to_name, size))?;
+    to_lists.put(alloc, to_place, entry)?;
     let lists = &mut folders[folder as usize];
     lists.take(place, unique);
     Ok(())
 }
 
-// Whether two entries have one directory and one unique name.
 fn is_one_place(
     folder: u32,
     place: Place,
@@ -199,7 +189,6 @@ fn is_one_place(
     folder == to_folder && place == to_place && unique == to_unique
 }
 
-// The size of the message of a unique name in a directory.
 fn size_of<L: EntryList>(
     folders: &[FolderNames<L>],
     folder: u32,

@@ -13,8 +13,7 @@ use crate::names::folder::FolderNames;
 use md_dirs::Place;
 use md_name::split;
 
-/// Whether a directory may take one more message of a unique name, as far as others go: it is new or cur of a folder that is there, and no
-/// other has such a message.
+/// Whether a directory may take one more message of a unique name: it is new or cur of a folder that is there, and no other has such one.
 pub fn may_take<L: EntryList>(
     folders: &[FolderNames<L>],
     folder: u32,
@@ -28,7 +27,6 @@ pub fn may_take<L: EntryList>(
     is_listed(folders, folder, place) && !unique_exists_elsewhere(folders, folder, place, unique)
 }
 
-// Whether another directory than this has a message of a unique name.
 fn unique_exists_elsewhere<L: EntryList>(
     folders: &[FolderNames<L>],
     folder: u32,
@@ -89,14 +87,12 @@ pub fn fits_remove<L: EntryList>(
     is_listed(folders, folder, place) && is_there(folders, folder, place, name)
 }
 
-// Whether this is new or cur of a folder that is there.
 fn is_listed<L: EntryList>(folders: &[FolderNames<L>], folder: u32, place: Place) -> bool
     ensures { result ≡ is_listed_in (held_names folders.now) folder place }
 {
     (folder as usize) < folders.len() && !matches!(place, Place::Tmp)
 }
 
-// Whether a message has this name in this directory.
 fn is_there<L: EntryList>(
     folders: &[FolderNames<L>],
     folder: u32,
@@ -118,7 +114,6 @@ fn is_there<L: EntryList>(
     }
 }
 
-// Whether some message has a unique name.
 fn unique_exists<L: EntryList>(folders: &[FolderNames<L>], unique: &[u8]) -> bool
     ensures { result ≡ list_any (has_unique unique.now) folders.now }
 {

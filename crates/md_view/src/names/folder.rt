@@ -5,7 +5,7 @@ ghost use Rattle.md_core.specs.History.{names_of};
 ghost use Rattle.md_core.specs.Mailbox.{mailbox_of, is_tmp};
 ghost use Rattle.md_core.specs.Runs.{dirs_of};
 ghost use Rattle.md_view.specs.Named.{named_of};
-ghost use Rattle.md_view.specs.Held.{list_of, entry_with, has_unique, renamed, DiffersIn, AreHeld};
+ghost use Rattle.md_view.specs.Held.{list_of, entry_with, has_unique, renamed, DiffersIn, AreHeld, FolderLists};
 ghost use Rattle.md_view.specs.Readings.{reading_of, reading_refusal, IsInOrder};
 ghost use Rattle.md_dirs.specs.declared.paths.Place.{Place};
 ghost use Rattle.md_dirs.specs.declared.paths.Place.TheVariants.{New, Cur};
@@ -28,10 +28,6 @@ pub struct FolderNames<L: EntryList> {
 }
 
 impl<L: EntryList> Model for FolderNames<L> {
-    ghost use Rattle.std.specs.Prelude.{◌≡◌};
-    ghost use Rattle.md_view.specs.Readings.{IsInOrder};
-    ghost use Rattle.md_view.specs.Held.{FolderLists};
-
     ghost Value = { FolderLists };
 
     ghost view = { λ f. record { in_new = L.shown f.in_new; in_cur = L.shown f.in_cur } };
@@ -40,7 +36,6 @@ impl<L: EntryList> Model for FolderNames<L> {
 }
 
 impl FolderNames<Vec<Entry>> {
-    /// The messages of a directory.
     pub fn list(&self, place: Place) -> &[Entry]
         ensures { result.now ≡ list_of place self.now }
     {
@@ -53,7 +48,6 @@ impl FolderNames<Vec<Entry>> {
 }
 
 impl<L: EntryList> FolderNames<L> {
-    /// The messages of a folder of a world now.
     pub fn of<D: Dirs>(
         alloc: Global,
         world: &World<D>,
@@ -63,25 +57,19 @@ impl<L: EntryList> FolderNames<L> {
         ensures cur { IfOk result (λ lists. lists.in_cur ≡ reading_of (names_of (mailbox_of (dirs_of world.now))) folder Cur) }
         ensures refusal { IfErr result (λ error. error ≡ reading_refusal (dirs_of world.now) folder) }
     {
-        let in_new = lent_reading(alloc, world, folder, Place::New)?;
-        let in_cur = lent_reading(alloc, world, folder, Place::Cur)?;
-        Ok(FolderNames {
-            in_new: L::of(alloc, in_new)?,
-            in_cur: L::of(alloc, in_cur)?,
-        })
+        let in_new = L::of(alloc, lent_reading(alloc, world, folder, Place::New)?)?;
+        let in_cur = L::of(alloc, lent_reading(alloc, world, folder, Place::Cur)?)?;
+        Ok(FolderNames { in_new, in_cur })
     }
 
-    /// A copy.
     pub fn again(&self, alloc: Global) -> Result<FolderNames<L>, AllocError>
         ensures { IfOk result (λ lists. lists ≡ self.now) }
     {
-        Ok(FolderNames {
-            in_new: list_again(alloc, &self.in_new)?,
-            in_cur: list_again(alloc, &self.in_cur)?,
-        })
+        let in_new = L::of(alloc, self.in_new.lent(alloc)?)?;
+        let in_cur = L::of(alloc, self.in_cur.lent(alloc)?)?;
+        Ok(FolderNames { in_new, in_cur })
     }
 
-    /// The messages of a directory, lent one by one.
     pub fn lent(&self, alloc: Global, place: Place) -> Result<Vec<EntryRef<'_>>, AllocError>
         ensures { IfOk result (λ all. all.items ≡ list_of place self.now) }
     {
@@ -187,15 +175,6 @@ impl<L: EntryList> FolderNames<L> {
     }
 }
 
-fn list_again<L: EntryList>(alloc: Global, list: &L) -> Result<L, AllocError>
-    requires { IsInOrder (L.shown list.now) }
-    ensures { IfOk result (λ copy. L.shown copy ≡ L.shown list.now) }
-{
-    let all = list.lent(alloc)?;
-    L::of(alloc, all)
-}
-
-/// The messages of all folders of a world now.
 pub fn all_of<L: EntryList, D: Dirs>(
     alloc: Global,
     world: &World<D>,
@@ -213,7 +192,6 @@ pub fn all_of<L: EntryList, D: Dirs>(
     Ok(folders)
 }
 
-/// A copy of all folders.
 pub fn all_again<L: EntryList>(
     alloc: Global,
     folders: &[FolderNames<L>],

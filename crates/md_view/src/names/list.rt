@@ -8,7 +8,6 @@ use crate::names::entry_list::EntryList;
 use md_name::Bytes;
 use std::alloc::{AllocError, Global};
 
-// Where the entry of a unique name is, or where it would go.
 fn search(entries: &[Entry], unique: &[u8]) -> Result<usize, usize>
     requires { IsInOrder entries.now }
     ensures found { IfOk result (HasAt entries.now unique.now) }

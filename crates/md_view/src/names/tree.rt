@@ -1,7 +1,7 @@
 // Entries in order of unique name in a tree.
-ghost use Rattle.std.specs.Prelude.{◌≡◌, [], None, IsTrue, IfOk, OnOk, OnErr};
-ghost use Rattle.md_view.specs.Held.{entry_with};
-ghost use Rattle.md_view.specs.Trees.{named, name_of, kept_name, renamed_leaf};
+ghost use Rattle.std.specs.Prelude.{◌≡◌, None, IsTrue, IfOk, OnOk, OnErr, List};
+ghost use Rattle.md_view.specs.Held.{entry_with, named, name_of, kept_name, renamed_leaf, entries_in};
+ghost use Rattle.md_view.specs.declared.entry.Entry.{Entry};
 
 use crate::entry::EntryRef;
 use crate::names::entry_list::EntryList;
@@ -31,7 +31,6 @@ impl Leaf {
         })
     }
 
-    /// The whole name of the entry of a unique name.
     fn name<'a>(&'a self, unique: &'a [u8]) -> &'a [u8]
         ensures { result.now ≡ name_of unique.now self.now }
     {
@@ -47,7 +46,6 @@ impl Leaf {
         EntryRef::new(unique, self.place, self.name(unique), self.size)
     }
 
-    /// The entry of a unique name gets another name, if it has the old one.
     fn rename(
         &mut self,
         alloc: Global,
@@ -82,24 +80,12 @@ pub struct EntryTree {
 }
 
 impl Model for EntryTree {
-    ghost use Rattle.std.specs.Prelude.{List};
-    ghost use Rattle.md_view.specs.Trees.{entries_in};
-    ghost use Rattle.md_view.specs.declared.entry.Entry.{Entry};
-
     ghost Value = { List Entry };
 
     ghost view = { λ t. entries_in t.leaves.entries };
 }
 
 impl EntryTree {
-    fn new(alloc: Global) -> EntryTree
-        ensures { result ≡ [] }
-    {
-        EntryTree {
-            leaves: BTreeMap::new(alloc),
-        }
-    }
-
     // Whether a unique name is behind those of all entries. Names mostly come in the order of time, so the last entry is looked at first.
     fn is_behind(&self, unique: &[u8]) -> bool
         ensures { IsTrue result → entry_with unique.now self.now ≡ None }
@@ -115,7 +101,8 @@ impl EntryList for EntryTree {
     ghost shown = { λ t. t };
 
     fn of(alloc: Global, mut all: Vec<EntryRef<'_>>) -> Result<Self, AllocError> {
-        let mut tree = EntryTree::new(alloc);
+        let leaves = BTreeMap::new(alloc);
+        let mut tree = EntryTree { leaves };
         while let Some(entry) = all.pop() {
             tree.put(alloc, entry)?;
         }

@@ -1,7 +1,7 @@
 use Rattle.std.proofs.Common.{◌≡◌, ◌<◌, List, [], ◌∷◌, length, sym, ◌∙◌, ap, refl, subst, arith, length-append}
 use mathlib.Core.List.{IsPrefix}
 use Rattle.md_core.specs.Runs.{Run, effects_of}
-use Rattle.md_store.specs.declared.entered.Entered.{Entered}
+use Rattle.md_store.specs.declared.book.Entered.{Entered}
 use Rattle.md_store.specs.Ongoing.{GoesOn}
 use Rattle.md_store.specs.Pages.{Course, Log}
 use Rattle.md_store.specs.Rules.{head_of, next_from, run_in}

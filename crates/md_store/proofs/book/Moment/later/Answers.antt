@@ -1,6 +1,6 @@
 use Rattle.std.proofs.Common.{◌<◌, ◌≤◌, List, ap, refl, sym, subst, ◌∙◌, arith, rules}
 use mathlib.Core.List.{IsPrefix}
-use Rattle.md_store.specs.declared.entered.Entered.{Entered}
+use Rattle.md_store.specs.declared.book.Entered.{Entered}
 use Rattle.md_store.specs.Ongoing.{GoesOn}
 use Rattle.md_store.specs.Pages.{Course}
 use Rattle.md_store.specs.Rules.{run_in}

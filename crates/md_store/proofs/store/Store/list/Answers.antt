@@ -1,7 +1,7 @@
 use Rattle.std.proofs.Common.{List, sym, subst}
 use mathlib.Core.List.{IsPrefix}
 use Rattle.md_jobs.specs.declared.effect.Effect.{Effect}
-use Rattle.md_store.specs.Histories.{IsLegalFrom}
+use Rattle.md_store.specs.Listing.{IsLegalFrom}
 use Rattle.md_store.proofs.Good.{lists}
 use Rattle.md_store.proofs.store.Store.list.Goals as goal
 

@@ -4,7 +4,7 @@ use Rattle.md_jobs.specs.declared.effect.Effect.{Effect}
 use Rattle.md_dirs.specs.declared.paths.Place.TheVariants.{Cur}
 use Rattle.md_view.specs.declared.entry.Entry.{Entry}
 use Rattle.md_view.specs.Readings.{join_of}
-use Rattle.md_store.specs.Histories.{read_at}
+use Rattle.md_store.specs.Listing.{read_at}
 use Rattle.md_store.proofs.Good.{finishes, begins-first}
 use Rattle.md_store.proofs.store.Store.second.Goals as goal
 

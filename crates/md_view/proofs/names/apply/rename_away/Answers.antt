@@ -1,4 +1,4 @@
-use Rattle.std.proofs.Common.{ℕ, ◌<◌, List, None, refl, slice_set, sym, subst}
+use Rattle.std.proofs.Common.{ℕ, ◌<◌, List, None, refl, slice_set, sym, subst, ◌∙◌}
 use Rattle.std.proofs.lemmas.List.{length-set}
 use Rattle.std.proofs.lemmas.Option.{slice_get_read}
 use Rattle.md_view.specs.Held.{DiffersIn, held_names}
@@ -38,7 +38,9 @@ returns-clause-ok g c =
     rename-moved n fs c.requires.names folder place name to_folder to_place to_name c.requires.fits f f' at
     (rename-put n fs c.requires.names folder place name to_folder to_place to_name c.requires.fits
     unique c.deref.result.now c.deref.ensures.value c.unique_part-unique.ensures c.size_of-size.result c.size_of-size.ensures
-    c.entry_of.result c.entry_of.ensures f f' c.in_ok-put.ensures.ok)
+    c.new-entry.result
+    (c.new-entry.ensures ∙ (λ i. record { unique = c.unique_part.ensures i; place = to_place; name = to_name; size = c.size_of-size.result }))
+    f f' c.in_ok-put.ensures.ok)
     h h' there
     (subst (λ (u : List ℕ). DiffersIn place u None h h') c.unique_part-unique.ensures c.take.ensures)
     c.requires.away

@@ -1,7 +1,7 @@
 use Rattle.std.proofs.Common.{◌≡◌, ◌<◌, ◌∙◌, ◌++◌, ◌∷◌, [], All, sym, ap, subst, map, take, drop, length}
 use Rattle.std.proofs.lemmas.List.{take_more, map_push, take-append-drop}
 use Rattle.std.proofs.lemmas.List.Elements.{All-push}
-use Rattle.md_view.specs.Owned.{entry_of, IsWithin}
+use Rattle.md_view.specs.Rows.{entry_of, IsWithin}
 use Rattle.md_view.proofs.Owning.{kept-all, kept-entries}
 use Rattle.md_view.proofs.owned.Owned.copied.Goals as goal
 

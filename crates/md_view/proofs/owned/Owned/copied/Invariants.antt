@@ -1,5 +1,5 @@
 use Rattle.std.proofs.Common.{◌≡◌, All, map, take}
-use Rattle.md_view.specs.Owned.{entry_of, IsWithin}
+use Rattle.md_view.specs.Rows.{entry_of, IsWithin}
 use Rattle.md_view.proofs.owned.Owned.copied.Given as goal
 
 abbrev pub invariant-loop-entry : goal.invariant-loop-entry

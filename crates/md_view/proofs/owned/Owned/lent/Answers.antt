@@ -1,8 +1,8 @@
-use Rattle.std.proofs.Common.{◌<◌, ◌++◌, ◌∷◌, [], ◌∙◌, arith, sym, ap, take, map, length, false}
+use Rattle.std.proofs.Common.{◌<◌, ◌++◌, ◌∷◌, [], ◌∙◌, arith, sym, ap, take, map, length}
 use Rattle.std.proofs.lemmas.List.{take_more, get_or-map, length-map}
 use Rattle.md_dirs.specs.declared.paths.Place.TheVariants.{Tmp}
 use Rattle.md_view.specs.declared.owned.Piece.{Piece}
-use Rattle.md_view.specs.Owned.{entry_of}
+use Rattle.md_view.specs.Rows.{entry_of}
 use Rattle.md_view.proofs.owned.Owned.lent.Goals as goal
 
 pub loop-piece-preserved : goal.loop-piece-preserved
@@ -10,7 +10,7 @@ loop-piece-preserved c =
     let ps = c.self.inside.pieces.items in
     let one = entry_of c.self.inside.text.items in
     let at = c.loop-piece.piece-index in
-    let none : Piece = record { start = 0; middle = 0; unique = 0; end = 0; size = 0; place = Tmp; is_own = false } in
+    let none : Piece = record { start = 0; middle = 0; unique = 0; end = 0; size = 0; place = Tmp } in
     let here : at < length ps = rw (← c.deref-piece-items.ensures.value) c.loop-piece-test.true in
     let long = length-map ps one in
     rw (c.in_ok-push.ensures.items, c.loop-piece.invariant, c.lent.ensures, ← c.self.view_is, c.deref.ensures.value, c.deref-piece-items.ensures.value)

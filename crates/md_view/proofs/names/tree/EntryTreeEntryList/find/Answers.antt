@@ -1,6 +1,5 @@
 use Rattle.std.proofs.Common.{◌≡◌, Some, sym, ap, ◌∙◌}
-use Rattle.md_view.specs.Held.{entry_with}
-use Rattle.md_view.specs.Trees.{named, entry_at}
+use Rattle.md_view.specs.Held.{entry_with, named, entry_at}
 use Rattle.md_view.proofs.Held.Trees.{found, found-none}
 use Rattle.md_view.proofs.names.tree.EntryTreeEntryList.find.Goals as goal
 

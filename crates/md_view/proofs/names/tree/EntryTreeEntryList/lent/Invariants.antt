@@ -1,5 +1,5 @@
 use Rattle.std.proofs.Common.{◌≡◌, ◌++◌}
-use Rattle.md_view.specs.Trees.{entries_in}
+use Rattle.md_view.specs.Held.{entries_in}
 use Rattle.md_view.proofs.names.tree.EntryTreeEntryList.lent.Given as goal
 
 -- what was lent, and what is left

@@ -6,8 +6,7 @@ use Rattle.md_view.specs.declared.names.tree.EntryTree.TheInside.{Inside as Entr
 use Rattle.md_view.specs.declared.entry.Entry.{Entry}
 use Rattle.md_view.specs.declared.names.tree.Leaf.{Leaf}
 use Rattle.md_view.specs.Readings.{IsInOrder}
-use Rattle.md_view.specs.Held.{entry_with, DiffersAt}
-use Rattle.md_view.specs.Trees.{named, entries_in}
+use Rattle.md_view.specs.Held.{entry_with, DiffersAt, named, entries_in}
 use Rattle.md_view.proofs.Held.Trees.{is_key, inserted-new, put-back, inserted-there}
 use Rattle.md_view.proofs.names.tree.EntryTreeEntryList.put_new.Goals as goal
 use Rattle.md_view.proofs.names.tree.EntryTreeEntryList.put_new.Goals.{in-Some-get_mut+in-Some-1, in-Some-get_mut+in-None-1, in_default-get_mut+in-Some-1, in_default-get_mut+in-None-1}

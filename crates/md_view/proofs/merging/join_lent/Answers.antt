@@ -3,7 +3,7 @@ use Rattle.md_view.specs.declared.entry.Entry.{Entry}
 use Rattle.md_view.specs.Readings.{IsInOrder}
 use Rattle.md_view.proofs.Keyed.{in-order, ordered}
 use Rattle.md_view.proofs.Merged.{join-sorted}
-use Rattle.md_view.proofs.joining.join_lent.Goals as goal
+use Rattle.md_view.proofs.merging.join_lent.Goals as goal
 
 pub returns-clause-order : goal.returns-clause-order
 returns-clause-order c =

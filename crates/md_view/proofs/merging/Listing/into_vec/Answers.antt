@@ -2,7 +2,7 @@ use Rattle.std.proofs.Common.{sym, ◌∙◌, vec_len, arith}
 use Rattle.std.proofs.lemmas.Bool.{eqb-true}
 use Rattle.md_view.proofs.Keyed.{ordered}
 use Rattle.md_view.proofs.Merged.{join-none-new, join-none-cur}
-use Rattle.md_view.proofs.joined.Listing.into_vec.Goals as goal
+use Rattle.md_view.proofs.merging.Listing.into_vec.Goals as goal
 
 pub returns-then-is_empty : goal.returns-then-is_empty
 returns-then-is_empty c =
