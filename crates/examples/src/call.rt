@@ -27,8 +27,5 @@ pub fn deliver_now(
 pub fn go_on(world: World<IndexDirs>) -> Result<World<IndexDirs>>
     ensures { IfOk result (λ w. w ≡ settled world) }
 {
-    match world.settle() {
-        Ok(begun) => Ok(begun),
-        Err(refused) => Err(refused.error.into()),
-    }
+    Ok(world.settle().map_err(|refused| refused.error)?)
 }

@@ -12,10 +12,7 @@ pub fn new_world(alloc: Global) -> Result<World<IndexDirs>>
     ensures { IfOk result (λ w. w.events ≡ []) }
 {
     let dirs = IndexDirs::new(alloc, 1);
-    match World::load(alloc, dirs) {
-        Ok(world) => Ok(world),
-        Err(refused) => Err(refused.error.into()),
-    }
+    Ok(World::load(alloc, dirs).map_err(|refused| refused.error)?)
 }
 
 /// The call that delivers a message to the first folder.
@@ -36,11 +33,11 @@ pub fn deliver(
     body: &[u8],
 ) -> Result<Vec<Entry>> {
     let call = delivery(alloc, unique, body)?;
-    let job = match world.submit(call) {
-        Ok(job) => job,
-        Err(refused) => return Err(refused.error.into()),
-    };
-    while world.answer(job).is_none() {
+    let job = world.submit(call).map_err(|refused| refused.error)?;
+    for _ in 0..u64::MAX {
+        if world.answer(job).is_some() {
+            break;
+        }
         world.step(job, 1000, None)?;
     }
     if world.answer(job) != Some(Answer::Delivered) {

@@ -7,17 +7,11 @@ use std::alloc::Global;
 /// The subject of a message, unfolded. A message without one has none.
 pub fn subject(alloc: Global, message: &[u8]) -> Result<Option<Bytes>> {
     let fields = header_fields(message);
-    match fields.subject {
-        Some(body) => Ok(Some(body.value(alloc)?)),
-        None => Ok(None),
-    }
+    Ok(fields.subject.map(|body| body.value(alloc)).transpose()?)
 }
 
 /// Whether a message was written before this second since 1970-01-01 00:00:00 UTC. No answer where it has no date that can be read.
 pub fn is_older(alloc: Global, message: &[u8], second: i64) -> Result<Option<bool>> {
     let seconds = summary(alloc, message)?.seconds;
-    match seconds {
-        Some(written) => Ok(Some(written < second)),
-        None => Ok(None),
-    }
+    Ok(seconds.map(|written| written < second))
 }

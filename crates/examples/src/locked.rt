@@ -39,13 +39,13 @@ fn act<J: Naming, R: Wait>(
 ) -> Result<Option<Bytes>>
     ensures { IfOk result (λ bytes. bytes ≡ option_map (λ (e : Entry). e.bytes) (finmap.get (mailbox_of (dirs_of locked.new.run)) unique.now)) }
 {
-    let job = match locked.submit(delivery) {
-        Ok(job) => job,
-        Err(refused) => return Err(refused.error.into()),
-    };
+    let job = locked.submit(delivery).map_err(|refused| refused.error)?;
     let mut answer = None;
-    while answer.is_none() {
+    for _ in 0..u64::MAX {
         answer = locked.step(rt, pass, job, 1000, None)?.out.answer;
+        if answer.is_some() {
+            break;
+        }
     }
     if answer != Some(Answer::Delivered) {
         bail!("not delivered");

@@ -19,10 +19,7 @@ pub fn seen_name(alloc: Global, sec: u64, count: u64) -> Result<Vec<u8>> {
 /// Whether a file name says that its message is seen.
 pub fn is_seen(name: &[u8]) -> bool {
     match split(name) {
-        Some((_unique, info)) => match info.flags() {
-            Some(flags) => flags.has(b'S'),
-            None => false,
-        },
+        Some((_unique, info)) => info.flags().is_some_and(|flags| flags.has(b'S')),
         None => false,
     }
 }

@@ -83,10 +83,7 @@ impl Dirs for Nowhere {
 
 /// Delivers to a world over no folder, and says why that is refused.
 pub fn deliver_nowhere(alloc: Global) -> Result<CoreError> {
-    let mut world = match World::load(alloc, Nowhere::new()) {
-        Ok(world) => world,
-        Err(refused) => return Err(refused.error.into()),
-    };
+    let mut world = World::load(alloc, Nowhere::new()).map_err(|refused| refused.error)?;
     match world.submit(delivery(alloc, b"u", b"mail")?) {
         Ok(_job) => bail!("there is no folder"),
         Err(refused) => Ok(refused.error),

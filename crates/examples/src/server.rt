@@ -170,12 +170,10 @@ fn marking(alloc: Global, unique: &[u8]) -> Result<Call> {
 
 // Whether a listing shows a message of this unique name, marked seen.
 fn shows_seen(entries: &[Entry], unique: &[u8]) -> bool {
-    for entry in entries {
-        if entry.unique.as_slice() == unique {
-            return is_seen(entry.name.as_slice());
-        }
-    }
-    false
+    let found = entries
+        .iter()
+        .find(|entry| entry.unique.as_slice() == unique);
+    found.is_some_and(|entry| is_seen(entry.name.as_slice()))
 }
 
 // The unique name of the message that a thread takes in after so many others of a round.
@@ -243,10 +241,8 @@ fn round_in<J: Naming + Send + Sync, W: Watch, R: Threads + Wait + Sync>(
     requires begun { prepared.run ≡ J.begun }
     requires named { (named_of prepared.run.image ≡ J.opening) × (prepared.book ≡ J.book) }
 {
-    let (store, passes) = match prepared.open::<J, R>(rt, alloc) {
-        Ok(opened) => opened,
-        Err(refused) => return Err(refused.error.into()),
-    };
+    let opened = prepared.open::<J, R>(rt, alloc);
+    let (store, passes) = opened.map_err(|refused| refused.error)?;
     watch.opened();
     let counts = by_threads(rt, alloc, &store, passes, plan, round);
     watch.closing();
@@ -270,12 +266,13 @@ fn by_threads<J: Naming + Send + Sync, R: Threads + Wait + Sync>(
 
 // Passes with the numbers of their threads.
 fn sessions<J: Naming>(alloc: Global, passes: Vec<Pass<J>>) -> Result<Vec<Session<J>>, AllocError> {
-    let mut sessions = Vec::new(alloc);
-    for (number, pass) in passes.into_iter().enumerate() {
-        let number = number as u64;
-        sessions.push(Session { number, pass })?;
-    }
-    Ok(sessions)
+    let numbered = passes.into_iter().enumerate();
+    numbered
+        .map(|(number, pass)| Session {
+            number: number as u64,
+            pass,
+        })
+        .collect(alloc)
 }
 
 // What all threads did together.

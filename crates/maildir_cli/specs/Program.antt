@@ -1,8 +1,7 @@
 -- What the program does for the words of its command line: its status, and what it read, printed and said on standard error.
-use Rattle.std.specs.Prelude.{◌≡◌, ℕ, ◌≤◌, ◌⊎◌, List, [], ◌++◌, Result, Ok, Err, codes}
+use Rattle.std.specs.Prelude.{◌≡◌, ℕ, ◌⊎◌, List, [], ◌++◌, Result, Ok, Err, codes}
 use Rattle.std.specs.Fmt.{decimal}
 use Rattle.std.specs.Str.Iter.{LacksByte}
-use Rattle.md_script.specs.declared.error.PlayKind.{PlayKind}
 use Rattle.md_script.specs.declared.error.PlayKind.TheVariants.{NoMemory}
 use Rattle.md_script.specs.declared.error.PlayError.{PlayError}
 use Rattle.md_script.specs.declared.sink.Put.{Put}
@@ -27,9 +26,8 @@ pub record Streams : Type 0 where
   pub errors : Sink
 
 -- nothing was read and nothing printed
-pub record Idle (old new : Streams) : Type 0 where
-  pub unread : new.input ≡ old.input
-  pub unprinted : new.output ≡ old.output
+abbrev pub Idle : Streams → Streams → Type 0
+Idle old new = (new.input ≡ old.input) × (new.output ≡ old.output)
 
 -- Standard error took the text whole; or it failed; or it was refused memory and took none of it.
 abbrev pub Tells : Sink → Sink → List ℕ → Type 0
@@ -49,8 +47,7 @@ Reported before after (Err fault) status = (status ≡ 1) × Tells before after 
 abbrev pub OfScript : (Result (Unit {0}) PlayError → Type 0) → Result (Unit {0}) RunFault → Type 0
 OfScript Answers (Ok done) = Answers (Ok done)
 OfScript Answers (Err (fault.Play e)) = Answers (Err e)
-OfScript Answers (Err fault.NoReader) = ⊥
-OfScript Answers (Err fault.Closed) = ⊥
+OfScript Answers (Err other) = ⊥
 
 -- what a run reads, prints and answers
 abbrev pub Performs : Run → Source → Source → Sink → Sink → Result (Unit {0}) RunFault → Type 0
@@ -62,8 +59,7 @@ Performs (Index n) old new before after = OfScript (Indexes old new before after
 abbrev pub WritesText : Sink → Sink → List ℕ → Result (Unit {0}) RunFault → Type 0
 WritesText before after text (Ok done) = Writes before after text (Ok done)
 WritesText before after text (Err (fault.Play e)) = (e ≡ at_no_line e.kind) × Writes before after text (Err e.kind)
-WritesText before after text (Err fault.NoReader) = ⊥
-WritesText before after text (Err fault.Closed) = ⊥
+WritesText before after text (Err other) = ⊥
 
 -- The words name a run, it was made, and its answer reported.
 pub record Ran (words : List (List ℕ)) (old new : Streams) (status : ℕ) : Type 0 where
@@ -113,9 +109,3 @@ pub record Starved (words : List (List ℕ)) (old new : Streams) (status : ℕ) 
 abbrev pub Ends : List (List ℕ) → Streams → Streams → ℕ → Type 0
 Ends words old new status =
     Ran words old new status ⊎ Helped words old new status ⊎ Misspelled words old new status ⊎ Starved words old new status
-
--- the count of a run's threads or workers is in its range
-abbrev pub IsWithin : Run → Type 0
-IsWithin Play = Unit {0}
-IsWithin (Threads n) = (1 ≤ n) × (n ≤ 16)
-IsWithin (Index n) = (1 ≤ n) × (n ≤ 64)

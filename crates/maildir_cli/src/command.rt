@@ -31,45 +31,31 @@ pub(crate) fn command<'a>(alloc: Global, words: &'a [&'a str]) -> Result<Run, An
 {
     match run_named(words) {
         Some(run) => Ok(run),
-        None => Err(without_run(alloc, words)),
+        None => Err(without_run(alloc, words).unwrap_or(Answer::NoMemory)),
     }
 }
 
 /// What words that name no run are answered with.
-fn without_run<'a>(alloc: Global, words: &'a [&'a str]) -> Answer
-    ensures { IsAnswer result }
+fn without_run<'a>(alloc: Global, words: &'a [&'a str]) -> Result<Answer, AllocError>
+    ensures { IfOk result IsAnswer }
 {
-    let Ok(options) = options(alloc) else {
-        return Answer::NoMemory;
-    };
-    match options.try_get_matches_from(words) {
+    match options(alloc)?.try_get_matches_from(words) {
         // The options allow a `--` after a number too.
-        Ok(_) => refused(complaint(alloc, "a word is unexpected", "")),
+        Ok(_) => Ok(Answer::Refused(complaint(alloc, "a word is unexpected", "")?)),
         Err(error) => explained(alloc, &error),
     }
 }
 
 /// What the options say of words, or the help that these ask for.
-fn explained(alloc: Global, error: &Error) -> Answer
-    ensures { IsAnswer result }
+fn explained(alloc: Global, error: &Error) -> Result<Answer, AllocError>
+    ensures { IfOk result IsAnswer }
 {
     match error.kind() {
-        ErrorKind::OutOfMemory => Answer::NoMemory,
-        ErrorKind::DisplayHelp | ErrorKind::DisplayVersion => match format!(in alloc; "{error}") {
-            Ok(text) => Answer::Shown(text),
-            Err(_) => Answer::NoMemory,
-        },
-        _ => refused(complaint_of(alloc, error)),
-    }
-}
-
-fn refused(line: Result<Vec<u8>, AllocError>) -> Answer
-    requires { IfOk line (λ line. IsComplaint line.items) }
-    ensures { IsAnswer result }
-{
-    match line {
-        Ok(line) => Answer::Refused(line),
-        Err(_) => Answer::NoMemory,
+        ErrorKind::OutOfMemory => Err(AllocError),
+        ErrorKind::DisplayHelp | ErrorKind::DisplayVersion => {
+            Ok(Answer::Shown(format!(in alloc; "{error}")?))
+        }
+        _ => Ok(Answer::Refused(complaint_of(alloc, error)?)),
     }
 }
 
@@ -94,10 +80,7 @@ fn reason(alloc: Global, text: &str) -> Result<String, AllocError> {
 
 /// The line of an error that names a subcommand like the one that was given, or nothing.
 fn similar(text: &str) -> &str {
-    for line in text.lines() {
-        if line.starts_with("  tip: ") && line.contains("similar subcommand") {
-            return line;
-        }
-    }
-    ""
+    text.lines()
+        .find(|line| line.starts_with("  tip: ") && line.contains("similar subcommand"))
+        .unwrap_or("")
 }

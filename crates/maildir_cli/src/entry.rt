@@ -1,6 +1,7 @@
 //! The program: what it does for the words of its command line.
-ghost use Rattle.std.specs.Prelude.{map};
-ghost use Rattle.maildir_cli.specs.Program.{Ends, IsWithin, Performs, Reported, WritesText};
+ghost use Rattle.std.specs.Prelude.{map, ℕ, List};
+ghost use Rattle.md_runs.specs.Runs.{WordsName};
+ghost use Rattle.maildir_cli.specs.Program.{Ends, Performs, Reported, WritesText};
 
 use crate::command::{Answer, command};
 use crate::refusal::refusal_line;
@@ -59,7 +60,7 @@ fn perform<R: Threads + Wait + Sync, S: Source, T: Sink>(
     source: &mut S,
     sink: &mut T,
 ) -> Result<(), RunFault>
-    requires { IsWithin run }
+    requires { (words : List (List ℕ)) × WordsName words run }
     ensures { Performs run (S.state source.old) (S.state source.new) (T.state sink.old) (T.state sink.new) result }
 {
     match run {

@@ -27,20 +27,14 @@ const NO_MEMORY: u8 = 1;
 const BAD_WORDS: u8 = 2;
 
 fn main(rt: HostRuntime) -> ExitCode {
-    let args = match env::args(&rt) {
+    let args = match read_args(&rt) {
         Ok(args) => args,
-        Err(error) if error.kind() == ErrorKind::OutOfMemory => return refuse(&rt),
-        Err(_) => return refuse_words(&rt),
+        Err(error) => return refuse(&rt, error),
     };
-    let Ok(args) = args.skip(1).collect::<Vec<String>>(rt.alloc()) else {
-        return refuse(&rt);
-    };
-    let Ok(words) = args
-        .iter()
-        .map(|arg| arg.as_str())
-        .collect::<Vec<&str>>(rt.alloc())
-    else {
-        return refuse(&rt);
+    let words = args.iter().map(|arg| arg.as_str());
+    let words = match words.collect::<Vec<&str>>(rt.alloc()) {
+        Ok(words) => words,
+        Err(error) => return refuse(&rt, io::Error::from(error)),
     };
     let mut source = Reader::new(rt.reader());
     let mut sink = Writer::new(io::writer(&rt));
@@ -58,12 +52,19 @@ fn main(rt: HostRuntime) -> ExitCode {
     ExitCode::from(status)
 }
 
-fn refuse(rt: &HostRuntime) -> ExitCode {
-    let _ = eprintln!(rt; "line 0: no memory");
-    ExitCode::from(NO_MEMORY)
+// The words after the program's name.
+fn read_args(rt: &HostRuntime) -> io::Result<Vec<String>> {
+    Ok(env::args(rt)?.skip(1).collect::<Vec<String>>(rt.alloc())?)
 }
 
-fn refuse_words(rt: &HostRuntime) -> ExitCode {
-    let _ = eprintln!(rt; "maildir_cli: a word is not UTF-8; try 'maildir_cli --help'");
-    ExitCode::from(BAD_WORDS)
+fn refuse(rt: &HostRuntime, error: io::Error) -> ExitCode {
+    let (why, status) = match error.kind() {
+        ErrorKind::OutOfMemory => ("line 0: no memory", NO_MEMORY),
+        _ => (
+            "maildir_cli: a word is not UTF-8; try 'maildir_cli --help'",
+            BAD_WORDS,
+        ),
+    };
+    let _ = eprintln!(rt; "{why}");
+    ExitCode::from(status)
 }

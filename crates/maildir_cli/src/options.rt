@@ -25,48 +25,23 @@ docs/SCRIPT.md has the language, and `man -l docs/maildir_cli.1` the manual.";
 
 /// The command line: a subcommand, and for two of them a number.
 pub(crate) fn options<'a>(alloc: Global) -> Result<Command<'a>, AllocError> {
-    let whole = without_subcommands(alloc)?;
-    let whole = with_play(alloc, whole)?;
-    let whole = with_threads(alloc, whole)?;
-    with_index(alloc, whole)
-}
-
-fn without_subcommands<'a>(alloc: Global) -> Result<Command<'a>, AllocError> {
+    let play = Command::new(alloc, "play").about("Plays the script on standard input");
+    let threads = Command::new(alloc, "threads").about(
+        "Runs the script's jobs by N threads, 1 to 16, and prints their answers and the folders",
+    );
+    let index = Command::new(alloc, "index").about(
+        "Prints the header summaries of the script's files that are messages, made by N workers, 1 to 64",
+    );
     Command::new(alloc, "maildir_cli")
         .version("0.1.0")
         .about(ABOUT)
         .after_help(AFTER)
         .no_binary_name(true)
         .subcommand_required(true)
-        .bin_name("maildir_cli")
-}
-
-fn with_play<'a>(alloc: Global, whole: Command<'a>) -> Result<Command<'a>, AllocError> {
-    whole.subcommand(Command::new(alloc, "play").about("Plays the script on standard input"))
-}
-
-fn with_threads<'a>(alloc: Global, whole: Command<'a>) -> Result<Command<'a>, AllocError> {
-    let threads = Command::new(alloc, "threads").about(
-        "Runs the script's jobs by N threads, 1 to 16, and prints their answers and the folders",
-    );
-    let count = count(alloc, "How many threads, 1 to 16", MOST_THREADS as i64);
-    with_counted(whole, threads, count)
-}
-
-fn with_index<'a>(alloc: Global, whole: Command<'a>) -> Result<Command<'a>, AllocError> {
-    let index = Command::new(alloc, "index").about(
-        "Prints the header summaries of the script's files that are messages, made by N workers, 1 to 64",
-    );
-    let count = count(alloc, "How many workers, 1 to 64", MOST_WORKERS as i64);
-    with_counted(whole, index, count)
-}
-
-fn with_counted<'a>(
-    whole: Command<'a>,
-    counted: Command<'a>,
-    count: Arg<'a>,
-) -> Result<Command<'a>, AllocError> {
-    whole.subcommand(counted.arg(count)?)
+        .bin_name("maildir_cli")?
+        .subcommand(play)?
+        .subcommand(threads.arg(count(alloc, "How many threads, 1 to 16", MOST_THREADS as i64))?)?
+        .subcommand(index.arg(count(alloc, "How many workers, 1 to 64", MOST_WORKERS as i64))?)
 }
 
 // The number that a subcommand wants.

@@ -7,7 +7,9 @@ use Rattle.md_name.specs.Letters.{is_letter}
 use Rattle.md_name.specs.declared.error.NameError.TheVariants.{BadFlag}
 use Rattle.md_jobs.specs.declared.call.Call.{Call}
 use Rattle.md_jobs.specs.declared.call.Call.TheVariants as call
+use Rattle.md_script.specs.declared.error.PlayKind.{PlayKind}
 use Rattle.md_script.specs.declared.error.PlayKind.TheVariants.{Name}
+use Rattle.md_text.specs.Bind.{◌>>=◌}
 use Rattle.md_ffi.specs.declared.asked.Asked.{Asked}
 use Rattle.md_ffi.specs.declared.asked.Own.{Own}
 use Rattle.md_ffi.specs.declared.refusal.Refusal.{Refusal}
@@ -17,10 +19,10 @@ use Rattle.md_ffi.specs.declared.refusal.Refusal.TheVariants.{BadKind, Kind}
 abbrev pub own_at : Own → Option ℕ
 own_at own = if own.is_given == 0 then None else Some own.at
 
--- one thing after another, up to the first refusal
-abbrev pub and_then : {X Y : Type 0} → Result X Refusal → (X → Result Y Refusal) → Result Y Refusal
-and_then (Ok x) more = more x
-and_then (Err refusal) more = Err refusal
+-- refused as this kind of error is, or done
+abbrev pub unless : {E X : Type 0} → (E → PlayKind) → Option E → X → Result X Refusal
+unless kind None x = Ok x
+unless kind (Some error) x = Err (Kind (kind error))
 
 -- the flags that letters name
 abbrev pub flags_at : List ℕ → Result (set.FinSet nat_cmp) Refusal
@@ -30,9 +32,9 @@ flags_at letters = if list_all is_letter letters then Ok (set.from_list letters)
 unfoldable pub call_at : Asked → List ℕ → List ℕ → List ℕ → Result Call Refusal
 call_at a unique first second =
     if a.kind == 1 then Ok (call.Deliver a.folder unique first a.number)
-    else if a.kind == 2 then and_then (flags_at first) (λ flags. Ok (call.Seen a.folder unique flags a.number))
-    else if a.kind == 3 then and_then (flags_at first)
-    (λ add. and_then (flags_at second) (λ remove. Ok (call.Flag a.folder unique add remove a.number)))
+    else if a.kind == 2 then flags_at first >>= (λ flags. Ok (call.Seen a.folder unique flags a.number))
+    else if a.kind == 3 then flags_at first >>= (λ add.
+    flags_at second >>= (λ remove. Ok (call.Flag a.folder unique add remove a.number)))
     else if a.kind == 4 then Ok (call.Move a.folder unique a.to a.number)
     else if a.kind == 5 then Ok (call.Expunge a.folder unique a.number)
     else if a.kind == 6 then Ok (call.Copy a.folder unique a.to first a.number)

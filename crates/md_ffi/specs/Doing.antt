@@ -12,9 +12,10 @@ use Rattle.md_core.specs.Stepping.{ShowsStep}
 use Rattle.md_core.specs.Submitting.{submit_refusal}
 use Rattle.md_script.specs.Kinds.{core_kind}
 use Rattle.md_script.specs.declared.error.PlayKind.TheVariants.{NoMemory}
-use Rattle.md_ffi.specs.Asking.{and_then, call_at}
+use Rattle.md_text.specs.Bind.{◌>>=◌}
+use Rattle.md_ffi.specs.Asking.{call_at, unless}
 use Rattle.md_ffi.specs.Numbers.{core_number, refusal_number}
-use Rattle.md_ffi.specs.Shown.{answer_shown, IsShown}
+use Rattle.md_ffi.specs.Shown.{answer_shown, step_shown}
 use Rattle.md_ffi.specs.declared.shown.AnswerShown.{AnswerShown}
 use Rattle.md_ffi.specs.declared.shown.StepShown.{StepShown}
 use Rattle.md_ffi.specs.declared.asked.Asked.{Asked}
@@ -29,15 +30,10 @@ OnHeld None after status kept holds = (after ≡ None) × (status ≡ refusal_nu
 OnHeld (Some before) None status kept holds = ⊥
 OnHeld (Some before) (Some after) status kept holds = holds before.world after.world
 
--- refused by the store, or done
-abbrev pub unless : {X : Type 0} → Option CoreError → X → Result X Refusal
-unless None x = Ok x
-unless (Some error) x = Err (Kind (core_kind error))
-
 -- the run with one more call, and the number of its job
 unfoldable pub submitted : Run → Asked → List ℕ → List ℕ → List ℕ → Result (Run × ℕ) Refusal
 submitted run asked unique first second =
-    and_then (call_at asked unique first second) (λ call. unless (submit_refusal run call) (and_call run call, length run.calls + 1))
+    call_at asked unique first second >>= (λ call. unless core_kind (submit_refusal run call) (and_call run call, length run.calls + 1))
 
 -- A function did what is said, or refused with the world as it was: for what is said, or out of memory.
 abbrev pub GivesIn : {X : Type 0} → Result (Run × X) Refusal → Run → Run → Result X Refusal → Type 0
@@ -71,7 +67,7 @@ refused_step (Some error) = core_number error
 -- the run goes on by one event, a fault where the reply is one, and what is shown is what that event did
 abbrev pub Takes : Run → Run → (Bool → Occurrence) → StepShown → Type 0
 Takes old new event shown =
-    (out : StepOut) × IsShown out shown × (new ≡ and_event old (event (is_fault out.reply)))
+    (out : StepOut) × (shown ≡ step_shown out) × (new ≡ and_event old (event (is_fault out.reply)))
     × ShowsStep old new (event (is_fault out.reply)) out
 
 -- A step was taken, of this event, and is shown; or it was refused, with the world and what was shown before as they were.

@@ -2,23 +2,18 @@
 use Rattle.std.specs.Prelude.{◌≡◌, ◌⊎◌, ℕ, false, List, length, Option, Some, None, Result, Ok, Err}
 use Rattle.md_core.specs.Runs.{Run}
 use Rattle.md_script.specs.declared.error.PlayError.{PlayError}
-use Rattle.md_script.specs.declared.error.PlayKind.{PlayKind}
 use Rattle.md_script.specs.declared.error.PlayKind.TheVariants.{NoMemory}
+use Rattle.md_script.specs.Indexing.{at_line}
 use Rattle.md_script.specs.Kinds.{at_no_line}
 use Rattle.md_script.specs.Sessions.{run_over}
 use Rattle.md_script.specs.Setups.{Setting, setting_of}
 use Rattle.md_ffi.specs.Numbers.{kind_number}
 use Rattle.md_ffi.specs.declared.held.Held.{Held}
 
--- a store that can't be opened is refused at no line
-abbrev pub opened : Result Run PlayKind → Result Run PlayError
-opened (Ok run) = Ok run
-opened (Err kind) = Err (at_no_line kind)
-
--- the store over the folders and files of a setup, where no line of it was refused
+-- The store over the folders and files of a setup, where no line of it was refused. One that can't be opened is refused at no line.
 abbrev pub over : Option PlayError → Setting → Result Run PlayError
 over (Some refusal) setting = Err refusal
-over None setting = opened (run_over (length setting.folders) setting.files)
+over None setting = at_line 0 (run_over (length setting.folders) setting.files)
 
 -- the store that lines load, or the refusal
 unfoldable pub loaded : List ℕ → Result Run PlayError

@@ -1,26 +1,21 @@
 -- What names, summaries, scripts and their indexes give, as C has it.
 use Rattle.std.specs.Prelude.{◌≡◌, ◌⊎◌, ◌≤◌, ◌<◌, ◌++◌, ℕ, List, Option, Some, None, Result, Ok, Err, length, drop}
 use Rattle.md_name.specs.Made.{make_refusal, made_unique}
-use Rattle.md_name.specs.declared.error.NameError.{NameError}
 use Rattle.md_name.specs.Words.{word_of}
 use Rattle.md_name.specs.declared.info.Info.{Info}
 use Rattle.md_name.specs.declared.info.Info.TheVariants.{Bare, Two, Opaque}
 use Rattle.md_script.specs.Kinds.{at_no_line, name_kind}
 use Rattle.md_script.specs.declared.error.PlayError.{PlayError}
 use Rattle.md_script.specs.declared.error.PlayKind.TheVariants.{NoMemory}
+use Rattle.md_ffi.specs.Asking.{unless}
 use Rattle.md_ffi.specs.Laying.{Lays}
 use Rattle.md_ffi.specs.Numbers.{kind_number, refusal_number}
 use Rattle.md_ffi.specs.declared.refusal.Refusal.{Refusal}
-use Rattle.md_ffi.specs.declared.refusal.Refusal.TheVariants.{Kind, NoMessageName}
-
--- a name, where nothing is against it
-abbrev pub unless_refused : Option NameError → List ℕ → Result (List ℕ) Refusal
-unless_refused None name = Ok name
-unless_refused (Some error) name = Err (Kind (name_kind error))
+use Rattle.md_ffi.specs.declared.refusal.Refusal.TheVariants.{NoMessageName}
 
 -- the unique name of a second, a microsecond, a process, a count and a host, or why there is none
 unfoldable pub made : ℕ → ℕ → ℕ → ℕ → List ℕ → Result (List ℕ) Refusal
-made sec micro pid count host = unless_refused (make_refusal micro host) (made_unique sec micro pid count host)
+made sec micro pid count host = unless name_kind (make_refusal micro host) (made_unique sec micro pid count host)
 
 -- the line that a script is refused at, 0 for none
 abbrev pub line_of : Option PlayError → ℕ
@@ -60,9 +55,8 @@ info_number Opaque = 2
 
 -- the flags of an info, a bit each
 abbrev pub info_flags : Info → ℕ
-info_flags Bare = 0
 info_flags (Two flags) = word_of flags
-info_flags Opaque = 0
+info_flags other = 0
 
 -- the length of a unique part, which info follows it, and its flags; a name that is no message's is refused, and nothing is said
 abbrev pub Splits : Option (List ℕ × Info) → ℕ → ℕ → ℕ → ℕ → ℕ → ℕ → ℕ → Type 0

@@ -1,9 +1,9 @@
 -- Records of calls, and what many calls in one come to.
-use Rattle.std.specs.Prelude.{◌≡◌, ◌≢◌, ◌⊎◌, ◌≤◌, ◌<◌, ◌-◌, ℕ, List, [], ◌∷◌, Option, Some, None, Result, Ok, Err, length, take, drop, nat_le, if◌then◌else◌}
+use Rattle.std.specs.Prelude.{◌≡◌, ◌≢◌, ◌⊎◌, ◌≤◌, ◌<◌, ◌-◌, ℕ, List, [], ◌∷◌, Some, None, Result, Ok, Err, length, take, drop, nat_le, if◌then◌else◌}
 use Rattle.std.specs.Int.{w32, w64, from_le_bytes}
 use Rattle.md_jobs.specs.declared.answer.Answer.{Answer}
 use Rattle.md_core.specs.Runs.{Run}
-use Rattle.md_ffi.specs.Asking.{and_then}
+use Rattle.md_text.specs.Bind.{◌>>=◌}
 use Rattle.md_ffi.specs.Calling.{no_answer_number, Comes}
 use Rattle.md_ffi.specs.Numbers.{refusal_number}
 use Rattle.md_ffi.specs.Shown.{answer_shown}
@@ -44,10 +44,10 @@ recorded asked unique first second rest = record { asked = asked; unique = uniqu
 -- the first record of these bytes: a head of 48 bytes, which says how long each piece is, and the pieces
 unfoldable pub record_in : List ℕ → Result Record Refusal
 record_in bytes =
-    and_then (cut 48 bytes) (λ head.
-    and_then (cut (eight_at 16 head.0) head.1) (λ unique.
-    and_then (cut (eight_at 24 head.0) unique.1) (λ first.
-    and_then (cut (eight_at 32 head.0) first.1) (λ second.
+    cut 48 bytes >>= (λ head.
+    cut (eight_at 16 head.0) head.1 >>= (λ unique.
+    cut (eight_at 24 head.0) unique.1 >>= (λ first.
+    cut (eight_at 32 head.0) first.1 >>= (λ second.
     Ok (recorded (asked_in head.0) unique.0 first.0 second.0 second.1)))))
 
 -- The records at the front of these bytes are calls that were made, one after another, each at this moment and with the answer that is

@@ -1,5 +1,6 @@
 -- What C sees of answers and steps.
-use Rattle.std.specs.Prelude.{◌≡◌, ℕ, Bool, Option, Some, None, if◌then◌else◌}
+use Rattle.std.specs.Prelude.{ℕ, Option, Some, None}
+use Rattle.std.specs.Int.{from_bool}
 use Rattle.md_jobs.specs.declared.answer.Answer.{Answer}
 use Rattle.md_jobs.specs.declared.answer.Answer.TheVariants as answer
 use Rattle.md_jobs.specs.declared.step.DirCall.{DirCall}
@@ -62,14 +63,12 @@ reply_number reply.Exists = 2
 reply_number reply.NotFound = 3
 reply_number reply.Fault = 4
 
--- 1 for a step that is its job's effect
-abbrev pub effect_number : Bool → ℕ
-effect_number is_effect = if is_effect then 1 else 0
-
--- what is shown of a step
-pub record IsShown (step : StepOut) (shown : StepShown) : Type 0 where
-  pub call : shown.call ≡ call_number step.call
-  pub value : shown.value ≡ call_value step.call
-  pub reply : shown.reply ≡ reply_number step.reply
-  pub effect : shown.effect ≡ effect_number step.effect
-  pub answer : shown.answer ≡ answer_shown step.answer
+-- what is shown of a step; its effect is 1 where it is its job's effect
+abbrev pub step_shown : StepOut → StepShown
+step_shown step = record {
+  call = call_number step.call;
+  reply = reply_number step.reply;
+  value = call_value step.call;
+  effect = from_bool step.effect;
+  answer = answer_shown step.answer;
+}

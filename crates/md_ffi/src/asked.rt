@@ -1,5 +1,5 @@
 //! What a caller in C asks.
-ghost use Rattle.std.specs.Prelude.{◌≡◌, ◌⊎◌, Ok, Err, MatchResult, IfOk, IfErr};
+ghost use Rattle.std.specs.Prelude.{◌≡◌, ◌⊎◌, Ok, Err, MatchResult};
 ghost use Rattle.md_ffi.specs.Asking.{call_at, flags_at, own_at};
 ghost use Rattle.md_ffi.specs.declared.refusal.Refusal.TheVariants.{Kind};
 ghost use Rattle.md_script.specs.declared.error.PlayKind.TheVariants.{NoMemory};
@@ -43,10 +43,7 @@ impl Own {
     pub(crate) fn moment(&self) -> Option<u64>
         ensures { result ≡ own_at self.now }
     {
-        if self.is_given == 0 {
-            return None;
-        }
-        Some(self.at)
+        (self.is_given != 0).then_some(self.at)
     }
 }
 
@@ -54,10 +51,7 @@ impl Own {
 fn flags(letters: &[u8]) -> Result<Flags, Refusal>
     ensures { result ≡ flags_at letters.now }
 {
-    match Flags::parse(letters) {
-        Ok(flags) => Ok(flags),
-        Err(_) => Err(Refusal::Kind(PlayKind::Name(NameError::BadFlag))),
-    }
+    Ok(Flags::parse(letters).map_err(|_| Refusal::Kind(PlayKind::Name(NameError::BadFlag)))?)
 }
 
 /// The call that is asked. Refused `BadKind` and `BadFlag`, and out of memory.

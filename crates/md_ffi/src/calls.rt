@@ -13,9 +13,6 @@ use md_core::World;
 use md_dirs::IndexDirs;
 use std::alloc::Global;
 
-// The bytes of a record's head.
-const HEAD: u64 = 48;
-
 // A record: what is asked, the bytes that it brings, and what follows it.
 struct Record<'a> {
     asked: Asked,
@@ -77,7 +74,7 @@ fn read_record(bytes: &[u8]) -> Result<Record<'_>, Refusal>
         (λ e. (record_in bytes.now ≡ Err BadRecord) × (e ≡ BadRecord)) }
     ensures shorter { IfOk result (λ r. length r.rest.now < length bytes.now) }
 {
-    let (head, rest) = cut(bytes, HEAD)?;
+    let (head, rest) = cut(bytes, 48)?;
     let (unique, rest) = cut(rest, eight_at(head, 16))?;
     let (first, rest) = cut(rest, eight_at(head, 24))?;
     let (second, rest) = cut(rest, eight_at(head, 32))?;

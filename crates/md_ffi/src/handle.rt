@@ -17,21 +17,16 @@ pub struct Handle {
 }
 
 impl Handle {
-    fn closed(alloc: Global) -> Handle
-        ensures { result.slot.held ≡ None }
-    {
-        Handle {
-            is_open: false,
-            slot: Slot::empty(alloc),
-        }
-    }
-
     /// Takes out what it holds, if it is open, and closes it.
     pub(crate) fn take(&mut self, alloc: Global) -> Option<Box<Held>>
         ensures taken { option_map (λ held. held.value) result ≡ self.old.slot.held }
         ensures closed { self.new.slot.held ≡ None }
     {
-        let Handle { is_open, slot } = mem::replace(self, Handle::closed(alloc));
+        let closed = Handle {
+            is_open: false,
+            slot: Slot::empty(alloc),
+        };
+        let Handle { is_open, slot } = mem::replace(self, closed);
         if !is_open {
             return None;
         }

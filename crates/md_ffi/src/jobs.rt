@@ -2,11 +2,13 @@
 ghost use Rattle.std.specs.Prelude.{◌≡◌, None};
 ghost use Rattle.md_core.specs.Machine.{job_at, occurrence};
 ghost use Rattle.md_core.specs.Runs.{answer_of, jobs_of, step_refusal};
+ghost use Rattle.md_script.specs.Kinds.{core_kind};
 ghost use Rattle.md_ffi.specs.Asking.{own_at};
 ghost use Rattle.md_ffi.specs.Calling.{no_answer_number, Calls, Comes};
 ghost use Rattle.md_ffi.specs.Numbers.{core_number, refusal_number};
 ghost use Rattle.md_ffi.specs.Doing.{is_job, submitted, Answers, Ends, GivesIn, OnHeld, Steps};
 ghost use Rattle.md_ffi.specs.Shown.{answer_shown};
+ghost use Rattle.md_ffi.specs.declared.refusal.Refusal.TheVariants.{Kind};
 
 use crate::asked::{Asked, Brought, Own, call_of};
 use crate::handle::Handle;
@@ -19,7 +21,8 @@ use std::alloc::Global;
 
 // The refusal of the store.
 fn refused(error: CoreError) -> Refusal
-    ensures { refusal_number result ≡ core_number error }
+    ensures kind { result ≡ Kind (core_kind error) }
+    ensures number { refusal_number result ≡ core_number error }
 {
     Refusal::Kind(PlayKind::from(error))
 }
@@ -37,7 +40,7 @@ fn submit(
     let call = call_of(alloc, asked, brought)?;
     match world.submit(call) {
         Ok(job) => Ok(job),
-        Err(refused) => Err(Refusal::Kind(PlayKind::from(refused.error))),
+        Err(unmade) => Err(refused(unmade.error)),
     }
 }
 
@@ -76,29 +79,10 @@ pub extern "C" fn md_ffi_submit(
     }
 }
 
-// Takes one step of a job, and shows it.
-#[tactic(auto, using(crate::proofs::Refused::step_number), unfolding(crate::specs::Doing::Steps))]
-fn take_step(
-    world: &mut World<IndexDirs>,
-    job: JobId,
-    now: u64,
-    own: &Own,
-    step: &mut StepShown,
-) -> u32
-    ensures { Steps world.old world.new (occurrence job now (own_at own.now)) (step_refusal (job_at (jobs_of world.old) job)) step.old step.new result }
-{
-    match world.step(job, now, own.moment()) {
-        Ok(shown) => {
-            *step = StepShown::of(shown);
-            0
-        }
-        Err(error) => refused(error).number(),
-    }
-}
-
 /// Takes one step of a job, at a moment in seconds, and shows it. Refused `Closed`, and as a world refuses a step: `NoJob`, `Answered` and
 /// out of memory, with the world as it was.
 #[unsafe(no_mangle)]
+#[tactic(auto, using(crate::proofs::Refused::step_number), unfolding(crate::specs::Doing::Steps))]
 pub extern "C" fn md_ffi_step(
     alloc: Global,
     handle: &mut Handle,
@@ -113,9 +97,15 @@ pub extern "C" fn md_ffi_step(
     let Some(mut held) = handle.take(alloc) else {
         return Refusal::Closed.number();
     };
-    let status = take_step(&mut held.world, job, now, own, step);
+    let taken = held.world.step(job, now, own.moment());
     handle.hold(held);
-    status
+    match taken {
+        Ok(shown) => {
+            *step = StepShown::of(shown);
+            0
+        }
+        Err(error) => refused(error).number(),
+    }
 }
 
 /// Why a call has no answer.
@@ -157,40 +147,8 @@ pub(crate) fn call(
     };
     match world.call(call, now, own) {
         Ok(answer) => Ok(answer),
-        Err(CallError::Refused(unmade)) => Err(NoAnswer::Refused(Refusal::Kind(PlayKind::from(
-            unmade.error,
-        )))),
+        Err(CallError::Refused(unmade)) => Err(NoAnswer::Refused(refused(unmade.error))),
         Err(CallError::NoMemory { job }) => Err(NoAnswer::Stopped(job)),
-    }
-}
-
-// Makes a call, and tells what it came to.
-fn tell(
-    alloc: Global,
-    world: &mut World<IndexDirs>,
-    asked: &Asked,
-    brought: Brought<'_>,
-    now: u64,
-    own: Option<u64>,
-    job: &mut u64,
-    answer: &mut AnswerShown,
-) -> u32
-    ensures { Calls asked.now brought.entry.unique.now brought.entry.first.now brought.entry.second.now now own
-        world.old world.new result job.new answer.new }
-{
-    *job = 0;
-    *answer = AnswerShown::none();
-    match call(alloc, world, asked, brought, now, own) {
-        Ok(given) => {
-            *job = world.jobs();
-            *answer = AnswerShown::of(Some(given));
-            0
-        }
-        Err(NoAnswer::Stopped(number)) => {
-            *job = number;
-            NO_MEMORY.number()
-        }
-        Err(NoAnswer::Refused(refusal)) => refusal.number(),
     }
 }
 
@@ -215,9 +173,9 @@ pub extern "C" fn md_ffi_call(
     ensures { OnHeld handle.old.slot.held handle.new.slot.held result ((job.new ≡ 0) × (answer.new ≡ answer_shown None))
         (λ old new. Calls asked.now unique.now first.now second.now now (own_at own.now) old new result job.new answer.new) }
 {
+    *job = 0;
+    *answer = AnswerShown::of(None);
     let Some(mut held) = handle.take(alloc) else {
-        *job = 0;
-        *answer = AnswerShown::none();
         return Refusal::Closed.number();
     };
     let brought = Brought {
@@ -225,18 +183,21 @@ pub extern "C" fn md_ffi_call(
         first,
         second,
     };
-    let status = tell(
-        alloc,
-        &mut held.world,
-        asked,
-        brought,
-        now,
-        own.moment(),
-        job,
-        answer,
-    );
+    let outcome = call(alloc, &mut held.world, asked, brought, now, own.moment());
+    let jobs = held.world.jobs();
     handle.hold(held);
-    status
+    match outcome {
+        Ok(given) => {
+            *job = jobs;
+            *answer = AnswerShown::of(Some(given));
+            0
+        }
+        Err(NoAnswer::Stopped(number)) => {
+            *job = number;
+            NO_MEMORY.number()
+        }
+        Err(NoAnswer::Refused(refusal)) => refusal.number(),
+    }
 }
 
 /// The answer of a job, if it has one. Refused `Closed` and `NoJob`, with `answer` as it was.

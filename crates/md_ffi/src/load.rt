@@ -9,40 +9,21 @@ use crate::handle::Handle;
 use crate::held::Held;
 use crate::refusal::Refusal;
 use crate::seed::seed_of;
-use md_core::World;
-use md_dirs::{HashSeed, IndexDirs};
-use md_script::{PlayError, PlayKind, Setup, image, load};
-use std::alloc::Global;
+use md_dirs::HashSeed;
+use md_script::{PlayError, image, load};
+use std::alloc::{AllocError, Global};
 
 // The store that lines load, which hashes names by a seed.
 #[tactic(auto, unfolding(crate::specs::Loads::loaded))]
-fn world_of(alloc: Global, seed: HashSeed, lines: &[u8]) -> Result<World<IndexDirs>, PlayError>
-    ensures { MatchResult result
-        (λ world. loaded lines.now ≡ Ok world)
-        (λ e. (e ≡ at_no_line NoMemory) ⊎ (loaded lines.now ≡ Err e)) }
-{
-    let Setup {
-        folders,
-        files,
-        calls: _,
-    } = image(alloc, lines, false)?;
-    match load(alloc, seed, &folders, files) {
-        Ok(world) => Ok(world),
-        Err(kind) => Err(PlayError::from(kind)),
-    }
-}
-
-// The same in a box.
 fn held_of(alloc: Global, seed: HashSeed, lines: &[u8]) -> Result<Box<Held>, PlayError>
     ensures { MatchResult result
         (λ held. loaded lines.now ≡ Ok held.value.world)
         (λ e. (e ≡ at_no_line NoMemory) ⊎ (loaded lines.now ≡ Err e)) }
 {
-    let world = world_of(alloc, seed, lines)?;
-    match Box::new(alloc, Held { world }) {
-        Ok(held) => Ok(held),
-        Err(_) => Err(PlayError::from(PlayKind::NoMemory)),
-    }
+    let setup = image(alloc, lines, false)?;
+    let files = setup.files;
+    let world = load(alloc, seed, &setup.folders, files)?;
+    Ok(Box::new(alloc, Held { world }).map_err(|_| AllocError)?)
 }
 
 /// Opens a handle over the folders and files of `folder` and `file` lines, and sets `line` to 0. What the handle held is let go first.

@@ -11,27 +11,11 @@ ghost use Rattle.md_ffi.specs.Numbers.{status_number};
 use crate::refusal::{NO_MEMORY, Refusal, status};
 use crate::room::lay;
 use crate::seed::seed_of;
-use md_dirs::{HashSeed, IndexDirs};
+use md_dirs::IndexDirs;
 use md_head::summary;
 use md_name::{Info, UniqueParts, make_unique, split};
 use md_script::{PlayKind, push_summary, transcript_over};
 use std::alloc::Global;
-
-#[tactic(auto, unfolding(crate::specs::Naming::made))]
-fn unique(
-    alloc: Global,
-    parts: UniqueParts<'_>,
-    out: &mut [u8],
-    length: &mut usize,
-) -> Result<(), Refusal>
-    ensures { Gives (made parts.entry.sec parts.entry.micro parts.entry.pid parts.entry.count parts.entry.host.now)
-        out.old out.new length.old length.new (status_number result) }
-{
-    match make_unique(alloc, parts) {
-        Ok(name) => lay(&name, out, length),
-        Err(error) => Err(Refusal::Kind(PlayKind::from(error))),
-    }
-}
 
 fn summarize(
     alloc: Global,
@@ -49,37 +33,10 @@ fn summarize(
     lay(&text, out, length)
 }
 
-fn play(
-    alloc: Global,
-    script: &[u8],
-    seed: HashSeed,
-    out: &mut [u8],
-    length: &mut usize,
-    line: &mut u64,
-) -> u32
-    ensures { Plays (transcript script.now).text (transcript script.now).refusal out.old out.new length.new line.new result }
-{
-    *length = 0;
-    *line = 0;
-    let Ok(printed) = transcript_over::<IndexDirs>(alloc, seed, script) else {
-        return NO_MEMORY.number();
-    };
-    let number = match printed.refusal {
-        Some(refused) => {
-            *line = refused.line;
-            Refusal::Kind(refused.kind).number()
-        }
-        None => 0,
-    };
-    match lay(&printed.text, out, length) {
-        Ok(()) => number,
-        Err(refusal) => refusal.number(),
-    }
-}
-
 /// Lays a unique name into `out`, as `make_unique` makes it, and sets `length` to its length. Refused `BadMicro`, `BadHost` and out of
 /// memory, with `length` as it was, and `Room`, with it set.
 #[unsafe(no_mangle)]
+#[tactic(auto, unfolding(crate::specs::Naming::made))]
 pub extern "C" fn md_ffi_unique(
     alloc: Global,
     sec: u64,
@@ -99,7 +56,10 @@ pub extern "C" fn md_ffi_unique(
         count,
         host,
     };
-    status(unique(alloc, parts, out, length))
+    match make_unique(alloc, parts) {
+        Ok(name) => status(lay(&name, out, length)),
+        Err(error) => Refusal::Kind(PlayKind::from(error)).number(),
+    }
 }
 
 /// Splits a message's file name: sets `unique_length` to the length of its unique part, which is at its front, `info` to 0 for no info, 1
@@ -153,5 +113,20 @@ pub extern "C" fn md_ffi_transcript(
 ) -> u32
     ensures { Plays (transcript script.now).text (transcript script.now).refusal out.old out.new length.new line.new result }
 {
-    play(alloc, script, seed_of(random), out, length, line)
+    *length = 0;
+    *line = 0;
+    let Ok(printed) = transcript_over::<IndexDirs>(alloc, seed_of(random), script) else {
+        return NO_MEMORY.number();
+    };
+    let number = match printed.refusal {
+        Some(refused) => {
+            *line = refused.line;
+            Refusal::Kind(refused.kind).number()
+        }
+        None => 0,
+    };
+    match lay(&printed.text, out, length) {
+        Ok(()) => number,
+        Err(refusal) => refusal.number(),
+    }
 }

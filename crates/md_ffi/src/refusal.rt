@@ -1,7 +1,9 @@
 //! Why a call is refused, and the number and the text of each refusal.
-ghost use Rattle.std.specs.Prelude.{◌≡◌, ◌≢◌, ◌≤◌, ◌<◌, ◌⊎◌, length, OnOk, IfSome, IfNone, MatchResult};
+ghost use Rattle.std.specs.Prelude.{◌≡◌, ◌≢◌, ◌≤◌, ◌<◌, ◌⊎◌, length, IfSome, IfNone};
 ghost use Rattle.md_ffi.specs.Numbers.{refusal_number, kind_number, core_number, name_number, refusal_text, status_number, IsTextOf};
+ghost use Rattle.md_script.specs.declared.error.PlayKind.TheVariants.{NoMemory};
 ghost use Rattle.md_ffi.specs.declared.refusal.Refusal.{Refusal};
+ghost use Rattle.md_ffi.specs.declared.refusal.Refusal.TheVariants.{Kind};
 
 use md_core::CoreError;
 use md_name::NameError;
@@ -185,7 +187,7 @@ fn core_of(number: u32) -> Option<Refusal>
     ensures some { IfSome result (λ refusal. refusal_number refusal ≡ number) }
     ensures none { IfNone result ((number < 20) ⊎ (32 < number)) }
 {
-    let error = match number {
+    Some(Refusal::Kind(PlayKind::Core(match number {
         20 => CoreError::BadName,
         21 => CoreError::LongUnique,
         22 => CoreError::DuplicateUnique,
@@ -200,15 +202,14 @@ fn core_of(number: u32) -> Option<Refusal>
         31 => CoreError::NoJob,
         32 => CoreError::Answered,
         _ => return None,
-    };
-    Some(Refusal::Kind(PlayKind::Core(error)))
+    })))
 }
 
 fn kind_of(number: u32) -> Option<Refusal>
     ensures some { IfSome result (λ refusal. refusal_number refusal ≡ number) }
     ensures none { IfNone result ((number < 50) ⊎ (63 < number)) }
 {
-    let kind = match number {
+    Some(Refusal::Kind(match number {
         50 => PlayKind::BadCommand,
         51 => PlayKind::BadNumber,
         52 => PlayKind::BadEscape,
@@ -224,14 +225,10 @@ fn kind_of(number: u32) -> Option<Refusal>
         62 => PlayKind::TooLong,
         63 => PlayKind::TooManyReads,
         _ => return None,
-    };
-    Some(Refusal::Kind(kind))
+    }))
 }
 
 impl From<AllocError> for Refusal {
-    ghost use Rattle.md_script.specs.declared.error.PlayKind.TheVariants.{NoMemory};
-    ghost use Rattle.md_ffi.specs.declared.refusal.Refusal.TheVariants.{Kind};
-
     ghost from_gives = { λ _ refusal. refusal ≡ Kind NoMemory };
 
     fn from(_refused: AllocError) -> Refusal {
@@ -240,9 +237,6 @@ impl From<AllocError> for Refusal {
 }
 
 impl<T: Drop> From<AllocFailed<T>> for Refusal {
-    ghost use Rattle.md_script.specs.declared.error.PlayKind.TheVariants.{NoMemory};
-    ghost use Rattle.md_ffi.specs.declared.refusal.Refusal.TheVariants.{Kind};
-
     ghost from_gives = { λ _ refusal. refusal ≡ Kind NoMemory };
 
     fn from(_refused: AllocFailed<T>) -> Refusal {

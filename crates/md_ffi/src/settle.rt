@@ -43,8 +43,7 @@ fn settle(alloc: Global, world: &mut World<IndexDirs>) -> Result<(), SettleError
             *world = begun;
             Ok(())
         }
-        Err(refused) => {
-            let SettleRefused { error, world: same } = refused;
+        Err(SettleRefused { error, world: same }) => {
             *world = same;
             Err(error)
         }

@@ -1,8 +1,8 @@
 //! What C sees of answers and steps.
-ghost use Rattle.std.specs.Prelude.{◌≡◌, None, Some};
+ghost use Rattle.std.specs.Prelude.{◌≡◌};
 ghost use Rattle.md_dirs.specs.Path.{place_index};
 ghost use Rattle.md_ffi.specs.Reading.{place_at};
-ghost use Rattle.md_ffi.specs.Shown.{answer_shown, call_number, call_value, reply_number, IsShown};
+ghost use Rattle.md_ffi.specs.Shown.{answer_shown, call_number, call_value, reply_number, step_shown};
 
 use md_core::{Answer, DirCall, DirReply, StepOut};
 use md_dirs::Place;
@@ -52,55 +52,30 @@ pub(crate) fn place_of(number: u32) -> Option<Place>
 }
 
 impl AnswerShown {
-    /// No answer yet.
-    pub(crate) fn none() -> AnswerShown
-        ensures { result ≡ answer_shown None }
-    {
-        plain(0)
-    }
-
     /// What is shown of an answer, or that there is none yet.
     pub(crate) fn of(answer: Option<Answer>) -> AnswerShown
         ensures { result ≡ answer_shown answer }
     {
-        match answer {
-            None => AnswerShown::none(),
-            Some(answer) => given(answer),
-        }
-    }
-}
-
-// An answer that has no more to say than its number.
-fn plain(kind: u64) -> AnswerShown
-    ensures { result ≡ record { kind = kind; value = 0 } }
-{
-    AnswerShown { kind, value: 0 }
-}
-
-fn given(answer: Answer) -> AnswerShown
-    ensures { result ≡ answer_shown (Some answer) }
-{
-    match answer {
-        Answer::Delivered => plain(1),
-        Answer::Flags(flags) => AnswerShown {
-            kind: 2,
-            value: flags.bits(),
-        },
-        Answer::Moved => plain(3),
-        Answer::Expunged => plain(4),
-        Answer::Copied => plain(5),
-        Answer::Cleaned(count) => AnswerShown {
-            kind: 6,
-            value: count,
-        },
-        Answer::NotThere => plain(7),
-        Answer::NotTrashed => plain(8),
-        Answer::OtherInfo => plain(9),
-        Answer::Lost => plain(10),
-        Answer::TimedOut => plain(11),
-        Answer::TmpGone => plain(12),
-        Answer::NameTaken => plain(13),
-        Answer::Fault => plain(14),
+        let Some(answer) = answer else {
+            return AnswerShown { kind: 0, value: 0 };
+        };
+        let (kind, value) = match answer {
+            Answer::Delivered => (1, 0),
+            Answer::Flags(flags) => (2, flags.bits()),
+            Answer::Moved => (3, 0),
+            Answer::Expunged => (4, 0),
+            Answer::Copied => (5, 0),
+            Answer::Cleaned(count) => (6, count),
+            Answer::NotThere => (7, 0),
+            Answer::NotTrashed => (8, 0),
+            Answer::OtherInfo => (9, 0),
+            Answer::Lost => (10, 0),
+            Answer::TimedOut => (11, 0),
+            Answer::TmpGone => (12, 0),
+            Answer::NameTaken => (13, 0),
+            Answer::Fault => (14, 0),
+        };
+        AnswerShown { kind, value }
     }
 }
 
@@ -131,14 +106,14 @@ fn reply_shown(reply: DirReply) -> u32
 impl StepShown {
     /// What is shown of a step.
     pub(crate) fn of(step: StepOut) -> StepShown
-        ensures { IsShown step result }
+        ensures { result ≡ step_shown step }
     {
         let (call, value) = call_shown(step.call);
         StepShown {
             call,
             reply: reply_shown(step.reply),
             value,
-            effect: if step.effect { 1 } else { 0 },
+            effect: u64::from(step.effect),
             answer: AnswerShown::of(step.answer),
         }
     }

@@ -6,8 +6,9 @@ use Rattle.std.proofs.lemmas.List.{take_more}
 use Rattle.std.proofs.lemmas.List.Sums.{take_while-cons}
 use Rattle.std.specs.Prelude.{codes, All, Contains, slice_index_or}
 use Rattle.std.specs.List.{take_while}
+use Rattle.std.specs.Option.{option_or}
 use Rattle.md_head.specs.Header.{is_some_line, is_continuation, lines_of, header_section, IsWholeLines}
-use Rattle.md_head.specs.Computed.{Grouped, grouped, field_of, value_if, value_of, or_later, first_value, field_value}
+use Rattle.md_head.specs.Computed.{Grouped, grouped, field_of, value_if, value_of, first_value, field_value}
 use Rattle.md_head.specs.Dates.{seconds_of}
 use Rattle.md_head.specs.Summaries.{summary_of}
 use Rattle.md_head.specs.Laws.{IsPassedOver}
@@ -87,7 +88,7 @@ passed_values name (line ∷ front) lines h =
     (λ begins.
     ap (λ (g : Grouped). first_value name g.groups) (grouped_new line (front ++ lines) begins)
     ∙ first_cons name (record { first = line; continuations = behind.front }) behind.groups
-    ∙ ap (λ v. or_later v (first_value name behind.groups)) (no_value name line behind.front (all_head IsPassedOver line front h))
+    ∙ ap (λ v. option_or v (first_value name behind.groups)) (no_value name line behind.front (all_head IsPassedOver line front h))
     ∙ rest)
     (cases_Bool (is_continuation line))
 

@@ -4,8 +4,9 @@ use Rattle.std.proofs.lemmas.Bool.{cases_Bool, false≢true}
 use Rattle.std.proofs.lemmas.List.Sums.{take_while-cons}
 use Rattle.std.specs.Prelude.{codes, IsSome}
 use Rattle.std.specs.List.{take_while}
+use Rattle.std.specs.Option.{option_or}
 use Rattle.md_head.specs.Header.{is_blank, is_some_line, is_continuation, lines_of, IsWholeLines, Group}
-use Rattle.md_head.specs.Computed.{Grouped, grouped, value_of, or_later, first_value, field_value}
+use Rattle.md_head.specs.Computed.{Grouped, grouped, value_of, first_value, field_value}
 use Rattle.md_head.specs.Dates.{seconds_of}
 use Rattle.md_head.specs.Summaries.{summary_of}
 use Rattle.md_head.specs.Laws.{KeepsValues}
@@ -34,14 +35,14 @@ grouped_append (line ∷ front) lines e =
     (cases_Bool (is_continuation line))
 
 pub first_append : (name : List ℕ) (front groups : List Group)
-    → first_value name (front ++ groups) ≡ or_later (first_value name front) (first_value name groups)
-first_append name [] groups = sym (ap (λ v. or_later v (first_value name groups)) (first_nil name))
+    → first_value name (front ++ groups) ≡ option_or (first_value name front) (first_value name groups)
+first_append name [] groups = sym (ap (λ v. option_or v (first_value name groups)) (first_nil name))
 first_append name (g ∷ front) groups =
-    first_cons name g (front ++ groups) ∙ ap (or_later (value_of name g)) (first_append name front groups)
+    first_cons name g (front ++ groups) ∙ ap (option_or (value_of name g)) (first_append name front groups)
     ∙ twice (value_of name g) (first_value name front) (first_value name groups)
-    ∙ sym (ap (λ v. or_later v (first_value name groups)) (first_cons name g front))
+    ∙ sym (ap (λ v. option_or v (first_value name groups)) (first_cons name g front))
   where
-    twice : (u v w : Option (List ℕ)) → or_later u (or_later v w) ≡ or_later (or_later u v) w
+    twice : (u v w : Option (List ℕ)) → option_or u (option_or v w) ≡ option_or (option_or u v) w
     twice None v w = refl
     twice (Some x) v w = refl
 
@@ -72,11 +73,11 @@ keeps_first name header later h begins is_there =
     ∙ ap (λ (g : Grouped). first_value name g.groups)
     (grouped_append (take_while is_some_line (lines_of header)) (take_while is_some_line (lines_of later)) front)
     ∙ first_append name (grouped (take_while is_some_line (lines_of header))).groups (grouped (take_while is_some_line (lines_of later))).groups
-    ∙ ap (λ v. or_later v (first_value name (grouped (take_while is_some_line (lines_of later))).groups)) (sym head)
+    ∙ ap (λ v. option_or v (first_value name (grouped (take_while is_some_line (lines_of later))).groups)) (sym head)
     ∙ wins (field_value name header) (first_value name (grouped (take_while is_some_line (lines_of later))).groups) is_there)
     (section_either (lines_of header) (lines_of later))
   where
-    wins : (v later : Option (List ℕ)) → IsSome v → or_later v later ≡ v
+    wins : (v later : Option (List ℕ)) → IsSome v → option_or v later ≡ v
     wins None later h = absurd (false≢true h)
     wins (Some x) later h = refl
 

@@ -4,9 +4,10 @@ use Rattle.std.specs.Prelude.{All}
 use Rattle.std.specs.List.{concat}
 use Rattle.std.specs.Str.{str_eq_ignore_ascii_case}
 use Rattle.std.proofs.lemmas.List.Elements.{All-cons, All-nil}
+use Rattle.std.specs.Option.{option_or}
 use Rattle.md_head.specs.Header.{Group}
 use Rattle.md_head.specs.Values.{IsTrimmed, IsField, IsOther, IsFirstValue}
-use Rattle.md_head.specs.Computed.{field_of, trimmed, value_if, value_of, or_later, first_value}
+use Rattle.md_head.specs.Computed.{field_of, trimmed, value_if, value_of, first_value}
 use Rattle.md_head.proofs.Alls.{all_head, all_tail, none_no_some}
 use Rattle.md_head.proofs.Trims.{trimmed_is, trimmed_only}
 use Rattle.md_head.proofs.FieldLines.{field_from, line_from}
@@ -52,7 +53,7 @@ other_from g name h = go (value_of name g) refl
 pub other_found : (g : Group) (name : List ℕ) → value_of name g ≡ None → IsOther name g
 other_found g name e value f = none_no_some (value_of name g) e (value_from g name value f)
 
-pub first_cons : (name : List ℕ) (g : Group) (groups : List Group) → first_value name (g ∷ groups) ≡ or_later (value_of name g) (first_value name groups)
+pub first_cons : (name : List ℕ) (g : Group) (groups : List Group) → first_value name (g ∷ groups) ≡ option_or (value_of name g) (first_value name groups)
 unfolding first_value
 first_cons name g groups = refl
 
@@ -63,15 +64,15 @@ first_nil name = refl
 none_first : (name : List ℕ) (groups : List Group) → All (IsOther name) groups → first_value name groups ≡ None
 none_first name [] h = first_nil name
 none_first name (g ∷ groups) h =
-    first_cons name g groups ∙ ap (λ v. or_later v (first_value name groups)) (other_from g name (all_head (IsOther name) g groups h))
+    first_cons name g groups ∙ ap (λ v. option_or v (first_value name groups)) (other_from g name (all_head (IsOther name) g groups h))
     ∙ none_first name groups (all_tail (IsOther name) g groups h)
 
 some_first : (name value : List ℕ) (before : List Group) (g : Group) (behind : List Group) → All (IsOther name) before → IsField g name value
     → first_value name (before ++ g ∷ behind) ≡ Some value
-some_first name value [] g behind h f = first_cons name g behind ∙ ap (λ v. or_later v (first_value name behind)) (value_from g name value f)
+some_first name value [] g behind h f = first_cons name g behind ∙ ap (λ v. option_or v (first_value name behind)) (value_from g name value f)
 some_first name value (other ∷ before) g behind h f =
     first_cons name other (before ++ g ∷ behind)
-    ∙ ap (λ v. or_later v (first_value name (before ++ g ∷ behind))) (other_from other name (all_head (IsOther name) other before h))
+    ∙ ap (λ v. option_or v (first_value name (before ++ g ∷ behind))) (other_from other name (all_head (IsOther name) other before h))
     ∙ some_first name value before g behind (all_tail (IsOther name) other before h) f
 
 -- there is one first value
@@ -89,6 +90,6 @@ first_is (g ∷ groups) name = subst (IsFirstValue (g ∷ groups) name) (sym (fi
     behind_other e (Some value) h = (g ∷ h.0, h.1, h.2, ap (λ gs. g ∷ gs) h.3, All-cons (IsOther name) g h.0 (other_found g name e) h.4, h.5)
 
     here : (v : Option (List ℕ)) → value_of name g ≡ v → IsFirstValue groups name (first_value name groups)
-        → IsFirstValue (g ∷ groups) name (or_later v (first_value name groups))
+        → IsFirstValue (g ∷ groups) name (option_or v (first_value name groups))
     here None e rest = behind_other e (first_value name groups) rest
     here (Some value) e rest = ([], g, groups, refl, All-nil (IsOther name), field_found g name value e)

@@ -5,8 +5,9 @@ use Rattle.std.proofs.lemmas.List.Sums.{take_while-cons}
 use Rattle.std.specs.Prelude.{◌&&◌, option_map, is_some, IfSome}
 use Rattle.std.specs.Str.{str_eq_ignore_ascii_case}
 use Rattle.std.specs.List.{AllPass, take_while}
+use Rattle.std.specs.Option.{option_or}
 use Rattle.md_head.specs.Header.{is_blank, is_some_line, is_continuation, lines_of, header_section, IsWholeLines}
-use Rattle.md_head.specs.Computed.{Grouped, grouped, field_of, or_later, first_value, field_value}
+use Rattle.md_head.specs.Computed.{Grouped, grouped, field_of, first_value, field_value}
 use Rattle.md_head.specs.Bodies.{body_value, or_this, IsFirstBody, IsFirstField}
 use Rattle.md_head.specs.Scan.{EndsGroup}
 use Rattle.md_head.specs.declared.body.FieldBody.{FieldBody}
@@ -30,7 +31,7 @@ no_value name = ap (λ (g : Grouped). first_value name g.groups) grouped_nil ∙
 value_of_nothing : (name text : List ℕ) → header_section text ≡ [] → field_value name text ≡ None
 value_of_nothing name text over = value_in_section name text ∙ ap (λ ls. first_value name (grouped ls).groups) over ∙ no_value name
 
-last_none : (v : Option (List ℕ)) → or_later v None ≡ v
+last_none : (v : Option (List ℕ)) → option_or v None ≡ v
 last_none None = refl
 last_none (Some value) = refl
 
@@ -42,11 +43,11 @@ value_of_one name bytes first continuations lines some goes_on =
     section_is bytes ∙ ap (take_while is_some_line) (lines ∙ sym whole) ∙ take_passing is_some_line (first ∷ continuations) [] some in
     value_in_section name bytes ∙ ap (λ ls. first_value name (grouped ls).groups) section
     ∙ value_step name first continuations [] goes_on (ap (λ (g : Grouped). g.front) grouped_nil)
-    ∙ ap (or_later _) (no_value name) ∙ last_none _
+    ∙ ap (option_or _) (no_value name) ∙ last_none _
     ∙ group_value bytes first continuations name lines
 
 value_behind : (name before more : List ℕ) → IsWholeLines before → AllPass is_some_line (lines_of before) → is_blank (get_or more 0 0) ≡ false
-    → field_value name (before ++ more) ≡ or_later (field_value name before) (field_value name more)
+    → field_value name (before ++ more) ≡ option_or (field_value name before) (field_value name more)
 value_behind name before more whole some begins =
     let front = nothing_in_front more begins in
     let lines = lines_of before in
@@ -57,9 +58,9 @@ value_behind name before more whole some begins =
     value_in_section name (before ++ more) ∙ ap (λ ls. first_value name (grouped ls).groups) all
     ∙ ap (λ (g : Grouped). first_value name g.groups) (grouped_append lines (header_section more) front)
     ∙ first_append name (grouped lines).groups (grouped (header_section more)).groups
-    ∙ ap (λ v. or_later v (first_value name (grouped (header_section more)).groups))
+    ∙ ap (λ v. option_or v (first_value name (grouped (header_section more)).groups))
     (sym (value_in_section name before ∙ ap (λ ls. first_value name (grouped ls).groups) own))
-    ∙ ap (or_later (field_value name before)) (sym (value_in_section name more))
+    ∙ ap (option_or (field_value name before)) (sym (value_in_section name more))
 
 -- ---- what the loop knows of a name
 
@@ -79,7 +80,7 @@ pub record Read (message left : List ℕ) : Type 0 where
 pub record Knows (message left name : List ℕ) (found : Option FieldBody) : Type 0 where
   pub lines : Read message left
   pub stands : Stands message name lines.before found
-  pub value : or_later (option_map body_value found) (field_value name left) ≡ field_value name message
+  pub value : option_or (option_map body_value found) (field_value name left) ≡ field_value name message
 
 -- nothing was read
 pub knows_nothing : (message name : List ℕ) → Knows message message name None
@@ -137,12 +138,12 @@ still_none message left name n r not_over ends none other =
     (λ (nothing : r.before ≡ []). ap (λ t. field_value name (t ++ group)) nothing ∙ one)
     (λ (begins : is_blank (get_or left 0 0) ≡ false).
     value_behind name r.before group (r.whole (some_section left not_over)) r.some (ap is_blank (get_or-take n left 0 0 ends.some) ∙ begins)
-    ∙ ap (λ v. or_later v (field_value name group)) none ∙ one)
+    ∙ ap (λ v. option_or v (field_value name group)) none ∙ one)
     r.begins
 
 found_more : (found : Option FieldBody) (named : Bool) (body : FieldBody) (later : Option (List ℕ))
-    → or_later (option_map body_value (or_this found named body)) later ≡ or_later (option_map body_value found)
-    (or_later (cond named (Some (body_value body)) None) later)
+    → option_or (option_map body_value (or_this found named body)) later ≡ option_or (option_map body_value found)
+    (option_or (cond named (Some (body_value body)) None) later)
 found_more (Some found) named body later = refl
 found_more None true body later = refl
 found_more None false body later = refl
@@ -157,9 +158,9 @@ knows_field message left rest name here n found body not_over ends is field k = 
   lines = read_more message left rest n not_over ends is k.lines;
   stands = go found (str_eq_ignore_ascii_case here name) refl k.stands;
   value = found_more found (str_eq_ignore_ascii_case here name) body (field_value name rest)
-      ∙ ap (λ t. or_later (option_map body_value found) (or_later (value_in name (Some (here, body.folded.now))) (field_value name t))) is
-      ∙ ap (λ f. or_later (option_map body_value found) (or_later (value_in name f) (field_value name (drop n left)))) field
-      ∙ sym (ap (or_later (option_map body_value found)) (step name left n not_over ends))
+      ∙ ap (λ t. option_or (option_map body_value found) (option_or (value_in name (Some (here, body.folded.now))) (field_value name t))) is
+      ∙ ap (λ f. option_or (option_map body_value found) (option_or (value_in name f) (field_value name (drop n left)))) field
+      ∙ sym (ap (option_or (option_map body_value found)) (step name left n not_over ends))
       ∙ k.value;
 }
   where
@@ -199,9 +200,9 @@ unfolding read_more
 knows_passed message left rest name n found not_over ends is other k = record {
   lines = read_more message left rest n not_over ends is k.lines;
   stands = go found k.stands;
-  value = ap (λ t. or_later (option_map body_value found) (field_value name t)) is
-      ∙ ap (λ v. or_later (option_map body_value found) (or_later v (field_value name (drop n left)))) (sym other)
-      ∙ sym (ap (or_later (option_map body_value found)) (step name left n not_over ends))
+  value = ap (λ t. option_or (option_map body_value found) (field_value name t)) is
+      ∙ ap (λ v. option_or (option_map body_value found) (option_or v (field_value name (drop n left)))) (sym other)
+      ∙ sym (ap (option_or (option_map body_value found)) (step name left n not_over ends))
       ∙ k.value;
 }
   where
@@ -219,7 +220,7 @@ knows_other message left rest name n found not_over ends is field k =
 pub knows_all : (message left name : List ℕ) (found : Option FieldBody) → header_section left ≡ [] → Knows message left name found
     → IsFirstField message name found
 knows_all message left name found over k = record {
-  value = sym (last_none (option_map body_value found)) ∙ sym (ap (or_later (option_map body_value found)) (value_of_nothing name left over)) ∙ k.value;
+  value = sym (last_none (option_map body_value found)) ∙ sym (ap (option_or (option_map body_value found)) (value_of_nothing name left over)) ∙ k.value;
   place = go found k.stands;
 }
   where

@@ -7,8 +7,9 @@ use Rattle.std.proofs.lemmas.Slice.Eq.{bytes_eq-Decides}
 use Rattle.std.specs.Char.{to_ascii_lowercase}
 use Rattle.std.specs.Str.{str_eq_ignore_ascii_case, str_to_ascii_lowercase, bytes_eq}
 use Rattle.std.specs.List.{AllPass, concat, take_while}
+use Rattle.std.specs.Option.{option_or}
 use Rattle.md_head.specs.Header.{is_blank, is_name_byte, is_some_line, is_continuation, lines_of, IsWholeLines}
-use Rattle.md_head.specs.Computed.{Grouped, grouped, field_of, trimmed, value_if, value_of, or_later, first_value}
+use Rattle.md_head.specs.Computed.{Grouped, grouped, field_of, trimmed, value_if, value_of, first_value}
 use Rattle.md_head.specs.Summaries.{summary_of}
 use Rattle.md_head.proofs.Sections.{has_bytes}
 use Rattle.md_head.proofs.Groups.{grouped_on, grouped_new}
@@ -99,7 +100,7 @@ module _ (name : List ℕ) where
   facts g = (g.front, first_value name g.groups)
 
   abbrev next : List ℕ → Facts → Facts
-  next line f = cond (is_continuation line) (line ∷ f.0, f.1) ([], or_later (value_of name (record { first = line; continuations = f.0 })) f.1)
+  next line f = cond (is_continuation line) (line ∷ f.0, f.1) ([], option_or (value_of name (record { first = line; continuations = f.0 })) f.1)
 
   facts_cons : (line : List ℕ) (lines : List (List ℕ)) → facts (grouped (line ∷ lines)) ≡ next line (facts (grouped lines))
   facts_cons line lines = ⊎_elim
@@ -111,7 +112,7 @@ module _ (name : List ℕ) where
       (cases_Bool (is_continuation line))
     where
       later : Facts
-      later = ([], or_later (value_of name (record { first = line; continuations = (grouped lines).front })) (first_value name (grouped lines).groups))
+      later = ([], option_or (value_of name (record { first = line; continuations = (grouped lines).front })) (first_value name (grouped lines).groups))
 
   -- the same of the lines before the first empty one
   abbrev in_section : List (List ℕ) → Facts
@@ -130,7 +131,7 @@ module _ (name : List ℕ) where
   module _ (found other body line line' : List ℕ) (l : NamedLine found body line) (l' : NamedLine other body line')
       (same : str_eq_ignore_ascii_case found name ≡ str_eq_ignore_ascii_case other name) where
     abbrev named : Facts → List ℕ → Facts
-    named f line = ([], or_later (value_of name (record { first = line; continuations = f.0 })) f.1)
+    named f line = ([], option_or (value_of name (record { first = line; continuations = f.0 })) f.1)
 
     same_value : (continuations : List (List ℕ))
         → value_of name (record { first = line; continuations = continuations }) ≡ value_of name (record { first = line'; continuations = continuations })
@@ -148,7 +149,7 @@ module _ (name : List ℕ) where
 
     same_values : (front behind : List (List ℕ)) → in_section (front ++ line ∷ behind) ≡ in_section (front ++ line' ∷ behind)
     same_values [] behind =
-        begins found line l behind ∙ ap (λ v. ([], or_later v (in_section behind).1)) (same_value (in_section behind).0)
+        begins found line l behind ∙ ap (λ v. ([], option_or v (in_section behind).1)) (same_value (in_section behind).0)
         ∙ sym (begins other line' l' behind)
     same_values (first ∷ front) behind =
         in_section-cons first (front ++ line ∷ behind)

@@ -3,8 +3,9 @@ use Rattle.std.proofs.Common.{◌≡◌, ℕ, true, false, List, [], ◌∷◌, 
 use Rattle.std.proofs.lemmas.Bool.{cases_Bool}
 use Rattle.std.proofs.lemmas.List.Sums.{take_while-cons}
 use Rattle.std.specs.List.{AllPass, take_while}
+use Rattle.std.specs.Option.{option_or}
 use Rattle.md_head.specs.Header.{is_blank, is_some_line, is_continuation, lines_of, header_section}
-use Rattle.md_head.specs.Computed.{Grouped, grouped, groups_of, field_of, value_if, value_of, or_later, first_value, field_value}
+use Rattle.md_head.specs.Computed.{Grouped, grouped, groups_of, field_of, value_if, value_of, first_value, field_value}
 use Rattle.md_head.specs.Scan.{EndsGroup}
 use Rattle.md_head.proofs.Scans.{first_continues}
 use Rattle.md_head.proofs.Sections.{section_is, section_continues, some_first}
@@ -44,12 +45,12 @@ nothing_in_front rest over = ap (λ ls. (grouped ls).front) (section_is rest) �
 -- the groups of a section that begins with one, or with continuations of nothing
 pub value_step : (name first : List ℕ) (continuations lines : List (List ℕ)) → AllPass is_continuation continuations → (grouped lines).front ≡ []
     → first_value name (grouped (first ∷ (continuations ++ lines))).groups
-    ≡ or_later (value_of name (record { first = first; continuations = continuations })) (first_value name (grouped lines).groups)
+    ≡ option_or (value_of name (record { first = first; continuations = continuations })) (first_value name (grouped lines).groups)
 value_step name first continuations lines h front =
     ⊎_elim
     (λ goes_on.
     ap (λ (g : Grouped). first_value name g.groups) (grouped_all (first ∷ continuations) lines (pass_cons is_continuation first continuations goes_on h))
-    ∙ sym (ap (λ v. or_later v (first_value name (grouped lines).groups)) (no_value goes_on)))
+    ∙ sym (ap (λ v. option_or v (first_value name (grouped lines).groups)) (no_value goes_on)))
     (λ begins.
     ap (λ (g : Grouped). first_value name g.groups) (grouped_group first continuations lines begins h)
     ∙ ap (λ (ls : List (List ℕ)). first_value name (record { first = first; continuations = ls } ∷ (grouped lines).groups))
@@ -62,7 +63,7 @@ value_step name first continuations lines h front =
 
 -- the first value of a name, by the bytes of the first group
 pub step : (name text : List ℕ) (n : ℕ) → (header_section text ≡ [] → ⊥) → EndsGroup text n
-    → field_value name text ≡ or_later (value_in name (field_of (take n text))) (field_value name (drop n text))
+    → field_value name text ≡ option_or (value_in name (field_of (take n text))) (field_value name (drop n text))
 step name text n some ends =
     let one = ends.one in
     let rest = drop n text in
@@ -71,5 +72,5 @@ step name text n some ends =
     ap (first_value name) (groups_is text)
     ∙ ap (λ ls. first_value name (grouped ls).groups) (section_group text rest one.first one.continuations cut some one.goes_on)
     ∙ value_step name one.first one.continuations (header_section rest) one.goes_on front
-    ∙ ap (λ v. or_later v (first_value name (grouped (header_section rest)).groups)) (group_value (take n text) one.first one.continuations name one.all_lines)
-    ∙ sym (ap (λ gs. or_later (value_in name (field_of (take n text))) (first_value name gs)) (groups_is rest))
+    ∙ ap (λ v. option_or v (first_value name (grouped (header_section rest)).groups)) (group_value (take n text) one.first one.continuations name one.all_lines)
+    ∙ sym (ap (λ gs. option_or (value_in name (field_of (take n text))) (first_value name gs)) (groups_is rest))

@@ -1,6 +1,5 @@
 -- The body of a field as it is in a message, line ends among it, and the value that it gives.
-use Rattle.std.specs.Prelude.{◌≡◌, ℕ, ◌<◌, Bool, false, true, List, ◌++◌}
-use Rattle.std.specs.Prelude.{length, slice_index, Option, Some, None, IfSome, option_map, if◌then◌else◌}
+use Rattle.std.specs.Prelude.{◌≡◌, ℕ, ◌<◌, Bool, false, true, List, ◌++◌, length, slice_index, Option, Some, None, IfSome, option_map, if◌then◌else◌}
 use Rattle.std.specs.List.{AllPass, concat}
 use Rattle.std.specs.Str.{str_eq_ignore_ascii_case}
 use Rattle.md_head.specs.Header.{is_blank, is_some_line, lines_of, IsWholeLines, IsFieldLine}

@@ -1,6 +1,7 @@
 -- The same as functions, which compute the one answer that the relations allow.
 use Rattle.std.specs.Prelude.{ℕ, ◌&&◌, ◌==◌, List, [], ◌∷◌, ◌++◌, take, drop, nat_lt, slice_index, Option, Some, None, if◌then◌else◌}
 use Rattle.std.specs.List.{prefix_len, concat}
+use Rattle.std.specs.Option.{option_or}
 use Rattle.std.specs.Str.{str_eq_ignore_ascii_case}
 use Rattle.md_head.specs.Header.{is_blank, is_name_byte, header_section, is_continuation, Group}
 
@@ -57,15 +58,10 @@ value_if name continuations (Some (found, body)) =
 unfoldable pub value_of : List ℕ → Group → Option (List ℕ)
 value_of name g = value_if name g.continuations (field_of g.first)
 
--- the earlier value, or else the later one
-abbrev pub or_later : Option (List ℕ) → Option (List ℕ) → Option (List ℕ)
-or_later None later = later
-or_later (Some value) later = Some value
-
 -- the value of the first group that is a field of that name
 unfoldable pub first_value : List ℕ → List Group → Option (List ℕ)
 first_value name [] = None
-first_value name (g ∷ groups) = or_later (value_of name g) (first_value name groups)
+first_value name (g ∷ groups) = option_or (value_of name g) (first_value name groups)
 
 -- the groups of a text's header section
 unfoldable pub groups_of : List ℕ → List Group

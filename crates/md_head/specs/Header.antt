@@ -1,7 +1,6 @@
 -- The lines of a message's header section, and the fields that they are, in the words of RFC 5322.
 -- A rule marked 'own' is this library's choice where RFC 5322 leaves one.
-use Rattle.std.specs.Prelude.{◌≡◌, ℕ, ◌-◌, ◌<◌, Bool, false, not, ◌&&◌, ◌||◌}
-use Rattle.std.specs.Prelude.{◌==◌, nat_le, nat_lt, List, ◌∷◌, ◌++◌, length, slice_index, All}
+use Rattle.std.specs.Prelude.{◌≡◌, ℕ, ◌-◌, ◌<◌, Bool, false, not, ◌&&◌, ◌||◌, ◌==◌, nat_le, nat_lt, List, ◌∷◌, ◌++◌, length, slice_index, All}
 use Rattle.std.specs.List.{AllPass, flat_map, take_while}
 use Rattle.std.specs.Str.Lines.{lines}
 

@@ -1,6 +1,5 @@
 -- What a message's summary does not depend on, and what it does.
-use Rattle.std.specs.Prelude.{◌≡◌, ◌≢◌, ℕ, ◌<◌, ◌==◌, true, false, ◌↔◌, List}
-use Rattle.std.specs.Prelude.{[], ◌∷◌, ◌++◌, length, slice_index, All, Contains, IsSome, if◌then◌else◌}
+use Rattle.std.specs.Prelude.{◌≡◌, ◌≢◌, ℕ, ◌<◌, ◌==◌, true, false, ◌↔◌, List, [], ◌∷◌, ◌++◌, length, slice_index, All, Contains, IsSome, if◌then◌else◌}
 use Rattle.std.specs.List.{AllPass, flat_map}
 use Rattle.std.specs.Str.{str_eq_ignore_ascii_case}
 use Rattle.md_head.specs.Header.{is_blank, is_name_byte, lines_of, IsWholeLines, IsFieldLine}

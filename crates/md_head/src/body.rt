@@ -4,7 +4,6 @@ ghost use Rattle.std.specs.List.{concat};
 ghost use Rattle.md_head.specs.Header.{lines_of};
 ghost use Rattle.md_head.specs.Computed.{trimmed_front, trimmed_end};
 
-use crate::error::HeadError;
 use crate::line::cut_line;
 use bstr::ByteSlice;
 use md_name::Bytes;
@@ -51,7 +50,7 @@ impl<'a> FieldBody<'a> {
     ghost use Rattle.md_head.specs.Bodies.{body_value};
 
     /// The value: the body unfolded, by leaving out its line ends alone (RFC 5322, 2.2.3), and without the spaces and tabs at both ends.
-    pub fn value(&self, alloc: Global) -> Result<Bytes, HeadError>
+    pub fn value(&self, alloc: Global) -> Result<Bytes, AllocError>
         ensures { IfOk result (λ value. value ≡ body_value self.now) }
     {
         let mut bytes = joined(alloc, self.folded)?;

@@ -2,7 +2,7 @@
 ghost use Rattle.std.specs.Prelude.{◌≡◌};
 ghost use Rattle.md_head.specs.declared.error.HeadError.TheVariants.{NoMemory};
 
-use std::alloc::{AllocError, AllocFailed};
+use std::alloc::AllocError;
 use thiserror::Error;
 
 /// Why a summary is refused: no message is, only a growth of memory.
@@ -17,14 +17,6 @@ impl From<AllocError> for HeadError {
     ghost from_gives = { λ _ e. e ≡ NoMemory };
 
     fn from(_refused: AllocError) -> HeadError {
-        HeadError::NoMemory
-    }
-}
-
-impl<T: Drop> From<AllocFailed<T>> for HeadError {
-    ghost from_gives = { λ _ e. e ≡ NoMemory };
-
-    fn from(_refused: AllocFailed<T>) -> HeadError {
         HeadError::NoMemory
     }
 }

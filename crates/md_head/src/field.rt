@@ -8,16 +8,12 @@ use crate::line::is_blank;
 
 const COLON: u8 = b':';
 
-const FIRST_NAME_BYTE: u8 = 33;
-
-const LAST_NAME_BYTE: u8 = 126;
-
 fn name_len(text: &[u8]) -> usize
     ensures len { result ≡ prefix_len is_name_byte text.now }
     ensures within { result ≤ length text.now }
 {
     text.iter()
-        .take_while(|b| FIRST_NAME_BYTE <= **b && **b <= LAST_NAME_BYTE && **b != COLON)
+        .take_while(|b| b.is_ascii_graphic() && **b != COLON)
         .count()
 }
 

@@ -8,17 +8,9 @@ use crate::body::FieldBody;
 use crate::field::field;
 use crate::line::{ends_section, group_end};
 
-const SUBJECT: &[u8] = b"subject";
-
-const FROM: &[u8] = b"from";
-
-const MESSAGE_ID: &[u8] = b"message-id";
-
-const DATE: &[u8] = b"date";
-
 /// The first field of each of four names (RFC 5322, 3.6) in a message's header section, none where there is no such field. The case of a
 /// name's letters doesn't matter (1.2.2). It borrows from the message and takes no memory.
-#[derive(Drop, Debug)]
+#[derive(Drop, Debug, Default)]
 pub struct HeaderFields<'a> {
     pub subject: Option<FieldBody<'a>>,
     pub from: Option<FieldBody<'a>>,
@@ -33,12 +25,7 @@ pub fn header_fields(message: &[u8]) -> HeaderFields<'_>
     ensures message_id { IsFirstField message.now (codes "message-id") result.message_id }
     ensures date { IsFirstField message.now (codes "date") result.date }
 {
-    let mut fields = HeaderFields {
-        subject: None,
-        from: None,
-        message_id: None,
-        date: None,
-    };
+    let mut fields = HeaderFields::default();
     let mut left = message;
     while !ends_section(left) {
         if begins_other(left) {
@@ -61,10 +48,7 @@ pub fn header_fields(message: &[u8]) -> HeaderFields<'_>
 fn begins_other(text: &[u8]) -> bool
     ensures { result ≡ not (is_initial (slice_index text.now 0)) }
 {
-    match text {
-        [first, ..] => !is_initial(*first),
-        [] => true,
-    }
+    !matches!(text, [first, ..] if is_initial(*first))
 }
 
 // Whether a byte is the first letter of one of the four names.
@@ -92,10 +76,10 @@ impl<'a> HeaderFields<'a> {
         ensures message_id { self.new.message_id ≡ or_this self.old.message_id (str_eq_ignore_ascii_case name.now (codes "message-id")) body.entry }
         ensures date { self.new.date ≡ or_this self.old.date (str_eq_ignore_ascii_case name.now (codes "date")) body.entry }
     {
-        keep_if(&mut self.subject, SUBJECT, name, body);
-        keep_if(&mut self.from, FROM, name, body);
-        keep_if(&mut self.message_id, MESSAGE_ID, name, body);
-        keep_if(&mut self.date, DATE, name, body);
+        keep_if(&mut self.subject, b"subject", name, body);
+        keep_if(&mut self.from, b"from", name, body);
+        keep_if(&mut self.message_id, b"message-id", name, body);
+        keep_if(&mut self.date, b"date", name, body);
     }
 }
 

@@ -11,34 +11,24 @@ const LF: u8 = b'\n';
 
 const CR: u8 = b'\r';
 
-const SPACE: u8 = b' ';
-
-const TAB: u8 = b'\t';
-
 pub(crate) fn is_blank(byte: u8) -> bool
     ensures { result ≡ is_blank byte }
 {
-    byte == SPACE || byte == TAB
+    byte == b' ' || byte == b'\t'
 }
 
 // Whether a text begins with white space, as a continuation does.
 fn begins_blank(text: &[u8]) -> bool
     ensures { result ≡ is_blank (slice_index text.now 0) }
 {
-    match text {
-        [first, ..] => is_blank(*first),
-        [] => false,
-    }
+    matches!(text, [first, ..] if is_blank(*first))
 }
 
 /// Whether a header section is over: at the end of the text, or at an empty line.
 pub(crate) fn ends_section(text: &[u8]) -> bool
     ensures { IsTrue result ↔ (header_section text.now ≡ []) }
 {
-    match text {
-        [] | [LF, ..] | [CR, LF, ..] => true,
-        _ => false,
-    }
+    matches!(text, [] | [LF, ..] | [CR, LF, ..])
 }
 
 /// How many bytes the first line of a text and its continuations take, with their line ends.
@@ -76,8 +66,5 @@ pub fn cut_line(text: &[u8]) -> Option<(&[u8], &[u8])>
 fn without_return(line: &[u8]) -> &[u8]
     ensures { result.now ≡ strip_carriage_return line.now }
 {
-    match line {
-        [front @ .., CR] => front,
-        _ => line,
-    }
+    line.strip_suffix(&[CR]).unwrap_or(line)
 }

@@ -9,17 +9,15 @@ use crate::error::HeadError;
 use crate::header::header_fields;
 use crate::shown::Summary;
 use md_name::Bytes;
-use std::alloc::Global;
+use std::alloc::{AllocError, Global};
 
-fn value_of(alloc: Global, body: Option<FieldBody<'_>>) -> Result<Option<Bytes>, HeadError>
+fn value_of(alloc: Global, body: Option<FieldBody<'_>>) -> Result<Option<Bytes>, AllocError>
     ensures { IfOk result (λ value. value ≡ option_map body_value body.entry) }
 {
     body.map(|body| body.value(alloc)).transpose()
 }
 
-/// The summary of a message, which reads its header section alone.
-///
-/// No message is refused. The one refusal is out of memory.
+/// The summary of a message, which reads its header section alone. No message is refused.
 pub fn summary(alloc: Global, message: &[u8]) -> Result<Summary, HeadError>
     ensures by_rules { IfOk result (IsSummary message.now) }
     ensures value { IfOk result (λ shown. shown ≡ summary_of message.now) }

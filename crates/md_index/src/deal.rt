@@ -1,7 +1,7 @@
 //! How the numbers of the messages are dealt out: a deque of them, from which each worker steals.
-ghost use Rattle.std.specs.Prelude.{◌≡◌, [], IfOk};
+ghost use Rattle.std.specs.Prelude.{◌≡◌, ◌+◌, ◌++◌, [], IfOk};
 ghost use Rattle.crossbeam_deque.specs.Handles.{worker_port, worker_view};
-ghost use Rattle.md_index.specs.Deal.{hand};
+ghost use Rattle.md_index.specs.Deal.{hand, IsDealt};
 
 use crossbeam_deque::protocol::{Outcome, Protocol};
 use crossbeam_deque::{Stealer, Worker};
@@ -18,9 +18,6 @@ pub(crate) struct Hand {
 pub(crate) struct Deals;
 
 impl Protocol<usize, Hand> for Deals {
-    ghost use Rattle.std.specs.Prelude.{[]};
-    ghost use Rattle.md_index.specs.Deal.{IsDealt, hand};
-
     ghost holds = { IsDealt };
 
     ghost first = { hand 0 [] };
@@ -32,9 +29,6 @@ impl Protocol<usize, Hand> for Deals {
 pub(crate) struct Pushed;
 
 impl Outcome<usize, Hand> for Pushed {
-    ghost use Rattle.std.specs.Prelude.{◌≡◌, ◌+◌};
-    ghost use Rattle.md_index.specs.Deal.{hand};
-
     ghost then = { λ before numbers after. after ≡ hand (before.pushed + 1) before.taken };
 }
 
@@ -42,9 +36,6 @@ impl Outcome<usize, Hand> for Pushed {
 pub(crate) struct Took;
 
 impl Outcome<usize, Hand> for Took {
-    ghost use Rattle.std.specs.Prelude.{◌≡◌, ◌++◌};
-    ghost use Rattle.md_index.specs.Deal.{hand};
-
     ghost then = { λ before numbers after. after ≡ hand before.pushed (before.taken ++ numbers) };
 }
 
@@ -52,7 +43,7 @@ pub(crate) type Owner = Worker<usize, Global, Hand, Deals>;
 
 pub(crate) type Thief = Stealer<usize, Global, Hand, Deals>;
 
-/// A deque with the numbers below `count`. It is refused only when out of memory.
+/// A deque with the numbers below `count`.
 pub(crate) fn dealt(alloc: Global, count: usize) -> Result<Owner, AllocError>
     ensures { IfOk result (λ owner. (worker_port owner ≡ 0) × (worker_view owner ≡ hand count [])) }
 {

@@ -8,7 +8,7 @@ use crate::item::{Indexed, Message};
 use crate::worker_entries::WorkerEntries;
 use std::alloc::{AllocError, Global};
 
-/// The entries in the messages' order. One that is no worker's next at its turn is made here. It is refused only when out of memory.
+/// The entries in the messages' order. One that is no worker's next at its turn is made here.
 pub(crate) fn gathered<G: Gate>(
     alloc: Global,
     messages: &[Message<'_>],

@@ -23,7 +23,7 @@ pub struct Indexed {
 impl<'a> Message<'a> {
     ghost use Rattle.md_index.specs.Index.{indexed_of};
 
-    /// The message's entry, made between the two calls of the gate. It is refused only when out of memory.
+    /// The message's entry, made between the two calls of the gate.
     pub(crate) fn indexed<G: Gate>(
         &self,
         alloc: Global,

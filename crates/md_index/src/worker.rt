@@ -56,7 +56,7 @@ fn work<G: Gate, R: Wait>(
     unreachable!()
 }
 
-/// What the workers bring. It is refused only when out of memory.
+/// What the workers bring.
 ///
 /// None of them is the calling thread, which waits: what a thread allocates stays in the thread's own part of the heap.
 pub(crate) fn brought_by<'a, G: Gate, R: Threads + Wait + Sync>(

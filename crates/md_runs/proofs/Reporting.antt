@@ -1,5 +1,5 @@
--- Runs on threads: why there is no report, and what the next answer adds to one.
-use Rattle.std.proofs.Common.{◌≡◌, ℕ, ◌+◌, ◌<◌, ◌==◌, ◌++◌, inl, inr, true, List, Err, refl, sym, ap, subst, ◌∙◌, zero, suc, is_some, not, Option, Some, None, All, [], ◌∷◌, arith, add-one, append_assoc, append-nil, length, length-append, map}
+-- Runs on threads: what the next answer adds to a report.
+use Rattle.std.proofs.Common.{◌≡◌, ℕ, ◌+◌, ◌<◌, ◌==◌, ◌++◌, true, List, refl, sym, ap, subst, ◌∙◌, zero, suc, is_some, not, Option, Some, None, All, [], ◌∷◌, arith, add-one, append_assoc, append-nil, length, length-append, map}
 use Rattle.std.specs.Prelude.{slice_index_or}
 use Rattle.std.specs.List.{list_all}
 use Rattle.std.proofs.lemmas.Bool.{eqb-true}
@@ -14,14 +14,8 @@ use Rattle.md_core.specs.Machine.{Standing, Occurrence, job_at}
 use Rattle.md_core.specs.Runs.{Run, answer_of, and_events, failures_of, log_of}
 use Rattle.md_store.specs.Locks.{IsFresh}
 use Rattle.md_store.specs.Ongoing.{IsSince}
-use Rattle.md_script.specs.declared.error.PlayError.{PlayError}
-use Rattle.md_script.specs.Reading.{IsReadWhole}
-use Rattle.md_script.specs.Sinks.{Sink, Untouched}
-use Rattle.md_script.specs.Sources.{Source}
 use Rattle.md_script.specs.Texts.{answer_line}
-use Rattle.md_runs.specs.declared.fault.RunFault.{RunFault}
-use Rattle.md_runs.specs.declared.fault.RunFault.TheVariants.{Play, NoReader, Closed}
-use Rattle.md_runs.specs.Threading.{answers_text, is_at_zero, AllAnswered, Interleaving, IsStop, IsUnreported, RunsThreads}
+use Rattle.md_runs.specs.Threading.{answers_text, is_at_zero, AllAnswered, Interleaving}
 
 -- one more answer
 pub answers-next : (jobs : List Standing) (n : ℕ) → answers_text jobs (n + 1) ≡ answers_text jobs n ++ answer_line (n + 1) (answer_of (job_at jobs (n + 1)))
@@ -85,12 +79,10 @@ interleaved begun r fresh since many at_zero run faultless answered =
     let is : r ≡ and_events begun since.events = since.is ∙ ap (λ cs. record begun { calls = cs; events = begun.events ++ since.events }) calls in
     let events : r.events ≡ since.events = ap (λ (x : Run). x.events) since.is ∙ ap (λ es. es ++ since.events) fresh in
     record {
-      goes_on = record {
-        events = since.events;
-        is = is;
-        at_zero = subst (All (λ e. (e.event.now ≡ 0) × (e.event.own ≡ None))) events
-            (all-unmap (λ (e : Event). (e.now ≡ 0) × (e.own ≡ None)) (λ (e : Occurrence). e.event) r.events (all-at_zero (log_of r) at_zero));
-      };
+      events = since.events;
+      is = is;
+      at_zero = subst (All (λ e. (e.event.now ≡ 0) × (e.event.own ≡ None))) events
+          (all-unmap (λ (e : Event). (e.now ≡ 0) × (e.own ≡ None)) (λ (e : Occurrence). e.event) r.events (all-at_zero (log_of r) at_zero));
       is_run = run;
       faultless = faultless;
       answered = answered;
@@ -99,19 +91,3 @@ interleaved begun r fresh since many at_zero run faultless answered =
     none-more : (more : List Call) → length more ≡ 0 → begun.calls ++ more ≡ begun.calls
     none-more [] none = append-nil begun.calls
     none-more (x ∷ more) none = absurd (omega (arith, none))
-
--- threads that made no report of a store made none of its script
-pub stopped : (script : List ℕ) (fault : RunFault) → IsStop fault → IsUnreported script fault
-stopped script (Play e) is = inl is
-stopped script NoReader is = tt
-stopped script Closed is = tt
-
--- a script of which there is no report
-pub unreported : (old new : Source) (before after : Sink) (script : List ℕ) (fault : RunFault) → IsUnreported script fault → IsReadWhole old new script →
-    Untouched before after
-    → RunsThreads old new before after (Err fault)
-unreported old new before after script (Play e) (inl memory) whole unwritten =
-    subst (λ (x : PlayError). RunsThreads old new before after (Err (Play x))) (sym memory) (inr (refl, (unwritten, whole.sound)))
-unreported old new before after script (Play e) (inr is) whole unwritten = inl (record { script = script; whole = whole; is = is; unwritten = unwritten })
-unreported old new before after script NoReader is whole unwritten = record { script = script; whole = whole; unwritten = unwritten }
-unreported old new before after script Closed is whole unwritten = record { script = script; whole = whole; unwritten = unwritten }

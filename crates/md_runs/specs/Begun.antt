@@ -7,7 +7,7 @@ use Rattle.md_core.specs.Submitting.{submit_refusal}
 use Rattle.md_script.specs.declared.error.PlayKind.{PlayKind}
 use Rattle.md_script.specs.declared.error.PlayError.{PlayError}
 use Rattle.md_text.specs.Bind.{◌>>=◌}
-use Rattle.md_script.specs.Folders.{names_of}
+use Rattle.md_text.specs.Folders.{names_of}
 use Rattle.md_head.specs.Header.{lines_of}
 use Rattle.md_script.specs.Sessions.{run_over, unless_refused}
 use Rattle.md_script.specs.Setups.{Setting, setting_of}

@@ -7,8 +7,7 @@ use Rattle.md_runs.specs.declared.fault.RunFault.TheVariants.{Play, NoReader, Cl
 -- the line that is refused, counted from 1, or 0 where none is
 abbrev pub refused_line : RunFault → ℕ
 refused_line (Play error) = error.line
-refused_line NoReader = 0
-refused_line Closed = 0
+refused_line other = 0
 
 -- why it is refused
 abbrev pub refusal_text : RunFault → List ℕ

@@ -19,22 +19,27 @@ indexed_in m e = record { unique = e.unique; summary = summary_of (bytes_in m e.
 abbrev pub made_text : List ℕ → Indexed → List ℕ
 made_text name made = indexed_text name made.unique made.summary
 
--- A whole script was read, and its index written.
-pub record Ran (old new : Source) (before after : Sink) : Type 0 where
+-- A whole script was read, and a text written that is so of it.
+pub record Wrote (is_so : List ℕ → List ℕ → Type 0) (old new : Source) (before after : Sink) : Type 0 where
   pub script : List ℕ
   pub text : List ℕ
   pub whole : IsReadWhole old new script
-  pub is : index_of_script script ≡ Ok text
+  pub is : is_so script text
   pub written : Took before after text
 
--- A whole script was read; it is refused, and nothing was written.
-pub record Refuses (old new : Source) (before after : Sink) (e : PlayError) : Type 0 where
+-- A whole script was read that is so, and nothing was written.
+pub record Withheld (is_so : List ℕ → Type 0) (old new : Source) (before after : Sink) : Type 0 where
   pub script : List ℕ
   pub whole : IsReadWhole old new script
-  pub is : index_of_script script ≡ Err e
+  pub is : is_so script
   pub unwritten : Untouched before after
 
--- The answer of `index`. Lines are numbered from 1, so that the line 0 is none.
+-- A whole script that is so is refused, and nothing was written; or no line is to blame. Lines are numbered from 1, so that the line 0 is
+-- none.
+abbrev pub Refuses : (List ℕ → Type 0) → Source → Source → Sink → Sink → PlayError → Type 0
+Refuses is_so old new before after e = Withheld is_so old new before after ⊎ ((e.line ≡ 0) × Stops old new before after e.kind)
+
+-- the answer of `index`
 abbrev pub Indexes : Source → Source → Sink → Sink → Result (Unit {0}) PlayError → Type 0
-Indexes old new before after (Ok done) = Ran old new before after
-Indexes old new before after (Err e) = Refuses old new before after e ⊎ ((e.line ≡ 0) × Stops old new before after e.kind)
+Indexes old new before after (Ok done) = Wrote (λ script text. index_of_script script ≡ Ok text) old new before after
+Indexes old new before after (Err e) = Refuses (λ script. index_of_script script ≡ Err e) old new before after e

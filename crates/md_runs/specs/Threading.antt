@@ -6,16 +6,14 @@ use Rattle.md_core.specs.Mailbox.{Mailbox, mailbox_of}
 use Rattle.md_core.specs.Runs.{Run, dirs_of, jobs_of, failures_of, answer_of, and_events}
 use Rattle.md_core.specs.Stepping.{IsRun}
 use Rattle.md_script.specs.declared.error.PlayKind.TheVariants.{NoMemory}
-use Rattle.md_script.specs.declared.error.PlayError.{PlayError}
 use Rattle.md_script.specs.Kinds.{at_no_line}
-use Rattle.md_script.specs.Play.{Stops}
-use Rattle.md_script.specs.Reading.{IsReadWhole}
-use Rattle.md_script.specs.Sinks.{Sink, Took, Untouched}
+use Rattle.md_script.specs.Sinks.{Sink}
 use Rattle.md_script.specs.Sources.{Source}
 use Rattle.md_script.specs.Texts.{line_end, answer_line, entries_text}
 use Rattle.md_runs.specs.declared.fault.RunFault.{RunFault}
-use Rattle.md_runs.specs.declared.fault.RunFault.TheVariants.{Play, NoReader, Closed}
+use Rattle.md_runs.specs.declared.fault.RunFault.TheVariants.{Play}
 use Rattle.md_runs.specs.Begun.{begun_of, folders_of}
+use Rattle.md_runs.specs.Indexes.{Wrote, Withheld, Refuses}
 use Rattle.md_script.specs.Indexing.{listing_in}
 
 -- `J answer A` for each of the first jobs, in their order
@@ -44,16 +42,12 @@ AllAnswered r = (n : ℕ) → n < length r.calls → is_some (answer_of (job_at 
 abbrev pub is_at_zero : Event → Bool
 is_at_zero e = (e.now == 0) && not (is_some e.own)
 
--- the run goes on from there by events at moment 0, at which no job has a moment of its own
-pub record RunsOn (begun r : Run) : Type 0 where
+-- An interleaving of the jobs of a run to their answers, without a fault, which goes on by events at moment 0 alone, at which no job has a
+-- moment of its own: its steps come in some order, each of a job that had no answer yet. Of any such run the interleaving theorem holds.
+pub record Interleaving (begun : Run) (r : Run) : Type 0 where
   pub events : List Occurrence
   pub is : r ≡ and_events begun events
   pub at_zero : All (λ e. (e.event.now ≡ 0) × (e.event.own ≡ None)) events
-
--- An interleaving of the jobs of a run to their answers, at moment 0 and without a fault: its steps come in some order, each of a job
--- that had no answer yet. Of any such run the interleaving theorem holds.
-pub record Interleaving (begun : Run) (r : Run) : Type 0 where
-  pub goes_on : RunsOn begun r
   pub is_run : IsRun r
   pub faultless : failures_of r ≡ 0
   pub answered : AllAnswered r
@@ -66,43 +60,18 @@ pub record Reports (script text : List ℕ) : Type 0 where
   pub interleaves : Interleaving begun run
   pub text_is : text ≡ report_of (folders_of script) run
 
--- A whole script was read, and the report of an interleaving of its jobs written.
-pub record Ran (old new : Source) (before after : Sink) : Type 0 where
-  pub script : List ℕ
-  pub text : List ℕ
-  pub whole : IsReadWhole old new script
-  pub reports : Reports script text
-  pub written : Took before after text
-
--- A whole script was read; it is refused, and nothing was written.
-pub record Refuses (old new : Source) (before after : Sink) (e : PlayError) : Type 0 where
-  pub script : List ℕ
-  pub whole : IsReadWhole old new script
-  pub is : begun_of script ≡ Err e
-  pub unwritten : Untouched before after
-
--- A whole script was read. No thread took part, or what is published could not be entered, and nothing was written.
-pub record Unrun (old new : Source) (before after : Sink) : Type 0 where
-  pub script : List ℕ
-  pub whole : IsReadWhole old new script
-  pub unwritten : Untouched before after
-
 -- Why the threads made no report: it rests on memory, or on what `left_right` gave.
 abbrev pub IsStop : RunFault → Type 0
 IsStop (Play e) = e ≡ at_no_line NoMemory
-IsStop NoReader = Unit {0}
-IsStop Closed = Unit {0}
+IsStop other = Unit {0}
 
 -- why there is no report of a script
 abbrev pub IsUnreported : List ℕ → RunFault → Type 0
 IsUnreported script (Play e) = (e ≡ at_no_line NoMemory) ⊎ (begun_of script ≡ Err e)
-IsUnreported script NoReader = Unit {0}
-IsUnreported script Closed = Unit {0}
+IsUnreported script other = Unit {0}
 
--- The answer of `threads`. Lines are numbered from 1, so that the line 0 is none.
+-- The answer of `threads`. Where no thread took part, or what is published could not be entered, nothing was written.
 abbrev pub RunsThreads : Source → Source → Sink → Sink → Result (Unit {0}) RunFault → Type 0
-RunsThreads old new before after (Ok done) = Ran old new before after
-RunsThreads old new before after (Err (Play e)) =
-    Refuses old new before after e ⊎ ((e.line ≡ 0) × Stops old new before after e.kind)
-RunsThreads old new before after (Err NoReader) = Unrun old new before after
-RunsThreads old new before after (Err Closed) = Unrun old new before after
+RunsThreads old new before after (Ok done) = Wrote Reports old new before after
+RunsThreads old new before after (Err (Play e)) = Refuses (λ script. begun_of script ≡ Err e) old new before after e
+RunsThreads old new before after (Err other) = Withheld (λ script. Unit {0}) old new before after

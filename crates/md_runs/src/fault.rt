@@ -9,13 +9,13 @@ ghost use Rattle.md_runs.specs.Threading.{IsStop};
 use md_core::CoreError;
 use md_script::{PlayError, PlayKind};
 use md_store::{ListError, OpenError, StoreError};
-use std::alloc::{AllocError, AllocFailed};
+use std::alloc::AllocError;
 use std::fmt::{self, Display, Formatter};
 
 /// Why a run on threads ended without its text.
 #[derive(Clone, Copy, Debug, PartialEq, Eq)]
 pub enum RunFault {
-    /// As a script that is played is refused.
+    /// As a script that is played.
     Play(PlayError),
     /// A thread's pass was refused its reader.
     NoReader,
@@ -31,7 +31,7 @@ impl RunFault {
     {
         match self {
             RunFault::Play(error) => error.line,
-            RunFault::NoReader | RunFault::Closed => 0,
+            _ => 0,
         }
     }
 
@@ -80,14 +80,6 @@ impl From<AllocError> for RunFault {
     }
 }
 
-impl<T: Drop> From<AllocFailed<T>> for RunFault {
-    ghost from_gives = { λ _ result. result ≡ fault.Play (at_no_line NoMemory) };
-
-    fn from(_refused: AllocFailed<T>) -> RunFault {
-        RunFault::from(PlayKind::NoMemory)
-    }
-}
-
 impl From<OpenError> for RunFault {
     ghost from_gives = { λ _ fault. IsStop fault };
 
@@ -115,10 +107,8 @@ impl From<CoreError> for RunFault {
 impl From<StoreError> for RunFault {
     ghost from_gives = { λ _ fault. IsStop fault };
 
-    fn from(error: StoreError) -> RunFault {
-        match error {
-            StoreError::NoMemory => RunFault::from(PlayKind::NoMemory),
-        }
+    fn from(StoreError::NoMemory: StoreError) -> RunFault {
+        RunFault::from(PlayKind::NoMemory)
     }
 }
 

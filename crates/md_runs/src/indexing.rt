@@ -1,6 +1,6 @@
 //! The index of a script's messages: a line for each, with the summary of its header.
 ghost use Rattle.std.specs.Prelude.{◌≡◌, ◌≢◌, ◌≤◌, ◌⊎◌, ℕ, false, List, Ok, Err, MatchResult};
-ghost use Rattle.md_script.specs.Folders.{names_of};
+ghost use Rattle.md_text.specs.Folders.{names_of};
 ghost use Rattle.md_script.specs.Kinds.{at_no_line};
 ghost use Rattle.md_script.specs.ReadSetups.{SetsUp};
 ghost use Rattle.md_script.specs.declared.error.PlayKind.TheVariants.{NoMemory};
@@ -11,7 +11,7 @@ mod workers;
 
 use md_dirs::{HashSeed, ImageFile};
 use md_script::{
-    PlayError, PlayKind, ReadSetup, Setup, Sink, Source, folders_text, load, read_image, refused,
+    PlayError, PlayKind, ReadSetup, Sink, Source, folders_text, load, read_image, refused,
     write_whole,
 };
 use std::alloc::Global;
@@ -43,8 +43,7 @@ pub fn run_index<R: Threads + Wait + Sync, S: Source, T: Sink>(
 {
     let read = read_image(alloc, source, false)?;
     let text = index_text(rt, alloc, seed, workers, read)?;
-    write_whole(sink, &text)?;
-    Ok(())
+    Ok(write_whole(sink, &text)?)
 }
 
 // The index of a script that was read.
@@ -59,16 +58,10 @@ fn index_text<R: Threads + Wait + Sync>(
         (λ text. index_of_script script ≡ Ok text.items)
         (λ e. (e ≡ at_no_line NoMemory) ⊎ (index_of_script script ≡ Err e)) }
 {
-    let ReadSetup { setup, lines } = read;
-    let Setup {
-        folders,
-        files,
-        calls: _,
-    } = setup;
-    match text_over(rt, alloc, seed, workers, &folders, files) {
-        Ok(text) => Ok(text),
-        Err(kind) => Err(refused(lines, kind)),
-    }
+    let setup = read.setup;
+    let files = setup.files;
+    let text = text_over(rt, alloc, seed, workers, &setup.folders, files);
+    Ok(text.map_err(|kind| refused(read.lines, kind))?)
 }
 
 // The index of the store over folders and files.

@@ -45,8 +45,7 @@ pub fn run_threads<R: Threads + Wait + Sync, S: Source, T: Sink>(
 {
     let read = read_image(alloc, source, true)?;
     let text = threads_text(rt, alloc, seed, threads, read)?;
-    write_whole(sink, &text)?;
-    Ok(())
+    Ok(write_whole(sink, &text)?)
 }
 
 /// What the threads print of a script that was read.

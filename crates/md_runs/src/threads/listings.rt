@@ -1,13 +1,12 @@
 //! The lines of the folders, listed with a pass.
 
-ghost use Rattle.std.specs.Prelude.{◌≡◌, ◌++◌, length, codes, IfOk, IfErr, OnOk};
+ghost use Rattle.std.specs.Prelude.{◌≡◌, ◌++◌, length, IfOk, IfErr, OnOk};
 ghost use mathlib.Core.List.{IsPrefix};
 ghost use Rattle.md_core.specs.Mailbox.{mailbox_of};
 ghost use Rattle.md_core.specs.Runs.{Run, dirs_of};
 ghost use Rattle.md_store.specs.Listing.{ShowsLast};
 ghost use Rattle.md_store.specs.Ongoing.{IsSince};
-ghost use Rattle.md_script.specs.Folders.{names_of};
-ghost use Rattle.md_script.specs.Texts.{line_end};
+ghost use Rattle.md_text.specs.Folders.{names_of};
 ghost use Rattle.md_runs.specs.Threading.{folder_text, folders_text, IsStop};
 
 use crate::fault::RunFault;
@@ -15,7 +14,7 @@ use crate::threads::sharing::Shared;
 use md_dirs::IndexDirs;
 use md_script::push_entries;
 use md_store::{Naming, Pass, Store};
-use std::alloc::{AllocError, Global};
+use std::alloc::Global;
 use std::sync::Wait;
 
 /// Lists the folders with a pass and closes the store: the lines of the folders, and the world, which shows them. It would be refused `Closed`,
@@ -105,18 +104,9 @@ fn push_listing<J: Naming>(
         → text.new.items ≡ text.old.items ++ folder_text (mailbox_of (dirs_of r)) folder name.now) }
     ensures stop { IfErr result IsStop }
 {
-    push_name(text, name)?;
-    let entries = store.list(alloc, pass, folder)?;
-    push_entries(text, &entries)?;
-    Ok(())
-}
-
-/// `folder NAME`
-fn push_name(text: &mut Vec<u8>, name: &[u8]) -> Result<(), AllocError>
-    ensures { OnOk result (text.new.items ≡ text.old.items ++ (codes "folder " ++ name.now ++ line_end)) }
-{
     text.extend_from_slice(b"folder ")?;
     text.extend_from_slice(name)?;
-    text.push(b'\n')?;
-    Ok(())
+    text.extend_from_slice(b"\n")?;
+    let entries = store.list(alloc, pass, folder)?;
+    Ok(push_entries(text, &entries)?)
 }

@@ -3,14 +3,14 @@
 ghost use Rattle.std.specs.Prelude.{◌≡◌, ◌≢◌, ◌⊎◌, ℕ, true, List, Ok, Err, IfOk, MatchResult};
 ghost use Rattle.md_store.specs.Locks.{IsFresh};
 ghost use Rattle.md_script.specs.declared.error.PlayKind.TheVariants.{NoMemory};
-ghost use Rattle.md_script.specs.Folders.{names_of};
+ghost use Rattle.md_text.specs.Folders.{names_of};
 ghost use Rattle.md_script.specs.Kinds.{at_no_line};
 ghost use Rattle.md_script.specs.ReadSetups.{SetsUp};
 ghost use Rattle.md_runs.specs.Begun.{submitted_all, begun_over, begun_of, IsBegun};
 
 use md_core::{Call, World};
 use md_dirs::{Dirs, HashSeed, ImageFile, IndexDirs};
-use md_script::{PlayError, PlayKind, ReadSetup, Setup, load, refused};
+use md_script::{PlayError, PlayKind, ReadSetup, load, refused};
 use std::alloc::Global;
 
 /// The names of a script's folders, and a store over its files with its jobs, of which none was stepped.
@@ -26,18 +26,14 @@ pub(super) fn set_up(alloc: Global, seed: HashSeed, read: ReadSetup) -> Result<M
         → MatchResult result (IsBegun script) (λ e. (e ≡ at_no_line NoMemory) ⊎ (begun_of script ≡ Err e)) }
     ensures fresh { IfOk result (λ made. IsFresh made.world) }
 {
-    let ReadSetup { setup, lines } = read;
-    let Setup {
-        folders,
-        files,
-        calls,
-    } = setup;
-    match world_of(alloc, seed, &folders, files, calls) {
+    let setup = read.setup;
+    let (files, calls) = (setup.files, setup.calls);
+    match world_of(alloc, seed, &setup.folders, files, calls) {
         Ok(world) => Ok(Made {
-            names: folders,
+            names: setup.folders,
             world,
         }),
-        Err(kind) => Err(refused(lines, kind)),
+        Err(kind) => Err(refused(read.lines, kind)),
     }
 }
 

@@ -6,7 +6,7 @@ ghost use Rattle.md_core.specs.Runs.{dirs_of};
 ghost use Rattle.md_store.specs.Locks.{IsFresh};
 ghost use Rattle.md_store.specs.Ongoing.{IsSince};
 ghost use Rattle.md_view.specs.Named.{named_of};
-ghost use Rattle.md_script.specs.Folders.{names_of};
+ghost use Rattle.md_text.specs.Folders.{names_of};
 ghost use Rattle.md_runs.specs.Threading.{folders_text, IsStop};
 
 use crate::fault::RunFault;
@@ -99,12 +99,11 @@ fn run_jobs<J: Naming + Send + Sync, R: Threads + Wait + Sync>(
 
 /// Passes with the numbers of their threads.
 fn shares<J: Naming>(alloc: Global, passes: Vec<Pass<J>>) -> Result<Vec<Share<J>>, AllocError> {
-    let mut all = Vec::new(alloc);
-    for (number, pass) in passes.into_iter().enumerate() {
-        all.push(Share {
+    let numbered = passes.into_iter().enumerate();
+    numbered
+        .map(|(number, pass)| Share {
             number: number as u64,
             pass,
-        })?;
-    }
-    Ok(all)
+        })
+        .collect(alloc)
 }

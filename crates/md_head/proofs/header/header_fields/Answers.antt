@@ -1,4 +1,4 @@
-use Rattle.std.proofs.Common.{◌≡◌, ℕ, true, false, List, [], get_or, take, Option, None, ap, sym, ◌∙◌, refl}
+use Rattle.std.proofs.Common.{◌≡◌, ℕ, true, false, List, [], get_or, take, Option, None, ap, sym, ◌∙◌, refl, subst}
 use Rattle.std.proofs.lemmas.Bool.{not-true, false≢true}
 use Rattle.std.specs.Prelude.{codes, is_some}
 use Rattle.std.specs.Str.{str_eq_ignore_ascii_case}
@@ -15,12 +15,16 @@ use Rattle.md_head.proofs.Places.{Knows, all_four, knows_nothing, knows_kept, kn
 use Rattle.md_head.proofs.header.header_fields.Goals as goal
 
 pub loop-left-init : goal.loop-left-init
-loop-left-init c = record {
-  subject = knows_nothing c.args.message.now (codes "subject");
-  from = knows_nothing c.args.message.now (codes "from");
-  message_id = knows_nothing c.args.message.now (codes "message-id");
-  date = knows_nothing c.args.message.now (codes "date");
-}
+loop-left-init c =
+    let text = c.args.message.now in
+    let none = c.default-fields.ensures in
+    let nothing = λ (name : List ℕ) (found : Option FieldBody) (is : found ≡ None). subst (Knows text text name) (sym is) (knows_nothing text name) in
+    record {
+      subject = nothing (codes "subject") _ none.0;
+      from = nothing (codes "from") _ none.1.0;
+      message_id = nothing (codes "message-id") _ none.1.1.0;
+      date = nothing (codes "date") _ none.1.1.1;
+    }
 
 pub group_end-requires : goal.group_end-requires
 group_end-requires c = some_section c.loop-left.left.now (λ over. false≢true (c.loop-left-test.ensures.1 over))

@@ -1,7 +1,7 @@
 use Rattle.std.proofs.Common.{ℕ, List, ◌++◌, ◌∙◌, ap, length}
 use Rattle.md_core.specs.Mailbox.{mailbox_of}
 use Rattle.md_core.specs.Runs.{dirs_of, jobs_of}
-use Rattle.md_script.specs.Folders.{names_of}
+use Rattle.md_text.specs.Folders.{names_of}
 use Rattle.md_runs.specs.Threading.{answers_text, folders_text}
 use Rattle.md_runs.proofs.threads.threads_text.Goals as goal
 

@@ -3,7 +3,7 @@ use mathlib.Core.List.{IsPrefix}
 use Rattle.md_core.specs.Mailbox.{mailbox_of}
 use Rattle.md_core.specs.Runs.{Run, dirs_of}
 use Rattle.md_store.specs.Listing.{ShowsLast}
-use Rattle.md_script.specs.Folders.{names_of}
+use Rattle.md_text.specs.Folders.{names_of}
 use Rattle.md_runs.specs.Threading.{folders_text}
 use Rattle.md_runs.proofs.threads.listings.push_listings.Given as goal
 
