@@ -1,9 +1,6 @@
 -- Each call leaves a job fewer to make.
 use Rattle.std.proofs.Common.{ℕ, ◌≡◌, ◌<◌, ◌≤◌, ◌+◌, ◌-◌, List, [], ◌∷◌, Option, None, length, sym, subst, ◌∙◌, arith}
 use Rattle.md_dirs.specs.declared.rows.Row.{Row}
-use Rattle.md_dirs.specs.declared.paths.Path.{Path}
-use Rattle.md_jobs.specs.Asked.{Asked, create, append, link, rename, unlink, list}
-use Rattle.md_jobs.specs.Laws.{IsOn}
 use Rattle.md_jobs.specs.Machines.Clean.{after_next, cleaning_turn, old_names}
 use Rattle.md_jobs.specs.Machines.Clean as cleaned_by
 use Rattle.md_jobs.specs.Machines.Deliver.{delivery_turn}
@@ -18,8 +15,7 @@ use Rattle.md_jobs.specs.declared.step.DirReply.{DirReply}
 use Rattle.md_jobs.specs.declared.step.DirReply.TheVariants as reply
 use Rattle.md_jobs.specs.declared.step.Moment.{Moment}
 use Rattle.md_jobs.proofs.Replies.{errand-nearer, delivery-nearer}
-use Rattle.md_jobs.proofs.Turns.{delivery-on}
-use Rattle.md_disk.specs.Exchanges.{Exchange, IsNoReading}
+use Rattle.md_disk.specs.Exchanges.{Exchange}
 use Rattle.md_disk.specs.Steps.{Steps}
 
 -- how many calls an errand makes at most
@@ -48,18 +44,6 @@ delivery-falls job d d' old new answer chunked step none =
     let on = delivery-nearer job d heard.at heard.reply heard.rows chunked (step.answered ∙ none) in
     let P : Delivery → Type 0 = λ x. (0 < x.chunk) × (delivery_left x < delivery_left d) in
     subst P (step.goes_on none) (subst (λ (n : ℕ). 0 < n) (sym on.0) chunked, on.1.1)
-
--- a delivery keeps to its path, so it reads no directory
-on-no-reading : (p : Path) (asked : Asked) → IsOn p asked → IsNoReading asked
-on-no-reading p (create q) on = tt
-on-no-reading p (append q bytes) on = tt
-on-no-reading p (link from to) on = tt
-on-no-reading p (rename from to) on = tt
-on-no-reading p (unlink q) on = tt
-on-no-reading p (list folder place) on = elim on [ ]
-
-pub delivery-no-reading : (job : ℕ) (d : Delivery) (at : Moment) → IsNoReading (delivery_turn job d at).asked
-delivery-no-reading job d at = on-no-reading d.tmp (delivery_turn job d at).asked (delivery-on job d at)
 
 -- how many names a clean has left
 abbrev pub names_left : Stage → ℕ

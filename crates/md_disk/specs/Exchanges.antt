@@ -15,20 +15,16 @@ pub record Exchange : Type 0 where
   pub asked : Asked
   pub heard : Heard
 
--- a call at a moment, its reply, and of a reading its rows
-abbrev pub exchange : Asked → Moment → DirReply → List Row → Exchange
-exchange asked at reply rows = record { asked = asked; heard = record { at = at; reply = reply; rows = rows } }
+-- a call at a second by the clock of this host, its reply, and of a reading its rows
+abbrev pub exchange : Asked → ℕ → DirReply → List Row → Exchange
+exchange asked second reply rows =
+    record { asked = asked; heard = record { at = record { clock = second; own = second }; reply = reply; rows = rows } }
 
--- the call is not the reading of a directory
-abbrev pub IsNoReading : Asked → Type 0
-IsNoReading (list folder place) = ⊥
-IsNoReading asked = Unit {0}
-
--- Tmp of a folder was read at a moment, and these are the names of the rows whose files were not used for so many seconds.
-pub record ReadsOld (folder seconds : ℕ) (at : Moment) (old new : List Exchange) (reply : DirReply) (names : List (List ℕ)) : Type 0 where
+-- Tmp of a folder was read at a second, and these are the names of the rows whose files were not used for so many seconds.
+pub record ReadsOld (folder seconds second : ℕ) (old new : List Exchange) (reply : DirReply) (names : List (List ℕ)) : Type 0 where
   pub rows : List Row
-  pub logged : new ≡ old ++ exchange (list folder Tmp) at reply rows ∷ []
-  pub unused : names ≡ old_names at.own seconds rows
+  pub logged : new ≡ old ++ exchange (list folder Tmp) second reply rows ∷ []
+  pub unused : names ≡ old_names second seconds rows
 
 -- what was heard of calls, in their order
 abbrev pub heard_of : List Exchange → List Heard

@@ -1,2 +1,5 @@
+pub mod Causes
 pub mod Exchanges
+pub mod Flaws
+pub mod Hints
 pub mod Steps

@@ -1,37 +1,47 @@
 //! Directory calls on a disk.
+use crate::cause::Cause;
+use crate::error::{CallError, unless_refused};
+use crate::hints::{Hints, Told};
 use crate::paths::Folders;
-use crate::reading::{all_names, find_name, names_once};
-use crate::reply::{refusal_of, reply_of};
+use crate::reading::{find_name, names_once, no_directory};
+use crate::system::System;
 use md_dirs::{Bytes, Place, Row};
-use md_jobs::{DirReply, PathRef, Request};
+use md_jobs::{DirReply, PathRef, Purpose, Request};
 use std::alloc::{AllocError, Global};
-use std::fs::{Files, OpenFile, OpenOptions};
-use std::io::Write;
+use std::cell::Cell;
+use std::fs::{Files, Metadata, OpenFile, OpenOptions};
+use std::io::{ErrorKind, Write};
 use std::os::unix::fs::{MetadataExt, OpenOptionsExt};
 use std::time::Clock;
 
 /// The calls of the system on these maildirs. A call on a name that is not UTF-8 is a fault, and is not made.
 #[derive(Drop)]
-pub(crate) struct Calls<'r, R: Files + Clock> {
-    files: &'r R,
-    folders: Folders,
+pub struct Calls<'r, R: Files + Clock> {
+    pub(crate) files: &'r R,
+    pub(crate) folders: Folders,
+    pub(crate) hints: Hints,
     // The file of the delivery that is under way.
     open: Option<R::File>,
     // Whether a file is flushed before it is linked, and the directory after.
     sync: bool,
     // Whether a directory could not be flushed after a link that was done.
     unflushed: bool,
+    // Why the last call was refused that was.
+    cause: Cell<Option<Cause>>,
 }
 
 impl<'r, R: Files + Clock> Calls<'r, R> {
     /// Calls on these maildirs, with no file open.
     pub(crate) fn new(files: &'r R, folders: Folders, sync: bool) -> Self {
+        let hints = Hints::new(folders.allocator());
         Calls {
             files,
             folders,
+            hints,
             open: None,
             sync,
             unflushed: false,
+            cause: Cell::new(None),
         }
     }
 
@@ -40,51 +50,66 @@ impl<'r, R: Files + Clock> Calls<'r, R> {
         self.unflushed
     }
 
-    /// The time in seconds since 1970, and 0 where there is no clock.
-    pub(crate) fn second(&self) -> u64 {
-        match self.files.since_1970() {
-            Ok(now) => now.as_secs(),
-            Err(_) => 0,
+    /// Why the last call was refused that was.
+    pub(crate) fn cause(&self) -> Option<Cause> {
+        self.cause.get()
+    }
+
+    /// What is replied to a call, with its value, if it was done. Here alone a cause is kept.
+    pub(crate) fn reply<T>(
+        &self,
+        made: Result<T, CallError>,
+    ) -> Result<(DirReply, Option<T>), AllocError> {
+        match made {
+            Ok(value) => Ok((DirReply::Ok, Some(value))),
+            Err(CallError::NoMemory) => Err(AllocError),
+            Err(CallError::Refused(cause)) => {
+                self.cause.set(Some(cause));
+                Ok((cause.reply(), None))
+            }
         }
     }
 
-    /// Makes a call that is no reading. Refused only when out of memory, and then it was not made.
-    pub(crate) fn make(
-        &mut self,
+    /// The same of a list, which is empty where the call was not done.
+    pub(crate) fn reply_list<T: Drop>(
+        &self,
         alloc: Global,
-        request: &Request<'_>,
-    ) -> Result<DirReply, AllocError> {
+        made: Result<Vec<T>, CallError>,
+    ) -> Result<(DirReply, Vec<T>), AllocError> {
+        let (reply, list) = self.reply(made)?;
+        Ok((reply, list.unwrap_or(Vec::new(alloc))))
+    }
+
+    // Makes a call that is no reading.
+    fn call(&mut self, alloc: Global, request: &Request<'_>) -> Result<(), CallError> {
         match request {
             Request::Create { path } => self.create(alloc, path),
-            Request::Append { bytes, .. } => Ok(self.append(bytes)),
+            Request::Append { bytes, .. } => self.append(bytes),
             Request::Link { old, new } => self.link(alloc, old, new),
             Request::Rename { old, new } => self.rename(alloc, old, new),
             Request::Unlink { path } => self.unlink(alloc, path),
-            Request::List { .. } => Ok(DirReply::Fault),
+            Request::List { .. } => Err(unsupported()),
         }
     }
 
     // Makes an empty file that must not be there, and keeps it open.
-    fn create(&mut self, alloc: Global, path: &PathRef<'_>) -> Result<DirReply, AllocError> {
-        let Some(path) = self.folders.file(alloc, path)? else {
-            return Ok(DirReply::Fault);
-        };
+    fn create(&mut self, alloc: Global, path: &PathRef<'_>) -> Result<(), CallError> {
+        let path = self.folders.file(alloc, path)?;
         let mut how = OpenOptions::new();
         how.write(true).create_new(true).mode(0o600);
-        match self.files.open_file(&how, path.as_str()) {
-            Ok(file) => {
-                self.open = Some(file);
-                Ok(DirReply::Ok)
-            }
-            Err(error) => Ok(refusal_of(&error)),
-        }
+        let file = self
+            .files
+            .open_file(&how, path.as_str())
+            .map_err(no_directory)?;
+        self.open = Some(file);
+        Ok(())
     }
 
     // Adds bytes to the file that was made.
-    fn append(&mut self, bytes: &[u8]) -> DirReply {
+    fn append(&mut self, bytes: &[u8]) -> Result<(), CallError> {
         match &mut self.open {
-            Some(file) => reply_of(file.write_all(bytes)),
-            None => DirReply::Fault,
+            Some(file) => Ok(file.write_all(bytes)?),
+            None => Err(unsupported()),
         }
     }
 
@@ -94,24 +119,18 @@ impl<'r, R: Files + Clock> Calls<'r, R> {
         alloc: Global,
         old: &PathRef<'_>,
         new: &PathRef<'_>,
-    ) -> Result<DirReply, AllocError> {
-        let Some(from) = self.folders.file(alloc, old)? else {
-            return Ok(DirReply::Fault);
-        };
-        let Some(to) = self.folders.file(alloc, new)? else {
-            return Ok(DirReply::Fault);
-        };
-        let Some(dir) = self.folders.dir(alloc, new.folder(), new.place())? else {
-            return Ok(DirReply::Fault);
-        };
+    ) -> Result<(), CallError> {
+        let from = self.folders.file(alloc, old)?;
+        let to = self.folders.file(alloc, new)?;
+        let dir = self.folders.dir(alloc, new.folder(), new.place())?;
         if !self.flush() {
-            return Ok(DirReply::Fault);
+            return Err(CallError::Refused(Cause::Unflushed));
         }
-        let reply = reply_of(self.files.hard_link(from.as_str(), to.as_str()));
-        if reply == DirReply::Ok && self.sync && !self.flush_dir(dir.as_str()) {
+        self.files.hard_link(from.as_str(), to.as_str())?;
+        if self.sync && !self.flush_dir(dir.as_str()) {
             self.unflushed = true;
         }
-        Ok(reply)
+        Ok(())
     }
 
     // Flushes the file that was made, if there is one, and closes it. Whether that was done.
@@ -123,112 +142,124 @@ impl<'r, R: Files + Clock> Calls<'r, R> {
     }
 
     fn flush_dir(&self, path: &str) -> bool {
-        let mut how = OpenOptions::new();
-        how.read(true);
-        match self.files.open_file(&how, path) {
+        match self.files.open_file(&for_reading(), path) {
             Ok(dir) => dir.sync_all().is_ok(),
             Err(_) => false,
         }
     }
 
     // Gives a file another name, which must not be there as far as a look tells: std has no call that refuses to replace.
-    fn rename(
-        &self,
-        alloc: Global,
-        old: &PathRef<'_>,
-        new: &PathRef<'_>,
-    ) -> Result<DirReply, AllocError> {
-        let Some(from) = self.folders.file(alloc, old)? else {
-            return Ok(DirReply::Fault);
-        };
-        let Some(to) = self.folders.file(alloc, new)? else {
-            return Ok(DirReply::Fault);
-        };
+    fn rename(&self, alloc: Global, old: &PathRef<'_>, new: &PathRef<'_>) -> Result<(), CallError> {
+        let from = self.folders.file(alloc, old)?;
+        let to = self.folders.file(alloc, new)?;
         match self.files.symlink_metadata(to.as_str()) {
-            Ok(_) => return Ok(DirReply::Exists),
-            Err(error) => {
-                let reply = refusal_of(&error);
-                if reply != DirReply::NotFound {
-                    return Ok(reply);
-                }
-            }
+            Ok(_) => return Err(CallError::Refused(Cause::NameTaken)),
+            Err(error) if error.kind() == ErrorKind::NotFound => {}
+            Err(error) => return Err(CallError::from(error)),
         }
-        Ok(reply_of(self.files.rename(from.as_str(), to.as_str())))
+        Ok(self.files.rename(from.as_str(), to.as_str())?)
     }
 
-    fn unlink(&self, alloc: Global, path: &PathRef<'_>) -> Result<DirReply, AllocError> {
-        match self.folders.file(alloc, path)? {
-            Some(path) => Ok(reply_of(self.files.remove_file(path.as_str()))),
-            None => Ok(DirReply::Fault),
-        }
+    fn unlink(&self, alloc: Global, path: &PathRef<'_>) -> Result<(), CallError> {
+        let path = self.folders.file(alloc, path)?;
+        Ok(self.files.remove_file(path.as_str())?)
     }
 
-    /// Looks for a message in a directory.
-    pub(crate) fn look(
-        &self,
+    /// Looks for the name of a message in a directory, for an errand: among the hints, and then in the directory.
+    pub(crate) fn find(
+        &mut self,
         alloc: Global,
         folder: u32,
         place: Place,
         unique: &[u8],
-    ) -> Result<(DirReply, Option<Row>), AllocError> {
-        let Some(path) = self.folders.dir(alloc, folder, place)? else {
-            return Ok((DirReply::NotFound, None));
-        };
-        let (reply, name) = find_name(alloc, self.files, path.as_str(), unique)?;
-        match name {
-            Some(name) => Ok((reply, Some(row_of(name, 0)))),
-            None => Ok((reply, None)),
+        purpose: &Purpose,
+    ) -> Result<Option<Bytes>, CallError> {
+        match self.hints.tell(alloc, folder, place, unique, purpose)? {
+            Told::Name(name) => Ok(Some(name)),
+            Told::Elsewhere => Ok(None),
+            Told::Nothing => {
+                let path = self.folders.dir(alloc, folder, place)?;
+                find_name(alloc, self.files, path.as_str(), unique, purpose)
+            }
         }
     }
 
-    /// All names of a directory but `.` and `..`, in no order, of a reading in which it rested. `Fault` where it never does.
-    pub(crate) fn names(
+    /// What the system says of a name, and not of a file that it is a symbolic link to.
+    pub(crate) fn metadata(
         &self,
         alloc: Global,
-        folder: u32,
-        place: Place,
-    ) -> Result<(DirReply, Vec<Bytes>), AllocError> {
-        match self.folders.dir(alloc, folder, place)? {
-            Some(path) => all_names(alloc, self.files, path.as_str()),
-            None => Ok((DirReply::NotFound, Vec::new(alloc))),
-        }
+        path: &PathRef<'_>,
+    ) -> Result<Metadata, CallError> {
+        let path = self.folders.file(alloc, path)?;
+        Ok(self.files.symlink_metadata(path.as_str())?)
     }
 
     /// The regular files of tmp, each with the second of its last write or last read, the later one. A name that is gone by the look at it
     /// is left out, and so is one that is not UTF-8.
-    pub(crate) fn used_files(
-        &self,
-        alloc: Global,
-        folder: u32,
-    ) -> Result<(DirReply, Vec<Row>), AllocError> {
+    pub(crate) fn files_of_tmp(&self, alloc: Global, folder: u32) -> Result<Vec<Row>, CallError> {
         let mut rows = Vec::new(alloc);
-        let Some(dir) = self.folders.dir(alloc, folder, Place::Tmp)? else {
-            return Ok((DirReply::NotFound, rows));
-        };
-        let (reply, names) = names_once(alloc, self.files, dir.as_str())?;
-        for name in names {
+        let dir = self.folders.dir(alloc, folder, Place::Tmp)?;
+        for name in names_once(alloc, self.files, dir.as_str())? {
             let path = PathRef::new(folder, Place::Tmp, name.as_slice());
-            let used = self.used_at(alloc, &path)?;
-            if let Some(used) = used {
+            let about = unless_refused(self.metadata(alloc, &path))?;
+            if let Some(used) = about.and_then(|about| used_at(&about)) {
                 rows.push(row_of(name, used))?;
             }
         }
-        Ok((reply, rows))
+        Ok(rows)
     }
+}
 
-    // The second of a regular file's last write or last read, the later one.
-    fn used_at(&self, alloc: Global, path: &PathRef<'_>) -> Result<Option<u64>, AllocError> {
-        let Some(path) = self.folders.file(alloc, path)? else {
-            return Ok(None);
-        };
-        match self.files.symlink_metadata(path.as_str()) {
-            Ok(about) if about.is_file() => {
-                let used = about.mtime().max(about.atime());
-                Ok(Some(u64::try_from(used).unwrap_or(0)))
-            }
-            _ => Ok(None),
+impl<'r, R: Files + Clock> System for Calls<'r, R> {
+    // 0 where there is no clock.
+    fn second(&self) -> u64 {
+        match self.files.since_1970() {
+            Ok(now) => now.as_secs(),
+            Err(_) => 0,
         }
     }
+
+    fn make(&mut self, alloc: Global, request: &Request<'_>) -> Result<DirReply, AllocError> {
+        let made = self.call(alloc, request);
+        let (reply, _) = self.reply(made)?;
+        Ok(reply)
+    }
+
+    fn look(
+        &mut self,
+        alloc: Global,
+        folder: u32,
+        place: Place,
+        unique: &[u8],
+        purpose: &Purpose,
+    ) -> Result<(DirReply, Option<Row>), AllocError> {
+        let found = self.find(alloc, folder, place, unique, purpose);
+        let (reply, found) = self.reply(found)?;
+        match found {
+            Some(Some(name)) => Ok((reply, Some(row_of(name, 0)))),
+            _ => Ok((reply, None)),
+        }
+    }
+
+    fn used_files(
+        &mut self,
+        alloc: Global,
+        folder: u32,
+    ) -> Result<(DirReply, Vec<Row>), AllocError> {
+        self.reply_list(alloc, self.files_of_tmp(alloc, folder))
+    }
+}
+
+/// How a file or a directory is opened to be read.
+pub(crate) fn for_reading() -> OpenOptions {
+    let mut how = OpenOptions::new();
+    how.read(true);
+    how
+}
+
+// No job makes this call.
+fn unsupported() -> CallError {
+    CallError::Refused(Cause::System(ErrorKind::Unsupported))
 }
 
 // A row of a name. Sizes are not asked for: no job goes by them.
@@ -238,4 +269,18 @@ fn row_of(name: Bytes, stamp: u64) -> Row {
         stamp,
         size: 0,
     }
+}
+
+// The second of a regular file's last write or last read, the later one.
+fn used_at(about: &Metadata) -> Option<u64> {
+    if about.is_file() {
+        Some(second_of(about.mtime().max(about.atime())))
+    } else {
+        None
+    }
+}
+
+/// A time of the system in seconds since 1970. Before that it is 0.
+pub(crate) fn second_of(time: i64) -> u64 {
+    u64::try_from(time).unwrap_or(0)
 }

@@ -1,103 +1,115 @@
-//! Maildirs on a disk, as a backend.
+//! Maildirs on a disk.
 ghost use Rattle.std.specs.Prelude.{◌≡◌, []};
 
-use crate::backend::Backend;
-use crate::calls::Calls;
-use crate::entry::Entry;
-use crate::log::Log;
+use crate::calls::{Calls, second_of};
+use crate::cause::Cause;
+use crate::error::CallError;
+use crate::listing::{About, Listed};
+use crate::logged::Logged;
 use crate::paths::Folders;
-use crate::rows::{of_message, old_names};
-use md_dirs::{Bytes, FileName, Place, Row};
-use md_jobs::{DirReply, Moment, Request};
+use crate::reading::{all_names, names_once};
+use md_dirs::{Bytes, Place};
+use md_jobs::{DirReply, PathRef};
 use std::alloc::{AllocError, Global};
-use std::collections::VecDeque;
 use std::fs::Files;
+use std::os::unix::fs::MetadataExt;
 use std::time::Clock;
 
 /// Maildirs on a disk. A call on a name that is not UTF-8 is a fault, and is not made.
-#[derive(Drop)]
-pub struct Disk<'r, R: Files + Clock> {
-    calls: Calls<'r, R>,
-    log: Log,
-}
+pub type Disk<'r, R> = Logged<Calls<'r, R>>;
 
-impl<'r, R: Files + Clock> Disk<'r, R> {
+impl<'r, R: Files + Clock> Logged<Calls<'r, R>> {
     /// These maildirs. With `sync` a file is flushed before it is linked, and the directory after the link; a file that can't be flushed is
     /// not linked, and the reply is a fault.
     pub fn new(files: &'r R, folders: Folders, sync: bool) -> Self
         ensures { result.log.entries ≡ [] }
     {
-        Disk {
-            calls: Calls::new(files, folders, sync),
-            log: Log::new(),
-        }
+        Logged::over(Calls::new(files, folders, sync))
     }
 
     /// Whether a directory could not be flushed after a link that was done: the message is in new, but may be lost if the machine stops.
     pub fn is_unflushed(&self) -> bool {
-        self.calls.is_unflushed()
+        self.system.is_unflushed()
     }
 
-    /// All names of a directory but `.` and `..`, in no order, of a reading in which it rested. `Fault` where it never does.
-    pub(crate) fn names(
+    /// Why the last call that was not done was not: each reply but `Ok` has a cause, and a job that ends with `Fault` ends by its cause.
+    pub fn cause(&self) -> Option<Cause> {
+        self.system.cause()
+    }
+
+    /// Reads new and cur once each, and keeps their names, 32 bytes and the name each, as hints for errands on messages of this folder:
+    /// they take the place of all that were kept of it. An errand that acts on a hint needs no reading of its own. The reply is that of a
+    /// reading that was not done, and then nothing has changed. Refused only when out of memory.
+    pub fn read_ahead(&mut self, alloc: Global, folder: u32) -> Result<DirReply, AllocError> {
+        let made = self.keep_names(alloc, folder);
+        let (reply, _) = self.system.reply(made)?;
+        Ok(reply)
+    }
+
+    fn keep_names(&mut self, alloc: Global, folder: u32) -> Result<(), CallError> {
+        let news = self.names_now(alloc, folder, Place::New)?;
+        let curs = self.names_now(alloc, folder, Place::Cur)?;
+        Ok(self.system.hints.replace(folder, news, curs)?)
+    }
+
+    // All names of a directory, of one reading.
+    fn names_now(&self, alloc: Global, folder: u32, place: Place) -> Result<Vec<Bytes>, CallError> {
+        let path = self.system.folders.dir(alloc, folder, place)?;
+        names_once(alloc, self.system.files, path.as_str())
+    }
+
+    /// Keeps a name that the caller knows of a directory as a hint for errands on its message. Refused only when out of memory.
+    pub fn hint(
+        &mut self,
+        _alloc: Global,
+        folder: u32,
+        place: Place,
+        name: Bytes,
+    ) -> Result<(), AllocError> {
+        self.system.hints.add(folder, place, name)
+    }
+
+    /// Opens the message of a unique name for reading. It is looked for in new, and then in cur, and up to `tries` times, at least once,
+    /// where its name was gone when it was opened: after that the reply is a fault. `NotFound` where new and cur rested without it, and
+    /// where one of them is not there. What is no regular file is not opened. Refused only when out of memory.
+    pub fn open_message(
+        &mut self,
+        alloc: Global,
+        folder: u32,
+        unique: &[u8],
+        tries: u64,
+    ) -> Result<(DirReply, Option<R::File>), AllocError> {
+        let opened = self.system.open_message(alloc, folder, unique, tries);
+        self.system.reply(opened)
+    }
+
+    /// What a listing tells of a message for a call of the system. `NotFound` where its name is gone. Refused only when out of memory.
+    pub fn about(
+        &self,
+        alloc: Global,
+        folder: u32,
+        listed: &Listed,
+    ) -> Result<(DirReply, Option<About>), AllocError> {
+        let path = PathRef::new(folder, listed.place, listed.name.as_slice());
+        let (reply, about) = self.system.reply(self.system.metadata(alloc, &path))?;
+        match about {
+            None => Ok((reply, None)),
+            Some(about) => {
+                let size = about.len();
+                let changed = second_of(about.mtime());
+                Ok((reply, Some(About { size, changed })))
+            }
+        }
+    }
+
+    /// All names of a directory but `.` and `..`, in no order, of a reading in which it rested. Refused where it never does.
+    pub(crate) fn rested_names(
         &self,
         alloc: Global,
         folder: u32,
         place: Place,
-    ) -> Result<(DirReply, Vec<Bytes>), AllocError> {
-        self.calls.names(alloc, folder, place)
-    }
-}
-
-impl<'r, R: Files + Clock> Backend for Disk<'r, R> {
-    ghost log = { λ d. d.log.entries };
-
-    fn second(&self) -> u64 {
-        self.calls.second()
-    }
-
-    fn make(
-        &mut self,
-        alloc: Global,
-        at: Moment,
-        request: &Request<'_>,
-    ) -> Result<DirReply, AllocError> {
-        let reply = self.calls.make(alloc, request)?;
-        self.log.push(&Entry::new(request, at, reply, &[]));
-        Ok(reply)
-    }
-
-    fn find(
-        &mut self,
-        alloc: Global,
-        at: Moment,
-        folder: u32,
-        place: Place,
-        unique: &[u8],
-    ) -> Result<(DirReply, Option<Row>), AllocError> {
-        let (reply, row) = self.calls.look(alloc, folder, place, unique)?;
-        let row = of_message(row, unique);
-        let request = Request::List { folder, place };
-        self.log
-            .push(&Entry::new(&request, at, reply, row.as_slice()));
-        Ok((reply, row))
-    }
-
-    fn find_old(
-        &mut self,
-        alloc: Global,
-        at: Moment,
-        folder: u32,
-        seconds: u64,
-    ) -> Result<(DirReply, VecDeque<FileName>), AllocError> {
-        let (reply, rows) = self.calls.used_files(alloc, folder)?;
-        let old = old_names(alloc, rows.as_slice(), at.own, seconds)?;
-        let request = Request::List {
-            folder,
-            place: Place::Tmp,
-        };
-        self.log
-            .push(&Entry::new(&request, at, reply, rows.as_slice()));
-        Ok((reply, old))
+    ) -> Result<Vec<Bytes>, CallError> {
+        let path = self.system.folders.dir(alloc, folder, place)?;
+        all_names(alloc, self.system.files, path.as_str())
     }
 }

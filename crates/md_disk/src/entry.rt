@@ -4,14 +4,14 @@ ghost use Rattle.md_jobs.specs.Requests.{request_view};
 ghost use Rattle.md_disk.specs.Exchanges.{exchange};
 
 use md_dirs::Row;
-use md_jobs::{DirReply, Moment, Request};
+use md_jobs::{DirReply, Request};
 use std::marker::Model;
 
 /// A call, when it was made, what was replied, and of a reading its rows. Contracts see an exchange.
 #[derive(Drop)]
-pub struct Entry<'a> {
+pub(crate) struct Entry<'a> {
     request: &'a Request<'a>,
-    at: Moment,
+    second: u64,
     reply: DirReply,
     rows: &'a [Row],
 }
@@ -22,17 +22,22 @@ impl<'a> Model for Entry<'a> {
 
     ghost Value = { Exchange };
 
-    ghost view = { λ e. exchange (request_view e.request.now) e.at e.reply e.rows.now };
+    ghost view = { λ e. exchange (request_view e.request.now) e.second e.reply e.rows.now };
 }
 
 impl<'a> Entry<'a> {
-    /// A call with what was replied.
-    pub fn new(request: &'a Request<'a>, at: Moment, reply: DirReply, rows: &'a [Row]) -> Self
-        ensures { result ≡ exchange (request_view request.now) at reply rows.now }
+    /// A call at a second since 1970, with what was replied.
+    pub(crate) fn new(
+        request: &'a Request<'a>,
+        second: u64,
+        reply: DirReply,
+        rows: &'a [Row],
+    ) -> Self
+        ensures { result ≡ exchange (request_view request.now) second reply rows.now }
     {
         Entry {
             request,
-            at,
+            second,
             reply,
             rows,
         }

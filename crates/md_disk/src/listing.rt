@@ -1,9 +1,10 @@
 //! Listings of a folder.
 use crate::disk::Disk;
+use crate::error::CallError;
 use md_dirs::{Bytes, Place};
 use md_jobs::{CoreError, DirReply};
 use md_name::unique_part;
-use std::alloc::Global;
+use std::alloc::{AllocError, Global};
 use std::fs::Files;
 use std::time::Clock;
 
@@ -14,6 +15,15 @@ pub struct Listed {
     pub name: Bytes,
 }
 
+/// What a listing tells of a message beside its name.
+#[derive(Clone, Copy, Debug, PartialEq, Eq)]
+pub struct About {
+    /// Its size in bytes.
+    pub size: u64,
+    /// The second of the last change of its file, since 1970.
+    pub changed: u64,
+}
+
 /// The messages of a folder in order of the bytes of their unique names. New is read, and then cur; a message that both show is where cur
 /// shows it. Each is a reading in which its directory rested. The reply is that of the reading that was not done, and `Fault` where a
 /// directory never rests. Refused only when out of memory.
@@ -22,19 +32,24 @@ pub fn list_folder<R: Files + Clock>(
     disk: &Disk<'_, R>,
     folder: u32,
 ) -> Result<(DirReply, Vec<Listed>), CoreError> {
-    let (reply, news) = disk.names(alloc, folder, Place::New)?;
-    if reply != DirReply::Ok {
-        return Ok((reply, Vec::new(alloc)));
-    }
-    let (reply, curs) = disk.names(alloc, folder, Place::Cur)?;
-    if reply != DirReply::Ok {
-        return Ok((reply, Vec::new(alloc)));
-    }
-    Ok((DirReply::Ok, joined(alloc, news, curs)?))
+    Ok(
+        disk.system
+            .reply_list(alloc, listed_now(alloc, disk, folder))?,
+    )
+}
+
+fn listed_now<R: Files + Clock>(
+    alloc: Global,
+    disk: &Disk<'_, R>,
+    folder: u32,
+) -> Result<Vec<Listed>, CallError> {
+    let news = disk.rested_names(alloc, folder, Place::New)?;
+    let curs = disk.rested_names(alloc, folder, Place::Cur)?;
+    Ok(joined(alloc, news, curs)?)
 }
 
 // The messages of cur, and those of new that cur has not, in order.
-fn joined(alloc: Global, news: Vec<Bytes>, curs: Vec<Bytes>) -> Result<Vec<Listed>, CoreError> {
+fn joined(alloc: Global, news: Vec<Bytes>, curs: Vec<Bytes>) -> Result<Vec<Listed>, AllocError> {
     let mut listed = placed(alloc, curs, Place::Cur)?;
     let mut unseen = Vec::new(alloc);
     for entry in placed(alloc, news, Place::New)? {
@@ -50,7 +65,7 @@ fn joined(alloc: Global, news: Vec<Bytes>, curs: Vec<Bytes>) -> Result<Vec<Liste
 }
 
 // Names of one place, in order.
-fn placed(alloc: Global, names: Vec<Bytes>, place: Place) -> Result<Vec<Listed>, CoreError> {
+fn placed(alloc: Global, names: Vec<Bytes>, place: Place) -> Result<Vec<Listed>, AllocError> {
     let mut listed = Vec::new(alloc);
     for name in names {
         listed.push(Listed { place, name })?;

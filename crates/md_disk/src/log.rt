@@ -6,10 +6,10 @@ ghost use Rattle.md_disk.specs.Exchanges.{Exchange};
 use crate::entry::Entry;
 use std::marker::Model;
 
-/// The calls that were made, the oldest first, for contracts alone: it takes no bytes. Whoever writes a `Backend` of his own keeps one.
+/// The calls that were made, the oldest first, for contracts alone: it takes no bytes.
 #[derive(Drop)]
-pub struct Log {
-    pub ghost entries: { List Exchange },
+pub(crate) struct Log {
+    pub(crate) ghost entries: { List Exchange },
 }
 
 impl Model for Log {
@@ -22,7 +22,7 @@ unsafe impl Sync for Log {}
 
 impl Log {
     /// No call.
-    pub fn new() -> Log
+    pub(crate) fn new() -> Log
         ensures { result.entries ≡ [] }
     {
         Log {}
@@ -36,7 +36,7 @@ impl Log {
     }
 
     /// Adds a call.
-    pub fn push(&mut self, entry: &Entry<'_>)
+    pub(crate) fn push(&mut self, entry: &Entry<'_>)
         ensures { self.new.entries ≡ self.old.entries ++ entry.now ∷ [] }
     {
         *self = self.with(entry);

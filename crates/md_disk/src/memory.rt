@@ -1,94 +1,65 @@
 //! Directories in memory, as tests run jobs on them.
 ghost use Rattle.std.specs.Prelude.{◌≡◌, []};
 
-use crate::backend::Backend;
-use crate::entry::Entry;
-use crate::log::Log;
-use crate::rows::{of_message, old_names};
+use crate::logged::Logged;
+use crate::system::System;
 use md_dirs::{DirError, Dirs, FileName, Path, Place, Row};
-use md_jobs::{DirReply, Moment, PathRef, Request};
+use md_jobs::{DirReply, PathRef, Purpose, Request};
 use std::alloc::{AllocError, Global};
-use std::collections::VecDeque;
 
-/// Directories in memory (`Dirs`) as a backend, at a moment that the caller sets: for tests, without a disk.
+/// Directories in memory, at a moment that the caller sets.
 #[derive(Drop)]
-pub struct InMemory<D: Dirs> {
+pub struct Memory<D> {
     /// The directories.
     pub dirs: D,
     /// The time in seconds since 1970.
     pub second: u64,
-    /// The calls that were made.
-    pub log: Log,
 }
 
-impl<D: Dirs> InMemory<D> {
+/// Directories in memory (`Dirs`) on which jobs are run: for tests, without a disk.
+pub type InMemory<D> = Logged<Memory<D>>;
+
+impl<D: Dirs> Logged<Memory<D>> {
     /// These directories, of which no call was made.
     pub fn new(dirs: D, second: u64) -> Self
         ensures { result.log.entries ≡ [] }
     {
-        InMemory {
-            dirs,
-            second,
-            log: Log::new(),
-        }
+        Logged::over(Memory { dirs, second })
     }
 }
 
-impl<D: Dirs> Backend for InMemory<D> {
-    ghost log = { λ m. m.log.entries };
-
+impl<D: Dirs> System for Memory<D> {
     fn second(&self) -> u64 {
         self.second
     }
 
-    fn make(
-        &mut self,
-        alloc: Global,
-        at: Moment,
-        request: &Request<'_>,
-    ) -> Result<DirReply, AllocError> {
-        let reply = reply_of(make(alloc, &mut self.dirs, at, request))?;
-        self.log.push(&Entry::new(request, at, reply, &[]));
-        Ok(reply)
+    fn make(&mut self, alloc: Global, request: &Request<'_>) -> Result<DirReply, AllocError> {
+        reply_of(make(alloc, &mut self.dirs, self.second, request))
     }
 
-    fn find(
+    fn look(
         &mut self,
         _alloc: Global,
-        at: Moment,
         folder: u32,
         place: Place,
         unique: &[u8],
+        _purpose: &Purpose,
     ) -> Result<(DirReply, Option<Row>), AllocError> {
-        let (reply, row) = match self.dirs.find(folder, place, unique) {
-            Ok(row) => (DirReply::Ok, of_message(row, unique)),
-            Err(error) => (reply_of(Err(error))?, None),
-        };
-        let request = Request::List { folder, place };
-        self.log
-            .push(&Entry::new(&request, at, reply, row.as_slice()));
-        Ok((reply, row))
+        match self.dirs.find(folder, place, unique) {
+            Ok(row) => Ok((DirReply::Ok, row)),
+            Err(error) => Ok((reply_of(Err(error))?, None)),
+        }
     }
 
-    fn find_old(
+    fn used_files(
         &mut self,
         alloc: Global,
-        at: Moment,
         folder: u32,
-        seconds: u64,
-    ) -> Result<(DirReply, VecDeque<FileName>), AllocError> {
-        let (reply, rows) = match self.dirs.list(folder, Place::Tmp) {
-            Ok(rows) => (DirReply::Ok, rows),
-            Err(error) => (reply_of(Err(error))?, Vec::new(alloc)),
-        };
-        let old = old_names(alloc, rows.as_slice(), at.own, seconds)?;
-        let request = Request::List {
-            folder,
-            place: Place::Tmp,
-        };
-        self.log
-            .push(&Entry::new(&request, at, reply, rows.as_slice()));
-        Ok((reply, old))
+    ) -> Result<(DirReply, Vec<Row>), AllocError> {
+        match self.dirs.list(folder, Place::Tmp) {
+            Ok(rows) => Ok((DirReply::Ok, rows)),
+            Err(error) => Ok((reply_of(Err(error))?, Vec::new(alloc))),
+        }
     }
 }
 
@@ -116,12 +87,12 @@ fn owned(alloc: Global, path: &PathRef<'_>) -> Result<Path, AllocError> {
 fn make<D: Dirs>(
     alloc: Global,
     dirs: &mut D,
-    at: Moment,
+    second: u64,
     request: &Request<'_>,
 ) -> Result<(), DirError> {
     match request {
-        Request::Create { path } => dirs.create(&owned(alloc, path)?, at.clock),
-        Request::Append { path, bytes } => dirs.append(&owned(alloc, path)?, bytes, at.clock),
+        Request::Create { path } => dirs.create(&owned(alloc, path)?, second),
+        Request::Append { path, bytes } => dirs.append(&owned(alloc, path)?, bytes, second),
         Request::Link { old, new } => dirs.link(&owned(alloc, old)?, &owned(alloc, new)?),
         Request::Rename { old, new } => dirs.rename(&owned(alloc, old)?, &owned(alloc, new)?),
         Request::Unlink { path } => dirs.unlink(&owned(alloc, path)?),

@@ -1,14 +1,19 @@
 //! Readings of a directory.
 //!
-//! A reading is no one moment: a name that another process changes meanwhile may be shown twice, or not at all. So a name that was found may
-//! be used at once, since one that is gone by then is looked for again; but that a message is not there, that it has two names, and what
-//! stands in a listing, are believed only of a reading in which the directory rested.
+//! A reading is no one moment: a name that another process changes meanwhile may be shown twice, or not at all. So a name that an errand
+//! acts on is used at once, since one that is gone by then is looked for again. All else is believed only of a reading in which the
+//! directory rested: that a message is not there, that it has two names, that its name is as it should be, and what stands in a listing.
+use crate::acting::acts_on;
+use crate::cause::Cause;
+use crate::error::CallError;
+use crate::found::Found;
 use crate::names::{Names, is_entry, is_named};
-use crate::reply::refusal_of;
 use md_dirs::Bytes;
-use md_jobs::DirReply;
-use std::alloc::{AllocError, Global};
+use md_jobs::Purpose;
+use std::alloc::Global;
 use std::fs::Files;
+use std::io;
+use std::io::ErrorKind;
 use std::os::unix::fs::MetadataExt;
 use std::thread::sleep;
 use std::time::{Clock, Duration};
@@ -23,59 +28,50 @@ const GRAIN: i64 = 10_000_000;
 // How long is waited for a directory to rest, in milliseconds.
 const PAUSE: u64 = 5;
 
-/// The names of a message in a directory.
-#[derive(Drop)]
-enum Found {
-    None,
-    One(Bytes),
-    /// Two names or more have its unique part.
-    Many,
-}
-
-/// Looks for the name of a message in a directory. `Fault` where two of its names rest there, and where none was found in a directory that
-/// never rests.
+/// Looks for the name of a message in a directory, for an errand. Refused where two of its names rest there, and where the directory never
+/// rests and shows no name that the errand acts on.
 pub(crate) fn find_name<R: Files + Clock>(
     alloc: Global,
     files: &R,
     path: &str,
     unique: &[u8],
-) -> Result<(DirReply, Option<Bytes>), AllocError> {
+    purpose: &Purpose,
+) -> Result<Option<Bytes>, CallError> {
     for _ in 0..READINGS {
         let before = rested_since(files, path);
-        let found = match find_once(alloc, files, path, unique)? {
-            Ok(found) => found,
-            Err(reply) => return Ok((reply, None)),
-        };
-        if let Found::One(name) = found {
-            return Ok((DirReply::Ok, Some(name)));
+        match find_once(alloc, files, path, unique)? {
+            Found::One(name) if acts_on(purpose, name.as_slice()) => return Ok(Some(name)),
+            found if has_rested(files, path, before) => return rested_name(found),
+            _ => sleep(files, Duration::from_millis(PAUSE)),
         }
-        if has_rested(files, path, before) {
-            let reply = match found {
-                Found::Many => DirReply::Fault,
-                _ => DirReply::Ok,
-            };
-            return Ok((reply, None));
-        }
-        sleep(files, Duration::from_millis(PAUSE));
     }
-    Ok((DirReply::Fault, None))
+    Err(CallError::Refused(Cause::NeverRests))
 }
 
-/// All names of a directory but `.` and `..`, in no order, of a reading in which it rested. `Fault` where it never does.
+// What is found where this rests.
+fn rested_name(found: Found<Bytes>) -> Result<Option<Bytes>, CallError> {
+    match found {
+        Found::None => Ok(None),
+        Found::One(name) => Ok(Some(name)),
+        Found::Many => Err(CallError::Refused(Cause::TwoNames)),
+    }
+}
+
+/// All names of a directory but `.` and `..`, in no order, of a reading in which it rested. Refused where it never does.
 pub(crate) fn all_names<R: Files + Clock>(
     alloc: Global,
     files: &R,
     path: &str,
-) -> Result<(DirReply, Vec<Bytes>), AllocError> {
+) -> Result<Vec<Bytes>, CallError> {
     for _ in 0..READINGS {
         let before = rested_since(files, path);
-        let (reply, names) = names_once(alloc, files, path)?;
-        if reply != DirReply::Ok || has_rested(files, path, before) {
-            return Ok((reply, names));
+        let names = names_once(alloc, files, path)?;
+        if has_rested(files, path, before) {
+            return Ok(names);
         }
         sleep(files, Duration::from_millis(PAUSE));
     }
-    Ok((DirReply::Fault, Vec::new(alloc)))
+    Err(CallError::Refused(Cause::NeverRests))
 }
 
 /// All names of a directory but `.` and `..`, in no order, of one reading.
@@ -83,24 +79,18 @@ pub(crate) fn names_once<R: Files>(
     alloc: Global,
     files: &R,
     path: &str,
-) -> Result<(DirReply, Vec<Bytes>), AllocError> {
+) -> Result<Vec<Bytes>, CallError> {
     let mut all = Vec::new(alloc);
-    let dir = match files.open_dir(path) {
-        Ok(dir) => dir,
-        Err(error) => return Ok((refusal_of(&error), all)),
-    };
-    let mut names = Names::new(alloc, dir)?;
+    let mut names = open_names(alloc, files, path)?;
     for _ in 0..u64::MAX {
-        match names.advance() {
-            Ok(true) => {}
-            Ok(false) => break,
-            Err(_) => return Ok((DirReply::Fault, all)),
+        if !names.advance()? {
+            break;
         }
         if is_entry(names.name()) {
             all.push(Bytes::copied(alloc, names.name())?)?;
         }
     }
-    Ok((DirReply::Ok, all))
+    Ok(all)
 }
 
 // The names of a message that one reading shows.
@@ -109,31 +99,39 @@ fn find_once<R: Files>(
     files: &R,
     path: &str,
     unique: &[u8],
-) -> Result<Result<Found, DirReply>, AllocError> {
-    let dir = match files.open_dir(path) {
-        Ok(dir) => dir,
-        Err(error) => return Ok(Err(refusal_of(&error))),
-    };
-    let mut names = Names::new(alloc, dir)?;
+) -> Result<Found<Bytes>, CallError> {
     let mut found = Found::None;
+    let mut names = open_names(alloc, files, path)?;
     for _ in 0..u64::MAX {
-        match names.advance() {
-            Ok(true) => {}
-            Ok(false) => break,
-            Err(_) => return Ok(Err(DirReply::Fault)),
+        if !names.advance()? {
+            break;
         }
         if is_named(names.name(), unique) {
-            if !matches!(found, Found::None) {
-                return Ok(Ok(Found::Many));
+            if matches!(found, Found::One(_)) {
+                return Ok(Found::Many);
             }
             found = Found::One(Bytes::copied(alloc, names.name())?);
         }
     }
-    Ok(Ok(found))
+    Ok(found)
 }
 
-// When a directory was changed last, in seconds and nanoseconds since 1970, if that is longer ago than the grain of its times. None where it
-// is not, and where that can't be told.
+// Opens a directory to be read.
+fn open_names<R: Files>(alloc: Global, files: &R, path: &str) -> Result<Names<R::Dir>, CallError> {
+    let dir = files.open_dir(path).map_err(no_directory)?;
+    Ok(Names::new(alloc, dir)?)
+}
+
+/// What it says that a path in a directory can't be opened: where something is not there, that is the directory.
+pub(crate) fn no_directory(error: io::Error) -> Cause {
+    match error.kind() {
+        ErrorKind::NotFound => Cause::NoDirectory,
+        kind => Cause::System(kind),
+    }
+}
+
+// When a directory was changed last, in seconds and nanoseconds since 1970, if that is longer ago than the grain of its times. None where
+// it is not, and where that can't be told.
 fn rested_since<R: Files + Clock>(files: &R, path: &str) -> Option<(i64, i64)> {
     let changed = changed_at(files, path)?;
     let now = files.since_1970().ok()?;

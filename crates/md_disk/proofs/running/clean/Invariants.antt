@@ -6,7 +6,7 @@ use Rattle.md_disk.proofs.running.clean.Given as goal
 
 abbrev pub invariant-loop-cleaning : goal.invariant-loop-cleaning
 invariant-loop-cleaning g l =
-    IsUnderWay (λ c at. cleaning_turn c at.own) (new_cleaning l.fn.folder) (g.B.Backend.log l.fn.backend) (g.B.Backend.log l.backend) l.cleaning
+    IsUnderWay (λ c at. cleaning_turn c at.own) (new_cleaning l.fn.folder) l.fn.system.log.entries l.system.log.entries l.cleaning
     × (0 < names_left l.cleaning.stage)
 
 abbrev pub decreases-loop-cleaning : goal.decreases-loop-cleaning

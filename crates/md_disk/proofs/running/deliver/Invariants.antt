@@ -6,7 +6,7 @@ use Rattle.md_disk.proofs.running.deliver.Given as goal
 
 abbrev pub invariant-loop-delivery : goal.invariant-loop-delivery
 invariant-loop-delivery g l =
-    IsUnderWay (delivery_turn 1) (new_delivery l.fn.folder l.fn.unique l.fn.body l.fn.chunk) (g.B.Backend.log l.fn.backend) (g.B.Backend.log l.backend) l.delivery
+    IsUnderWay (delivery_turn 1) (new_delivery l.fn.folder l.fn.unique l.fn.body l.fn.chunk) l.fn.system.log.entries l.system.log.entries l.delivery
     × (0 < l.delivery.chunk)
 
 abbrev pub decreases-loop-delivery : goal.decreases-loop-delivery

@@ -7,7 +7,7 @@ use Rattle.md_disk.proofs.running.run_errand.Given as goal
 abbrev pub invariant-loop-errand : goal.invariant-loop-errand
 invariant-loop-errand g l =
     IsUnderWay (λ e at. errand_turn 1 e) (new_errand l.fn.folder l.fn.unique l.fn.purpose l.fn.tries)
-    (g.B.Backend.log l.fn.backend) (g.B.Backend.log l.backend) (errand_view l.errand)
+    l.fn.system.log.entries l.system.log.entries (errand_view l.errand)
 
 abbrev pub decreases-loop-errand : goal.decreases-loop-errand
 decreases-loop-errand g l = errand_left (errand_view l.errand)
