@@ -1,0 +1,66 @@
+-- What a program told its user of a message, and what it did since it last told of it.
+use Rattle.std.specs.Prelude.{ℕ, ◌≡◌, ◌⊎◌, List}
+use Rattle.md_dirs.specs.State.{State}
+use Rattle.md_dirs.specs.declared.paths.Path.{Path}
+use Rattle.md_log.specs.declared.line.Call.{Call}
+use Rattle.md_log.specs.declared.line.Call.TheVariants as call
+use Rattle.md_log.specs.declared.line.Deed.TheVariants as deed
+use Rattle.md_log.specs.declared.line.Reply.{Reply}
+use Rattle.md_log.specs.declared.line.Said.{Said}
+use Rattle.md_law.specs.History.{History, at, before, IsCall, IsBy, Since, IsUpTo}
+use Rattle.md_law.specs.Messages.{IsOf, IsMessageAt, IsThere}
+
+-- a message of a folder, of which an actor tells
+pub record Claim : Type 0 where
+  pub actor : List ℕ
+  pub folder : ℕ
+  pub unique : List ℕ
+
+-- the last step tells this of the message
+abbrev pub Tells : History → Claim → Said → Type 0
+Tells h c s = IsBy h c.actor × IsCall h (call.Answer s c.folder c.unique)
+
+-- the last step is no answer of the actor's about the message
+abbrev pub TellsNothing : History → Claim → Type 0
+TellsNothing h c = (s : Said) → Tells h c s → ⊥
+
+-- it was so at a step of the actor's own since its last answer about the message
+abbrev pub Own : (History → Type 0) → Claim → History → Type 0
+Own P c h = Since (λ m. IsBy m c.actor × TellsNothing m c × P m) (λ m. TellsNothing m c) h
+
+-- it is so now, or was so at a moment that a step of the actor's own, since its last answer about the message, had not passed: the moment
+-- before that step counts
+abbrev pub Lately : (History → Type 0) → Claim → History → Type 0
+Lately P c h = P h ⊎ ((m : History) × P m × IsUpTo m h × Own (λ k. IsUpTo (before k) m) c h)
+
+-- ---- the last step
+
+-- it acts on the message by a name of it, and is answered so
+abbrev pub ActsBy : Call → Claim → Reply → Type 0
+ActsBy (call.At deed.Unlink p r) c e = IsOf p c.folder c.unique × (r ≡ e)
+ActsBy (call.Between n old new r) c e = IsOf old c.folder c.unique × (r ≡ e)
+ActsBy other c e = ⊥
+
+abbrev pub ActsOn : History → Claim → Reply → Type 0
+ActsOn h c r = (k : Call) × IsCall h k × ActsBy k c r
+
+-- it reads a directory of the folder
+abbrev pub Looks : History → Claim → Type 0
+Looks h c = (place : _) × (r : Reply) × (shown : List (List ℕ)) × IsCall h (call.List c.folder place r shown)
+
+-- it adds the message to its folder
+abbrev pub AddsMessage : History → Claim → Type 0
+AddsMessage h c = (IsThere (at (before h)) c.folder c.unique → ⊥) × IsThere (at h) c.folder c.unique
+
+-- it takes the message from its folder
+abbrev pub TakesMessage : History → Claim → Type 0
+TakesMessage h c = IsThere (at (before h)) c.folder c.unique × (IsThere (at h) c.folder c.unique → ⊥)
+
+-- a path of the message is there before, and not after
+abbrev pub LosesPath : State → State → Claim → Type 0
+LosesPath old new c =
+    (p : Path) × (file : ℕ) × IsMessageAt old c.folder c.unique p file × (IsMessageAt new c.folder c.unique p file → ⊥)
+
+-- it changes the paths of the message
+abbrev pub ChangesMessage : History → Claim → Type 0
+ChangesMessage h c = LosesPath (at (before h)) (at h) c ⊎ LosesPath (at h) (at (before h)) c

@@ -1,0 +1,8 @@
+pub mod History
+pub mod Messages
+pub mod Files
+pub mod Readings
+pub mod Answers
+pub mod Clauses
+pub mod Law
+pub mod Owed

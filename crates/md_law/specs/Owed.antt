@@ -1,0 +1,64 @@
+-- What each program owes the others, so that a job which runs beside it keeps its promises: clauses that are sharper than those of the law
+-- of the same name, and further ones. Each says of a history that its last step breaks the clause.
+use Rattle.std.specs.Prelude.{ℕ, ◌≡◌, ◌≢◌, ◌≤◌, ◌-◌, List, Some, true}
+use Rattle.md_dirs.specs.State.{file_at, file_by}
+use Rattle.md_dirs.specs.declared.paths.File.{File}
+use Rattle.md_dirs.specs.declared.paths.Path.{Path}
+use Rattle.md_dirs.specs.declared.paths.Place.TheVariants.{Tmp, New}
+use Rattle.md_name.specs.Names.{unique_of}
+use Rattle.md_log.specs.declared.line.Call.TheVariants as call
+use Rattle.md_log.specs.declared.line.Naming.{Naming}
+use Rattle.md_log.specs.declared.line.Reply.{Reply}
+use Rattle.md_log.specs.declared.line.Reply.TheVariants as reply
+use Rattle.md_law.specs.History.{History, at, now, before, IsCall, IsBy, Once}
+use Rattle.md_law.specs.Messages.{is_message, IsSeen, IsMessageAt}
+use Rattle.md_law.specs.Files.{Names, Adds, Writes, WasInCur, IsMaker}
+
+-- the last step is a write to the file, done or failed: one that failed may have left a part of its bytes
+abbrev pub MayWrite : History → ℕ → Type 0
+MayWrite h file = (r : Reply) × (r ≢ reply.NotFound) × Writes h file r
+
+-- "Using maildir format", tmp/unique is the deliverer's own: a file is written to by another actor than made it. (Also where the write
+-- failed.)
+abbrev pub Mixed : History → Type 0
+Mixed h = (actor : List ℕ) × (file : ℕ) × IsBy h actor × MayWrite h file × (IsMaker (before h) actor file → ⊥)
+
+-- "Using maildir format", a message is written in tmp: a file is written to that readers saw once.
+abbrev pub Rewritten : History → Type 0
+Rewritten h = (file : ℕ) × MayWrite h file × Once (λ m. IsSeen (at m) file) (before h)
+
+-- "Using maildir format", who wrote tmp/unique links it to new/unique: a file that readers don't see gets a path by another actor than made
+-- it. (It may be taken away, after 36 hours.)
+abbrev pub NamedByAnother : History → Type 0
+NamedByAnother h = (actor : List ℕ) × (p : Path) × (file : ℕ) × IsBy h actor × Names h p file × (IsSeen (at (before h)) file → ⊥)
+    × (IsMaker h actor file → ⊥)
+
+-- maildir(5), new has what no reader has seen: a path in new comes to name a file that once was a message in cur, otherwise than by a link
+-- or rename of a message in new. (An unread message may be moved and copied, though a copy of it was read.)
+abbrev pub MovedBack : History → Type 0
+MovedBack h = (p : Path) × (file : ℕ) × Names h p file × (is_message p ≡ true) × (p.place ≡ New) × WasInCur (before h) file
+    × ((n : Naming) (old new : Path) (r : Reply) → IsCall h (call.Between n old new r) → is_message old ≡ true → old.place ≡ New → ⊥)
+
+-- "Using maildir format", names are unique: a path of a message is added, and its unique name is that of a message in another folder.
+abbrev pub InTwoFolders : History → Type 0
+InTwoFolders h = (p q : Path) × (m n : ℕ) × Adds h p m × (p.folder ≢ q.folder)
+    × IsMessageAt (at h) p.folder (unique_of p.name) p m × IsMessageAt (at h) q.folder (unique_of p.name) q n
+
+-- the file is, or was, a message of the unique name, in any folder
+abbrev pub WasOf : History → List ℕ → ℕ → Type 0
+WasOf h unique file = Once (λ m. (p : Path) × IsMessageAt (at m) p.folder unique p file) h
+
+-- The same, of messages that were: a path of a message comes to name a file that never was a message of its unique name, and another file
+-- was.
+abbrev pub UsedAgain : History → Type 0
+UsedAgain h = (p : Path) × (file other : ℕ) × Names h p file × (is_message p ≡ true) × (other ≢ file)
+    × WasOf (before h) (unique_of p.name) other × (WasOf (before h) (unique_of p.name) file → ⊥)
+
+-- The same, of tmp: a path of tmp comes to name a file, and once named another.
+abbrev pub MadeAgain : History → Type 0
+MadeAgain h = (p : Path) × (file other : ℕ) × Names h p file × (p.place ≡ Tmp) × (other ≢ file)
+    × Once (λ m. file_at (at m) p ≡ Some other) (before h)
+
+-- "Using maildir format", the deliverer gives up after 24 hours: a file that nobody has written to for 36 hours is written to.
+abbrev pub WrittenLate : History → Type 0
+WrittenLate h = (n : ℕ) × (file : File) × MayWrite h n × (file_by (at (before h)).files n ≡ Some file) × (129600 ≤ now h - file.stamp)

@@ -1,0 +1,16 @@
+pub mod Tests
+pub mod Changing
+pub mod Seeing
+pub mod Stepping
+pub mod Growing
+pub mod Once
+pub mod Keeping
+pub mod Telling
+pub mod Finding
+pub mod Owing
+pub mod Pairs
+pub mod Remembering
+pub mod Noticing
+pub mod Recounting
+pub mod Judging
+pub mod Touching

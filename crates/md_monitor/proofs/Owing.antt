@@ -1,0 +1,92 @@
+-- What a monitor finds by files of what each program owes is what each owes.
+use Rattle.std.proofs.Common.{ℕ, ◌≡◌, ◌≢◌, ◌-◌, ◌≤◌, Some, Bool, true, refl, sym, subst}
+use Rattle.std.specs.Bool.{Decides}
+use Rattle.std.proofs.lemmas.Bool.Decides.{Decides-and, Decides-not, Decides-like}
+use Rattle.std.proofs.lemmas.Bool.{leb-true, le-leb}
+use Rattle.md_dirs.specs.State.{file_by}
+use Rattle.md_dirs.specs.declared.paths.Path.{Path}
+use Rattle.md_dirs.specs.declared.paths.Place.TheVariants.{New}
+use Rattle.md_dirs.specs.declared.paths.File.{File}
+use Rattle.md_log.specs.declared.line.Call.{Call}
+use Rattle.md_log.specs.declared.line.Call.TheVariants as call
+use Rattle.md_log.specs.declared.line.Naming.{Naming}
+use Rattle.md_log.specs.declared.line.Reply.{Reply}
+use Rattle.md_log.specs.declared.line.Reply.TheVariants as reply
+use Rattle.md_log.specs.declared.line.Step.{Step}
+use Rattle.md_law.specs.History.{History, next, at, now, Once}
+use Rattle.md_law.specs.Messages.{is_message, IsSeen}
+use Rattle.md_law.specs.Files.{IsMaker}
+use Rattle.md_law.specs.Owed as owed
+use Rattle.md_monitor.specs.Files.{files_kept, is_new}
+use Rattle.md_monitor.specs.Found as found
+use Rattle.md_monitor.proofs.Tests.{some-and, not_found-is, new-is}
+use Rattle.md_monitor.proofs.Seeing.{seen-is}
+use Rattle.md_monitor.proofs.Stepping.{is-call, is-by}
+use Rattle.md_monitor.proofs.Keeping.{kept}
+use Rattle.md_monitor.proofs.Once.{named-is}
+use Rattle.md_monitor.proofs.Telling.{made-it, other-than, back-is, written-is}
+
+-- a call from a path of a message in new
+abbrev IsFromNew : Call → Type 0
+IsFromNew c = (n : Naming) × (old new : Path) × (r : Reply) × (c ≡ call.Between n old new r) × ((is_message old ≡ true) × (old.place ≡ New))
+
+from_new-is : (c : Call) → Decides (found.is_from_new c) (IsFromNew c)
+from_new-is (call.Between n old new r) =
+    let both = Decides-and (is_message old) (is_new old.place) (λ t. t, λ t. t) (new-is old.place) in (
+      λ t. (n, old, new, r, refl, both.0 t),
+      λ (m, o, q, e, is, here). let same : old ≡ o = cc is in both.1 (subst (λ p. (is_message p ≡ true) × (p.place ≡ New)) (sym same) here),
+    )
+from_new-is c = (λ t. absurd (cc), λ (m, o, q, e, is, here). absurd (cc is))
+
+module _ (past : History) (x : Step) where
+  abbrev h : History
+  h = next past x
+
+  may_write-is : (test : ℕ → Bool) (P : ℕ → Type 0) → ((n : ℕ) → Decides (test n) (P n))
+      → Decides (found.may_write (at past) (now h) (files_kept past) x test) ((n : ℕ) × owed.MayWrite h n × P n)
+  may_write-is test P each = Decides-like _
+      (λ (n, r, answer, wrote, holds). (n, (r, answer, wrote), holds))
+      (λ (n, may, holds). (n, may.0, may.1, may.2, holds))
+      (written-is past x _ (λ r. r ≢ reply.NotFound) (λ r. Decides-not _ (not_found-is r)) test P each)
+
+  pub mixed : Decides (found.owes_mixed (at past) (now h) (files_kept past) x) (owed.Mixed h)
+  mixed = Decides-like _
+      (λ (n, may, other). (x.actor, n, (is-by past x x.actor).1 refl, may, other))
+      (λ (actor, n, by, may, other). (n, may, other-than past x past actor n by other))
+      (may_write-is _ (λ n. IsMaker past x.actor n → ⊥) (λ n. Decides-not _ (made-it past n x.actor)))
+
+  pub rewritten : Decides (found.owes_rewritten (at past) (now h) (files_kept past) x) (owed.Rewritten h)
+  rewritten = may_write-is _ (λ n. Once (λ m. IsSeen (at m) n) past) (λ n. (kept past n).was_seen)
+
+  pub named_by_another : Decides (found.owes_named_by_another (at past) (now h) (files_kept past) x) (owed.NamedByAnother h)
+  unfolding files_kept
+  named_by_another = Decides-like _
+      (λ (p, n, new, both). (x.actor, p, n, (is-by past x x.actor).1 refl, new, both.0, both.1))
+      (λ (actor, p, n, by, new, hidden, other). (p, n, new, (hidden, other-than past x h actor n by other)))
+      (named-is past x _ (λ p n. (IsSeen (at past) n → ⊥) × (IsMaker h x.actor n → ⊥))
+      (λ e. Decides-and _ _ (Decides-not _ (seen-is (at past) e.1)) (Decides-not _ (made-it h e.1 x.actor))))
+
+  pub moved_back : Decides (found.owes_moved_back (at past) (now h) (files_kept past) x) (owed.MovedBack h)
+  moved_back = Decides-like _
+      (λ ((p, n, new, both), other). (
+        p,
+        n,
+        new,
+        both.0.0,
+        both.0.1,
+        both.1,
+        λ m o q r is message place. other (m, o, q, r, (is-call past x _).0 is, (message, place)),
+      ))
+      (λ (p, n, new, message, place, was, other). (
+        (p, n, new, ((message, place), was)),
+        λ (m, o, q, r, is, here). other m o q r ((is-call past x _).1 is) here.0 here.1,
+      ))
+      (Decides-and _ _ (back-is past x) (Decides-not _ (from_new-is x.call)))
+
+  pub written_late : Decides (found.owes_written_late (at past) (now h) (files_kept past) x) (owed.WrittenLate h)
+  written_late = Decides-like _
+      (λ (n, may, (file, is, old)). (n, file, may, is, old))
+      (λ (n, file, may, is, old). (n, may, (file, is, old)))
+      (may_write-is _ (λ n. (file : File) × (file_by (at past).files n ≡ Some file) × (129600 ≤ now h - file.stamp))
+      (λ n. some-and (file_by (at past).files n) _ (λ file. 129600 ≤ now h - file.stamp)
+      (λ file. (leb-true 129600 (now h - file.stamp), le-leb 129600 (now h - file.stamp)))))

@@ -1,0 +1,75 @@
+-- The monitor of the clauses that go by files and paths: what it keeps, and what it finds.
+use Rattle.std.specs.Prelude.{ℕ, Option, Bool, true, false, not, ◌&&◌}
+use Rattle.std.specs.Option.{option_map, option_or}
+use Rattle.md_dirs.specs.State.{State}
+use Rattle.md_dirs.specs.declared.calls.DirError.{DirError}
+use Rattle.md_dirs.specs.declared.paths.Path.{Path}
+use Rattle.md_log.specs.declared.clause.Clause.{Clause}
+use Rattle.md_log.specs.declared.clause.Clause.TheVariants as clause
+use Rattle.md_log.specs.declared.line.Call.{Call}
+use Rattle.md_log.specs.declared.line.Call.TheVariants as call
+use Rattle.md_log.specs.declared.line.Reply.{Reply}
+use Rattle.md_log.specs.declared.line.Reply.TheVariants as reply
+use Rattle.md_log.specs.declared.line.Step.{Step}
+use Rattle.md_law.specs.History.{History, ask_at, ask_between}
+use Rattle.md_law.specs.Clauses.{reply_by}
+use Rattle.md_monitor.specs.Changes.{change_of}
+use Rattle.md_monitor.specs.Files.{FileKept, is_fault, written_by, flushed_by, made_by, files_kept, kept_after}
+use Rattle.md_monitor.specs.Messages.{MessagesKept, messages_kept, messages_after, breaks_two_names, breaks_gone, breaks_used_again}
+use Rattle.md_monitor.specs.Found.{breaks_by_files}
+
+-- ---- what is kept
+
+-- What the monitor keeps.
+pub record Kept : Type 0 where
+  pub files : ℕ → FileKept
+  pub messages : MessagesKept
+
+abbrev pub kept_of : History → Kept
+kept_of h = record { files = files_kept h; messages = messages_kept h }
+
+abbrev pub kept_next : State → Step → Kept → Kept
+kept_next s x kept = record { files = kept_after s x kept.files; messages = messages_after s x kept.messages }
+
+-- the one file of which a call changes what is kept
+abbrev pub touched_by : State → Call → Option ℕ
+touched_by s c =
+    option_or (option_map (λ (w : ℕ × Reply). w.0) (written_by s c))
+    (option_or (flushed_by s c) (option_or (made_by s c) (option_map (λ (e : Path × ℕ). e.1) (change_of s c).named)))
+
+-- ---- what is found
+
+-- both are one answer
+abbrev pub is_reply : Reply → Reply → Bool
+is_reply reply.Ok reply.Ok = true
+is_reply reply.More reply.More = true
+is_reply reply.Exists reply.Exists = true
+is_reply reply.NotFound reply.NotFound = true
+is_reply reply.Fault reply.Fault = true
+is_reply r q = false
+
+abbrev pub is_wrong_reply : Reply → Option DirError → Bool
+is_wrong_reply r refusal = not (is_fault r) && not (is_reply r (reply_by refusal))
+
+-- a call on paths is answered as the directories never answer it, at a clock
+abbrev pub is_wrong_ask : State → ℕ → Call → Bool
+is_wrong_ask s now (call.At d p r) = is_wrong_reply r ((ask_at d p now).refusal s)
+is_wrong_ask s now (call.Between n old new r) = is_wrong_reply r ((ask_between n old new).refusal s)
+is_wrong_ask s now c = false
+
+-- the step breaks the clause, by the directories before it, the clock after it, and what was kept: one that goes by files and paths. Of
+-- NotADirectory this has calls on paths alone
+abbrev pub breaks_by_paths : State → ℕ → Kept → Step → Clause → Bool
+breaks_by_paths s now kept x clause.NotADirectory = is_wrong_ask s now x.call
+breaks_by_paths s now kept x clause.TwoNames = breaks_two_names s now kept.messages x
+breaks_by_paths s now kept x clause.Gone = breaks_gone s now kept.messages x
+breaks_by_paths s now kept x clause.UsedAgain = breaks_used_again s now kept.messages x
+breaks_by_paths s now kept x c = breaks_by_files s now kept.files x c
+
+-- the clause goes by files and paths, at a call that reads no directory
+abbrev pub GoesByPaths : Call → Clause → Type 0
+GoesByPaths c clause.Unlisted = ⊥
+GoesByPaths c clause.GaveUp = ⊥
+GoesByPaths c clause.AnsweredFalsely = ⊥
+GoesByPaths (call.List folder place r shown) clause.NotADirectory = ⊥
+GoesByPaths c b = Unit {0}
