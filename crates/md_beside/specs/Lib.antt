@@ -1,0 +1,4 @@
+pub mod Story
+pub mod Beside
+pub mod Delivery
+pub mod Runs
