@@ -1,0 +1,75 @@
+//! `deolmutt` delivers, lists, reads and changes the mail of maildirs by the jobs of `md_jobs`, beside any other programs that keep to the
+//! maildir format.
+//!
+//! What it does for its words, and the statuses that it ends with, is in `entry`. Here its words are read.
+#![tactic(auto)]
+
+mod acting;
+mod boxes;
+mod change;
+mod checking;
+mod complaint;
+mod delivering;
+mod entry;
+mod escape;
+mod failure;
+mod key;
+mod lines;
+mod mailbox;
+mod messages;
+mod options;
+mod order;
+mod output;
+mod row;
+mod session;
+mod showing;
+mod status;
+mod trouble;
+mod usage;
+
+use entry::program;
+use session::Session;
+use status::Status;
+use std::io::ErrorKind;
+use std::process::ExitCode;
+use std::{env, io};
+
+fn main(rt: HostRuntime) -> ExitCode {
+    ExitCode::from(run(&rt).number())
+}
+
+fn run(rt: &HostRuntime) -> Status {
+    let args = match read_args(rt) {
+        Ok(args) => args,
+        Err(error) => return refuse(rt, error.kind()),
+    };
+    let words = args.iter().map(|arg| arg.as_str());
+    match words.collect::<Vec<&str>>(rt.alloc()) {
+        Ok(words) => {
+            let session = Session {
+                host: rt,
+                alloc: rt.alloc(),
+                pid: u64::from(std::process::id(rt.process())),
+            };
+            program(&session, &words)
+        }
+        Err(_) => refuse(rt, ErrorKind::OutOfMemory),
+    }
+}
+
+// The words after the program's name.
+fn read_args(rt: &HostRuntime) -> io::Result<Vec<String>> {
+    Ok(env::args(rt)?.skip(1).collect::<Vec<String>>(rt.alloc())?)
+}
+
+fn refuse(rt: &HostRuntime, kind: ErrorKind) -> Status {
+    let (why, status) = match kind {
+        ErrorKind::OutOfMemory => ("deolmutt: out of memory", Status::TryAgain),
+        _ => (
+            "deolmutt: a word is not UTF-8; try 'deolmutt --help'",
+            Status::Usage,
+        ),
+    };
+    let _ = eprintln!(rt; "{why}");
+    status
+}

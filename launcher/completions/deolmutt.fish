@@ -1,0 +1,31 @@
+# Completions for fish of deolmutt, made by launcher/make-pages from launcher/words.txt.
+
+complete -c deolmutt -f
+complete -c deolmutt -n 'test (count (commandline -opc)) -eq 1' -a make -d 'Makes a maildir, of folders of mode 0700; what is there stays'
+complete -c deolmutt -n 'test (count (commandline -opc)) -eq 1' -a deliver -d 'Delivers the message on standard input, of at most 16777216 bytes'
+complete -c deolmutt -n 'test (count (commandline -opc)) -eq 1' -a list -d 'Prints a line for each message: its place, its flags and its unique name, parted by tabs'
+complete -c deolmutt -n 'test (count (commandline -opc)) -eq 1' -a read -d 'Prints the bytes of a message'
+complete -c deolmutt -n 'test (count (commandline -opc)) -eq 1' -a seen -d 'Moves messages from new to cur, with the flag S'
+complete -c deolmutt -n 'test (count (commandline -opc)) -eq 1' -a flag -d 'Changes the flags of messages in cur'
+complete -c deolmutt -n 'test (count (commandline -opc)) -eq 1' -a move -d 'Moves messages to another maildir; place and flags stay'
+complete -c deolmutt -n 'test (count (commandline -opc)) -eq 1' -a copy -d 'Gives messages a second one of their files in another maildir, under a fresh name'
+complete -c deolmutt -n 'test (count (commandline -opc)) -eq 1' -a expunge -d 'Takes away messages of cur that have the flag T'
+complete -c deolmutt -n 'test (count (commandline -opc)) -eq 1' -a clean -d 'Takes away files of tmp that were not used for 36 hours'
+complete -c deolmutt -n 'test (count (commandline -opc)) -eq 1' -a check -d 'Prints what breaks the format of a maildir, a line for each flaw'
+complete -c deolmutt -n 'test (count (commandline -opc)) -eq 1' -a help -d 'Print this message or the help of the given subcommand(s)'
+complete -c deolmutt -s h -l help -d 'Print help'
+complete -c deolmutt -n 'test (count (commandline -opc)) -eq 1' -s V -l version -d 'Print version'
+complete -c deolmutt -n 'contains -- (commandline -opc)[2] deliver' -l folder -x -d 'Delivers to the folder BOX/.NAME (Maildir++)'
+complete -c deolmutt -n 'contains -- (commandline -opc)[2] deliver' -l no-sync -d 'Leaves it to the system when what was written reaches the disk'
+complete -c deolmutt -n 'contains -- (commandline -opc)[2] deliver' -l many -d 'Reads an mbox (mboxrd), and stops at the first message that is not delivered'
+complete -c deolmutt -n 'contains -- (commandline -opc)[2] deliver' -l print -d 'Prints the unique name of each message'
+complete -c deolmutt -n 'contains -- (commandline -opc)[2] list' -l json -d 'Prints an object of JSON for each message'
+complete -c deolmutt -n 'contains -- (commandline -opc)[2] list' -l headers -d 'Adds its size, the second of its date, its sender and its subject'
+complete -c deolmutt -n 'contains -- (commandline -opc)[2] flag' -l add -x -d 'The flags that are added, in place of CHANGE'
+complete -c deolmutt -n 'contains -- (commandline -opc)[2] flag' -l remove -x -d 'The flags that are removed, in place of CHANGE'
+complete -c deolmutt -n 'test (count (commandline -opc)) -eq 2; and contains -- (commandline -opc)[2] make deliver list read seen flag move copy expunge clean check' -a '(__fish_complete_directories (commandline -ct))'
+complete -c deolmutt -n 'test (count (commandline -opc)) -ge 3; and contains -- (commandline -opc)[2] make deliver list clean check' -a '(__fish_complete_directories (commandline -ct))'
+complete -c deolmutt -n 'test (count (commandline -opc)) -eq 3; and contains -- (commandline -opc)[2] move copy' -a '(__fish_complete_directories (commandline -ct))'
+complete -c deolmutt -n 'test (count (commandline -opc)) -ge 3; and contains -- (commandline -opc)[2] read seen flag expunge' -F
+complete -c deolmutt -n 'test (count (commandline -opc)) -ge 4; and contains -- (commandline -opc)[2] move copy' -F
+complete -c deolmutt -n 'test (count (commandline -opc)) -eq 2; and contains -- (commandline -opc)[2] help' -k -a 'make deliver list read seen flag move copy expunge clean check'
