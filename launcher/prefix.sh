@@ -1,4 +1,4 @@
-# The folder below which programs are installed.
+# The folder below which the program is installed.
 
 set_prefix() {
   prefix=

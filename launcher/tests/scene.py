@@ -17,7 +17,6 @@ TOOLS = '''basename cat chmod cp cut date dirname find grep head mkdir mktemp mv
 tail touch wc'''.split()
 
 PROGRAM = 'crates/maildir_cli/out/maildir_cli'
-MAIL_PROGRAM = 'crates/deolmutt/out/deolmutt'
 TOOLCHAIN = 'the toolchain of a test\n'
 SCRIPT = 'folder inbox\nlist inbox\n'
 
@@ -27,8 +26,6 @@ md_name_tests: md_name
 md_dirs: md_name indexmap
 md_core: md_name md_dirs
 maildir_cli: md_core clap
-deolmutt: md_name md_disk clap
-md_disk: md_dirs
 """
 MADE_OF = ['md_name', 'md_dirs', 'md_core', 'maildir_cli']
 
@@ -66,7 +63,7 @@ class Scene(unittest.TestCase):
         self.copy_tree()
         for tool in TOOLS:
             os.symlink(shutil.which(tool), self.path('tools', tool))
-        for fake in ('rt', 'maildir_cli', 'mail'):
+        for fake in ('rt', 'maildir_cli'):
             shutil.copy(os.path.join(HERE, 'fake', fake), os.path.join(self.bin, fake))
         self.environment = {
             'PATH': f"{self.bin}:{self.path('tools')}",
@@ -88,7 +85,7 @@ class Scene(unittest.TestCase):
         without_tests = shutil.ignore_patterns('tests', '__pycache__')
         shutil.copytree(os.path.join(TOP, 'launcher'), os.path.join(self.top, 'launcher'), ignore=without_tests)
         os.makedirs(os.path.join(self.top, 'docs'))
-        for file in ('deolmutt', 'docs/maildir_cli.1', 'docs/deolmutt.1'):
+        for file in ('deolmutt', 'docs/maildir_cli.1'):
             shutil.copy(os.path.join(TOP, file), os.path.join(self.top, file))
         # A launcher that looks at its job more often makes the tests quicker.
         work = os.path.join(self.top, 'launcher', 'work.sh')
@@ -136,16 +133,9 @@ class Scene(unittest.TestCase):
 
     def build(self):
         """Leaves what `deolmutt build` leaves, which a test of that compares with this."""
-        return self.leave_build(PROGRAM, 'maildir_cli')
-
-    def build_mail(self):
-        """Leaves what `deolmutt build mail` leaves."""
-        return self.leave_build(MAIL_PROGRAM, 'mail')
-
-    def leave_build(self, program, fake):
-        program = os.path.join(self.top, program)
+        program = os.path.join(self.top, PROGRAM)
         os.makedirs(os.path.dirname(program))
-        shutil.copy(os.path.join(self.bin, fake), program)
+        shutil.copy(os.path.join(self.bin, 'maildir_cli'), program)
         self.write(f'{program}.built', TOOLCHAIN)
         return program
 

@@ -1,6 +1,5 @@
 """Installing below a prefix, and taking back exactly that."""
 
-import functools
 import hashlib
 import os
 import shutil
@@ -8,7 +7,7 @@ import stat
 import subprocess
 import unittest
 
-from scene import MAIL_PROGRAM, PROGRAM, Scene, without_rights
+from scene import PROGRAM, Scene, without_rights
 
 # What is installed, as users expect it below a prefix, and where each comes from.
 INSTALLED = {
@@ -18,22 +17,15 @@ INSTALLED = {
     'share/zsh/site-functions/_maildir_cli': 'launcher/completions/_maildir_cli',
     'share/fish/vendor_completions.d/maildir_cli.fish': 'launcher/completions/maildir_cli.fish',
 }
-MAIL = {
-    'bin/deolmutt': MAIL_PROGRAM,
-    'share/man/man1/deolmutt.1': 'docs/deolmutt.1',
-    'share/bash-completion/completions/deolmutt': 'launcher/completions/deolmutt.bash',
-    'share/zsh/site-functions/_deolmutt': 'launcher/completions/_deolmutt',
-    'share/fish/vendor_completions.d/deolmutt.fish': 'launcher/completions/deolmutt.fish',
-}
 MANIFEST = 'share/deolmutt/manifest'
 
 
-class Prefixed(Scene):
-    """A prefix, and what may be asked of it."""
+class Install(Scene):
 
     def setUp(self):
         super().setUp()
         self.prefix = self.path('a prefix')
+        self.build()
 
     def below(self, *words):
         return os.path.join(self.prefix, *words)
@@ -67,21 +59,13 @@ class Prefixed(Scene):
         self.assertIn(text, ran.stderr.splitlines()[-1])
         self.assertEqual(self.tree() if os.path.isdir(self.prefix) else None, before)
 
-    def assert_installed(self, expected=None):
-        expected = expected or INSTALLED
+    def assert_installed(self):
         files = {path: text for path, text in self.tree().items() if text is not None}
-        self.assertEqual({*files}, {*expected, MANIFEST})
-        for path, source in expected.items():
+        self.assertEqual({*files}, {*INSTALLED, MANIFEST})
+        for path, source in INSTALLED.items():
             self.assertEqual(files[path], self.read(os.path.join(self.top, source)))
             mode = 0o755 if path.startswith('bin/') else 0o644
             self.assertEqual(stat.S_IMODE(os.stat(self.below(path)).st_mode), mode, path)
-
-
-class Install(Prefixed):
-
-    def setUp(self):
-        super().setUp()
-        self.build()
 
     def test_an_empty_prefix_gets_all_and_gives_all_back(self):
         os.mkdir(self.prefix)
@@ -269,9 +253,7 @@ class Install(Prefixed):
 
     def test_a_program_that_is_not_built_is_refused(self):
         shutil.rmtree(os.path.join(self.top, 'crates', 'maildir_cli', 'out'))
-        self.assert_refused(70, 'nothing is installed, since no program is built', 'install')
-        for command in ('build', 'build mail', 'build judge'):
-            self.assertIn(f"'{self.top}/deolmutt {command}'", self.run_launcher('install').stderr)
+        self.assert_refused(70, f"'{self.top}/deolmutt build'", 'install')
 
     def test_a_file_that_is_missing_here_is_named(self):
         os.remove(os.path.join(self.top, 'docs', 'maildir_cli.1'))
@@ -318,84 +300,7 @@ class Install(Prefixed):
     def test_it_says_where_its_program_is_not_found(self):
         self.assertIn('is not on the path', self.install().stderr)
         environment = {**self.environment, 'PATH': f"{self.below('bin')}:{self.environment['PATH']}"}
-        self.assertNotIn('is not on the path', self.install(env=environment).stderr)
-
-
-class Programs(Prefixed):
-    """Which programs are installed: those that are built."""
-
-    def setUp(self):
-        super().setUp()
-        os.mkdir(self.prefix)
-
-    def build_all(self):
-        self.build()
-        self.build_mail()
-
-    def assert_left_out(self, *names):
-        """A line for each program that is left out, with what would build it."""
-        commands = {'deolmutt': 'build mail', 'maildir_cli': 'build', 'maildir_judge': 'build judge'}
-        said = [line for line in self.install().stderr.splitlines() if 'left out' in line]
-        self.assertEqual(len(said), len(names), said)
-        for line, name in zip(said, names):
-            self.assertRegex(line, f'^deolmutt: {name} is left out, since ')
-            self.assertIn(f"'{self.top}/deolmutt {commands[name]}' proves and builds it", line)
-
-    def test_mail_alone(self):
-        self.build_mail()
-        self.assert_left_out('maildir_cli', 'maildir_judge')
-        self.assert_installed(MAIL)
-        run = functools.partial(subprocess.run, input='a message\n', capture_output=True, text=True, env=self.environment, check=True)
-        self.assertEqual(run([self.below('bin', 'deolmutt'), 'deliver', 'Mail']).stdout, '[deliver][Mail]\na message\n')
-        self.uninstall()
-        self.assertEqual(self.tree(), {})
-
-    def test_the_player_alone(self):
-        self.build()
-        self.assert_left_out('deolmutt', 'maildir_judge')
-        self.assert_installed()
-
-    def test_all(self):
-        self.build_all()
-        self.leave_build('crates/maildir_judge/out/maildir_judge', 'maildir_cli')
-        self.assert_left_out()
-        self.assert_installed({**MAIL, **INSTALLED, 'bin/maildir_judge': PROGRAM})
-        self.uninstall()
-        self.assertEqual(self.tree(), {})
-
-    def test_a_program_that_is_built_later_is_added(self):
-        self.build()
-        self.install()
-        self.build_mail()
-        self.install()
-        self.assert_installed({**MAIL, **INSTALLED})
-
-    def test_a_build_that_is_too_old_is_left_out(self):
-        self.build_all()
-        source = os.path.join(self.top, 'crates', 'md_disk', 'src', 'lib.rt')
-        os.utime(source, (2_000_000_000, 2_000_000_000))
-        self.assert_left_out('deolmutt', 'maildir_judge')
-        self.assertIn("the mail program's build is older than crates/md_disk/src/lib.rt", self.install().stderr)
-        self.assert_installed()
-
-    def test_what_is_installed_does_not_go_for_want_of_a_build(self):
-        self.build_all()
-        self.install()
-        shutil.rmtree(os.path.join(self.top, 'crates', 'deolmutt', 'out'))
-        self.assert_refused(70, f"{self.below('bin', 'deolmutt')} can't be replaced, since the mail program is not built", 'install')
-        self.assert_refused(70, f"'{self.top}/deolmutt build mail' proves and builds it", 'install')
-        self.build_mail()
-        shutil.rmtree(os.path.join(self.top, 'crates', 'maildir_cli', 'out'))
-        self.assert_refused(70, f"{self.below('bin', 'maildir_cli')} can't be replaced, since the script program is not built", 'install')
-        self.uninstall()
-        self.install()
-        self.assert_installed(MAIL)
-
-    def test_a_foreign_deolmutt_is_never_overwritten(self):
-        self.build_all()
-        os.mkdir(self.below('bin'))
-        os.symlink(os.path.join(self.top, 'deolmutt'), self.below('bin', 'deolmutt'))
-        self.assert_refused(73, f"{self.below('bin', 'deolmutt')}: is not from an install", 'install')
+        self.assertEqual(self.install(env=environment).stderr, '')
 
 
 if __name__ == '__main__':

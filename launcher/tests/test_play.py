@@ -152,7 +152,7 @@ class Built(Scene):
                 with self.subTest(shell=shell):
                     words = (*flags, os.path.join(self.top, 'deolmutt'))
                     os.remove(self.program)
-                    for command in ('build', 'install', 'uninstall', '--help'):
+                    for command in ('build', 'install', 'uninstall'):
                         ran = self.run_launcher(*words, command, launcher=shutil.which(name))
                         self.assertEqual(ran.returncode, 0, ran.stderr)
                     self.assert_plays(*words, self.script(), launcher=shutil.which(name))

@@ -39,21 +39,6 @@ class StepStruct(ctypes.Structure):
     )
 
 
-class RequestStruct(ctypes.Structure):
-    """`deolmutt_request`."""
-
-    _fields_ = (
-        ("call", ctypes.c_uint32),
-        ("folder", ctypes.c_uint32),
-        ("place", ctypes.c_uint32),
-        ("to_folder", ctypes.c_uint32),
-        ("to_place", ctypes.c_uint32),
-        ("reserved", ctypes.c_uint32),
-        ("name", ctypes.c_uint64),
-        ("second", ctypes.c_uint64),
-    )
-
-
 _U32 = ctypes.c_uint32
 _U64 = ctypes.c_uint64
 _SIZE = ctypes.c_size_t
@@ -91,19 +76,8 @@ FIRST_ROOM = 1 << 16
 # Buffers of that room that no call uses. To make one takes longer than most calls.
 _spare: list[bytearray] = []
 
-_DRIVEN = ctypes.c_void_p
-
-# A library that was built without them has no settle, or no driven jobs.
-_MAYBE = {
-    "deolmutt_settle": (_WORLD, _TO_U64),
-    "deolmutt_drive": (*_CALL, ctypes.POINTER(_DRIVEN)),
-    "deolmutt_driven_free": (_DRIVEN,),
-    "deolmutt_driven_ask": (_DRIVEN, _U64),
-    "deolmutt_driven_request": (_DRIVEN, ctypes.POINTER(RequestStruct), _OUT, _SIZE, _TO_SIZE),
-    "deolmutt_driven_row": (_DRIVEN, _BYTES, _SIZE, _U64, _U64),
-    "deolmutt_driven_take": (_DRIVEN, _U32, ctypes.POINTER(StepStruct)),
-    "deolmutt_driven_answer": (_DRIVEN, _TO_ANSWER),
-}
+# A library that was built without it has no settle.
+_MAYBE = {"deolmutt_settle": (_WORLD, _TO_U64)}
 
 
 @lru_cache(maxsize=None)
@@ -137,16 +111,6 @@ def filled(
         if status != _ROOM:
             return status, given
         room = length.value
-
-
-def filled_request(function: Callable[..., int], job: Any, shown: RequestStruct) -> tuple[int, bytes]:
-    """What a driven job's request comes to, and its bytes."""
-    return filled(function, job, ctypes.byref(shown))
-
-
-def drives(found: ctypes.CDLL) -> bool:
-    """Whether the library has driven jobs."""
-    return hasattr(found, "deolmutt_drive")
 
 
 def start_of(buffer: bytearray) -> Any:

@@ -1,1 +1,0 @@
-"""What the built deolmutt does with real maildirs."""
