@@ -26,8 +26,8 @@ IsPart h d r = (shown : List (List ℕ)) × Reads h d r shown
 abbrev pub IsReadOn : History → Looker → Type 0
 IsReadOn h d = Since (λ m. IsPart m d reply.More) (λ m. (r : Reply) → IsPart m d r → ⊥) h
 
--- The last step is a part of a reading, which began with the last step of a history, that or an earlier one: none was read on before it, and
--- each part since but the last says that more follows.
+-- The last step is a part of a reading, which began with the last step of a history, that or an earlier one: none was read on before it,
+-- and each part since but the last says that more follows.
 pub record IsReading (first h : History) (d : Looker) : Type 0 where
   pub begins : (r : Reply) × IsPart first d r
   pub fresh : IsReadOn (before first) d → ⊥
