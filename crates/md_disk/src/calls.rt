@@ -153,11 +153,16 @@ impl<'r, R: Files + Clock> Calls<'r, R> {
         let from = self.folders.file(alloc, old)?;
         let to = self.folders.file(alloc, new)?;
         match self.files.symlink_metadata(to.as_str()) {
-            Ok(_) => return Err(CallError::Refused(Cause::NameTaken)),
-            Err(error) if error.kind() == ErrorKind::NotFound => {}
-            Err(error) => return Err(CallError::from(error)),
+            // Where another process has just made this very call, the old name is gone, and that is the refusal.
+            Ok(_) => {
+                let _there = self.files.symlink_metadata(from.as_str())?;
+                Err(CallError::Refused(Cause::NameTaken))
+            }
+            Err(error) if error.kind() == ErrorKind::NotFound => {
+                Ok(self.files.rename(from.as_str(), to.as_str())?)
+            }
+            Err(error) => Err(CallError::from(error)),
         }
-        Ok(self.files.rename(from.as_str(), to.as_str())?)
     }
 
     fn unlink(&self, alloc: Global, path: &PathRef<'_>) -> Result<(), CallError> {

@@ -152,9 +152,10 @@ fn has_rested<R: Files>(files: &R, path: &str, before: Option<(i64, i64)>) -> bo
     }
 }
 
+// The time of change and not that of modification, which anybody may set, to the future too.
 fn changed_at<R: Files>(files: &R, path: &str) -> Option<(i64, i64)> {
     match files.metadata(path) {
-        Ok(about) => Some((about.mtime(), about.mtime_nsec())),
+        Ok(about) => Some((about.ctime(), about.ctime_nsec())),
         Err(_) => None,
     }
 }
