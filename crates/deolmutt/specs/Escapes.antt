@@ -1,0 +1,47 @@
+-- Bytes as a column of a line shows them, and a string of JSON.
+use Rattle.std.specs.Prelude.{ℕ, Bool, ◌&&◌, ◌==◌, ◌+◌, ◌/◌, ◌%◌, nat_lt, nat_le, List}
+use Rattle.std.specs.Prelude.{[], ◌∷◌, ◌++◌, length, if◌then◌else◌, codes}
+use Rattle.std.specs.List.{flat_map}
+use Rattle.std.specs.Str.Lossy.{utf8_valid_len}
+
+-- whether bytes are UTF-8
+abbrev pub is_text : List ℕ → Bool
+is_text bytes = utf8_valid_len bytes == length bytes
+
+-- a digit of a byte
+abbrev pub digit_of : ℕ → ℕ
+digit_of n = if nat_lt n 10 then 48 + n else 87 + n
+
+-- a byte by its two digits
+abbrev pub hex : ℕ → List ℕ
+hex b = digit_of (b / 16) ∷ digit_of (b % 16) ∷ []
+
+-- whether a byte is a printed character of ASCII
+abbrev pub is_printed : ℕ → Bool
+is_printed b = nat_le 32 b && nat_le b 126
+
+-- a byte of a column, where the bytes past ASCII are characters or not
+abbrev pub escape : Bool → ℕ → List ℕ
+escape text b =
+    if b == 92 then 92 ∷ 92 ∷ []
+    else (if b == 9 then codes "\\t"
+    else (if b == 10 then codes "\\n"
+    else (if b == 13 then codes "\\r"
+    else (if is_printed b then b ∷ []
+    else (if nat_le 128 b && text then b ∷ [] else codes "\\x" ++ hex b)))))
+
+-- bytes as a column shows them
+abbrev pub escaped : List ℕ → List ℕ
+escaped bytes = flat_map (escape (is_text bytes)) bytes
+
+-- a byte of a string of JSON
+abbrev pub json_escape : Bool → ℕ → List ℕ
+json_escape text b =
+    if b == 34 then codes "\\\""
+    else (if b == 92 then 92 ∷ 92 ∷ []
+    else (if is_printed b then b ∷ []
+    else (if nat_le 128 b then (if text then b ∷ [] else codes "\\udc" ++ hex b) else codes "\\u00" ++ hex b)))
+
+-- bytes as a string of JSON, with its quotes
+abbrev pub json_string : List ℕ → List ℕ
+json_string bytes = codes "\"" ++ flat_map (json_escape (is_text bytes)) bytes ++ codes "\""

@@ -1,0 +1,11 @@
+pub mod Statuses
+pub mod Troubles
+pub mod Changes
+pub mod Keys
+pub mod Escapes
+pub mod Mailbox
+pub mod Complaints
+pub mod Lines
+pub mod Rows
+pub mod Drafts
+pub mod Folders

@@ -1,0 +1,17 @@
+-- The statuses that the program ends with.
+use Rattle.std.specs.Prelude.{ℕ}
+use Rattle.deolmutt.specs.declared.status.Status.{Status}
+use Rattle.deolmutt.specs.declared.status.Status.TheVariants.{Done, Refused, Usage, DataError, NoInput}
+use Rattle.deolmutt.specs.declared.status.Status.TheVariants.{CannotCreate, InputOutput, TryAgain, NoPermission}
+
+-- the numbers of sysexits.h, and 1 for scripts
+abbrev pub number_of : Status → ℕ
+number_of Done = 0
+number_of Refused = 1
+number_of Usage = 64
+number_of DataError = 65
+number_of NoInput = 66
+number_of CannotCreate = 73
+number_of InputOutput = 74
+number_of TryAgain = 75
+number_of NoPermission = 77

@@ -1,0 +1,48 @@
+//! What breaks the format of a maildir, printed.
+use crate::boxes::maildirs;
+use crate::escape::push_escaped;
+use crate::failure::Failure;
+use crate::output::print;
+use crate::row::place_name;
+use crate::session::{Host, Session};
+use crate::status::Status;
+use crate::trouble::Trouble;
+use md_disk::{Flaw, check_folders};
+use md_jobs::DirReply;
+use std::alloc::{AllocError, Global};
+
+/// Prints a line for each flaw of a maildir, and refuses it where there is one.
+pub(crate) fn checked<R: Host>(session: &Session<'_, R>, maildir: &str) -> Result<Status, Failure> {
+    let disk = maildirs(session, &[maildir], true)?;
+    let (reply, flaws) = check_folders(session.alloc, &disk)?;
+    if reply != DirReply::Ok {
+        return Err(Failure::caused(session.alloc, Trouble::Fault, disk.cause()));
+    }
+    if flaws.is_empty() {
+        return Ok(Status::Done);
+    }
+    print(
+        session,
+        lines_of(session.alloc, flaws.as_slice())?.as_slice(),
+    )?;
+    Err(Failure::from(Trouble::Flawed))
+}
+
+fn lines_of(alloc: Global, flaws: &[Flaw]) -> Result<Vec<u8>, AllocError> {
+    let mut text = Vec::new(alloc);
+    for flaw in flaws {
+        push_flaw(alloc, &mut text, flaw)?;
+    }
+    Ok(text)
+}
+
+// Appends what a flaw is, the place and the name.
+fn push_flaw(alloc: Global, text: &mut Vec<u8>, flaw: &Flaw) -> Result<(), AllocError> {
+    let kind = flaw.kind;
+    text.extend_from_slice(format!(in alloc; "{kind}")?.as_bytes())?;
+    text.extend_from_slice(b"\t")?;
+    text.extend_from_slice(place_name(flaw.place).as_bytes())?;
+    text.extend_from_slice(b"\t")?;
+    push_escaped(text, flaw.name.as_slice())?;
+    text.extend_from_slice(b"\n")
+}

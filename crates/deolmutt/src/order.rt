@@ -1,0 +1,230 @@
+//! What words ask for.
+ghost use Rattle.std.specs.Prelude.{◌≡◌};
+ghost use Rattle.deolmutt.specs.Folders.{is_folder};
+
+use crate::change::{Change, parse_change, parse_letters};
+use crate::row::Shape;
+use crate::trouble::Trouble;
+use clap::ArgMatches;
+use md_name::Flags;
+use std::alloc::{AllocError, Global};
+
+/// What a command line asks for.
+#[derive(Drop)]
+pub(crate) struct Order<'a> {
+    /// The path of the maildir, without slashes at its end.
+    pub(crate) maildir: &'a str,
+    pub(crate) work: Work<'a>,
+}
+
+/// What is to be done with a maildir.
+#[derive(Drop)]
+pub(crate) enum Work<'a> {
+    Make,
+    Deliver(Delivering<'a>),
+    List(Shape),
+    Read {
+        key: &'a str,
+    },
+    Act {
+        act: Act,
+        /// The path of the other maildir, of a move or a copy.
+        to: Option<&'a str>,
+        keys: Vec<&'a str>,
+    },
+    Clean,
+    Check,
+}
+
+/// How messages are delivered.
+#[derive(Drop)]
+pub(crate) struct Delivering<'a> {
+    /// The folder of Maildir++.
+    pub(crate) folder: Option<&'a str>,
+    pub(crate) flushes: bool,
+    pub(crate) source: MailSource<'a>,
+    pub(crate) prints: bool,
+}
+
+/// Where messages are read that are delivered.
+#[derive(Clone, Copy)]
+pub(crate) enum MailSource<'a> {
+    /// Standard input is a message.
+    Message,
+    /// Standard input is an mbox.
+    Mailbox,
+    /// The files of the directory of this path, which has no slashes at its end.
+    Files(&'a str),
+}
+
+/// What is to be done with a message.
+#[derive(Drop)]
+pub(crate) enum Act {
+    Seen,
+    Flag(Change),
+    Move,
+    Copy,
+    Expunge,
+}
+
+/// Why words ask for nothing.
+#[derive(Drop)]
+pub(crate) enum Mistake<'a> {
+    /// This word is not one that the command takes.
+    Wrong { word: &'a str, trouble: Trouble },
+    /// There is a word too many behind those of a run.
+    Unexpected,
+    NoMemory,
+}
+
+impl<'a> From<AllocError> for Mistake<'a> {
+    fn from(_error: AllocError) -> Mistake<'a> {
+        Mistake::NoMemory
+    }
+}
+
+/// What words ask for that the options have read.
+pub(crate) fn read_order<'a>(
+    alloc: Global,
+    matches: &ArgMatches<'a>,
+) -> Result<Order<'a>, Mistake<'a>> {
+    let Some((name, words)) = matches.subcommand() else {
+        return Err(wrong("", Trouble::NoMaildir));
+    };
+    if matches!(name, "play" | "threads" | "index") {
+        return Err(Mistake::Unexpected);
+    }
+    let maildir = path(words.get_str("BOX").unwrap_or(""))?;
+    let work = read_work(alloc, name, maildir, words)?;
+    Ok(Order { maildir, work })
+}
+
+fn read_work<'a>(
+    alloc: Global,
+    name: &str,
+    maildir: &str,
+    words: &ArgMatches<'a>,
+) -> Result<Work<'a>, Mistake<'a>> {
+    match name {
+        "make" => Ok(Work::Make),
+        "deliver" => Ok(Work::Deliver(read_delivering(words)?)),
+        "list" => Ok(Work::List(Shape {
+            is_json: words.get_flag("json"),
+            with_headers: words.get_flag("headers"),
+        })),
+        "read" => Ok(Work::Read {
+            key: words.get_str("KEY").unwrap_or(""),
+        }),
+        "clean" => Ok(Work::Clean),
+        "check" => Ok(Work::Check),
+        "flag" => flagging(alloc, words),
+        _ => acting(alloc, name, maildir, words),
+    }
+}
+
+// A path without slashes at its end. The empty one is none.
+fn path<'a>(word: &'a str) -> Result<&'a str, Mistake<'a>> {
+    if word.is_empty() {
+        return Err(wrong(word, Trouble::NoMaildir));
+    }
+    Ok(word.trim_end_matches('/'))
+}
+
+fn read_delivering<'a>(words: &ArgMatches<'a>) -> Result<Delivering<'a>, Mistake<'a>> {
+    let folder = words.get_str("folder");
+    if let Some(name) = folder {
+        if !is_folder(name.as_bytes()) {
+            return Err(wrong(name, Trouble::BadFolder));
+        }
+    }
+    Ok(Delivering {
+        folder,
+        flushes: !words.get_flag("no-sync"),
+        source: mail_source(words)?,
+        prints: words.get_flag("print"),
+    })
+}
+
+fn mail_source<'a>(words: &ArgMatches<'a>) -> Result<MailSource<'a>, Mistake<'a>> {
+    match words.get_str("from") {
+        Some("") => Err(wrong("", Trouble::NoDirectory)),
+        Some(path) => Ok(MailSource::Files(path.trim_end_matches('/'))),
+        None if words.get_flag("many") => Ok(MailSource::Mailbox),
+        None => Ok(MailSource::Message),
+    }
+}
+
+// Whether a folder of Maildir++ may have the name: it is not empty, begins with no dot, and holds no slash.
+fn is_folder(name: &[u8]) -> bool
+    ensures { result ≡ is_folder name.now }
+{
+    !name.is_empty() && !name.starts_with(b".") && !name.contains(&b'/')
+}
+
+// A change of flags: by options, or by the first word.
+fn flagging<'a>(alloc: Global, words: &ArgMatches<'a>) -> Result<Work<'a>, Mistake<'a>> {
+    let keys = words.get_strs("KEY").unwrap_or(&[]);
+    let (add, remove) = (words.get_str("add"), words.get_str("remove"));
+    if add.is_some() || remove.is_some() {
+        let change = Change {
+            add: named_letters(add)?,
+            remove: named_letters(remove)?,
+        };
+        return Ok(Work::Act {
+            act: Act::Flag(change),
+            to: None,
+            keys: Vec::from_slice(alloc, keys)?,
+        });
+    }
+    let Some((first, others)) = keys.split_first() else {
+        return Err(wrong("", Trouble::BadChange));
+    };
+    match parse_change(first.as_bytes()) {
+        Some(change) => Ok(Work::Act {
+            act: Act::Flag(change),
+            to: None,
+            keys: Vec::from_slice(alloc, others)?,
+        }),
+        None => Err(wrong(first, Trouble::BadChange)),
+    }
+}
+
+// The letters of an option, and none where it is not there.
+fn named_letters<'a>(word: Option<&'a str>) -> Result<Flags, Mistake<'a>> {
+    let Some(word) = word else {
+        return Ok(Flags::empty());
+    };
+    match parse_letters(word.as_bytes()) {
+        Some(flags) => Ok(flags),
+        None => Err(wrong(word, Trouble::BadChange)),
+    }
+}
+
+fn acting<'a>(
+    alloc: Global,
+    name: &str,
+    maildir: &str,
+    words: &ArgMatches<'a>,
+) -> Result<Work<'a>, Mistake<'a>> {
+    let keys = Vec::from_slice(alloc, words.get_strs("KEY").unwrap_or(&[]))?;
+    let (act, to) = match name {
+        "seen" => (Act::Seen, None),
+        "move" => (Act::Move, Some(other(maildir, words)?)),
+        "copy" => (Act::Copy, Some(other(maildir, words)?)),
+        _ => (Act::Expunge, None),
+    };
+    Ok(Work::Act { act, to, keys })
+}
+
+// The path of the other maildir, which is another than the first.
+fn other<'a>(maildir: &str, words: &ArgMatches<'a>) -> Result<&'a str, Mistake<'a>> {
+    let to = path(words.get_str("TO").unwrap_or(""))?;
+    if to == maildir {
+        return Err(wrong(to, Trouble::SameMaildir));
+    }
+    Ok(to)
+}
+
+fn wrong<'a>(word: &'a str, trouble: Trouble) -> Mistake<'a> {
+    Mistake::Wrong { word, trouble }
+}

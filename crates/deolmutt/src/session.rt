@@ -1,0 +1,72 @@
+//! What a command works with.
+ghost use Rattle.std.specs.Prelude.{◌≡◌};
+ghost use Rattle.deolmutt.specs.Troubles.{status_of};
+
+use crate::failure::{Failure, failure_line};
+use crate::status::Status;
+use crate::trouble::Trouble;
+use md_disk::{Namer, host_name};
+use md_name::NameError;
+use std::alloc::Global;
+use std::fs::Files;
+use std::io::{Eprint, Input, IsTerminal, Print, Stderr};
+use std::time::Clock;
+
+/// What a command needs of the system.
+pub(crate) trait Host: Files + Clock + Print + Eprint + Input {}
+
+impl<R: Files + Clock + Print + Eprint + Input> Host for R {}
+
+/// The system, memory, and the number of this process.
+#[derive(Drop)]
+pub(crate) struct Session<'r, R: Host> {
+    pub(crate) host: &'r R,
+    pub(crate) alloc: Global,
+    pub(crate) pid: u64,
+    /// Standard error, as what may be a terminal.
+    pub(crate) errors: Stderr,
+}
+
+impl<'r, R: Host> Session<'r, R> {
+    /// What makes unique names. A command makes one at most.
+    pub(crate) fn namer(&self) -> Result<Namer, Failure> {
+        match host_name(self.alloc, self.host) {
+            Ok(name) => Ok(Namer::new(self.pid, name)),
+            Err(error) => Err(Failure::from(trouble_of_name(error))),
+        }
+    }
+
+    /// Whether standard error is a terminal.
+    pub(crate) fn is_on_terminal(&self) -> bool {
+        self.errors.is_terminal()
+    }
+
+    /// Says on standard error what failed and why, and gives the status of it. Where memory for the line is wanting, that is said.
+    pub(crate) fn tell(&self, what: &[u8], failure: &Failure) -> Status
+        ensures { result ≡ status_of failure.now.trouble }
+    {
+        let what = match &failure.path {
+            Some(path) => path.as_bytes(),
+            None => what,
+        };
+        match failure_line(self.alloc, what, failure) {
+            Ok(line) => self.say(line.as_slice()),
+            Err(_) => self.say(b"deolmutt: out of memory\n"),
+        }
+        failure.trouble.status()
+    }
+
+    /// Says a line on standard error. Where that can't be written, nothing is left to be done.
+    pub(crate) fn say(&self, line: &[u8]) {
+        let text = std::str::from_utf8(line).unwrap_or("");
+        let _told = self.host.eprint(text);
+    }
+}
+
+/// Why no name was made.
+pub(crate) fn trouble_of_name(error: NameError) -> Trouble {
+    match error {
+        NameError::NoMemory => Trouble::NoMemory,
+        _ => Trouble::NoName,
+    }
+}

@@ -1,0 +1,167 @@
+//! Why a command, or what it does with one message, is not done.
+ghost use Rattle.std.specs.Prelude.{◌≡◌};
+ghost use Rattle.deolmutt.specs.Troubles.{status_of, text_of, trouble_of as trouble_by};
+ghost use Rattle.deolmutt.specs.Troubles.{trouble_caused as caused_by, trouble_told as told_by};
+
+use crate::status::Status;
+use md_disk::Cause;
+use md_jobs::Answer;
+use std::io::ErrorKind;
+
+/// Why something is not done.
+#[derive(Clone, Copy)]
+pub(crate) enum Trouble {
+    /// It is done, but may be lost if the machine stops.
+    Unflushed,
+    /// A word is not one that the command takes.
+    BadKey,
+    BadChange,
+    BadFolder,
+    SameMaildir,
+    /// The message can't be had, or is not as the command wants it.
+    NotThere,
+    NotTrashed,
+    OtherInfo,
+    TooLong,
+    NotText,
+    NotAFile,
+    NoMailbox,
+    Flawed,
+    /// There is no such maildir.
+    NoMaildir,
+    /// There is no such directory of messages.
+    NoDirectory,
+    /// A name can't be made.
+    NameTaken,
+    CannotMake,
+    /// A message could not be read, or what was read not be written.
+    Unread,
+    Unwritten,
+    /// It may be tried again.
+    Lost,
+    TimedOut,
+    TmpGone,
+    Fault,
+    NoName,
+    NoMemory,
+    /// The rights are wanting.
+    NoRights,
+}
+
+impl Trouble {
+    /// The status of a command that ends so.
+    pub(crate) fn status(self) -> Status
+        ensures { result ≡ status_of self }
+    {
+        match self {
+            Trouble::Unflushed => Status::Done,
+            Trouble::BadKey | Trouble::BadChange | Trouble::BadFolder | Trouble::SameMaildir => {
+                Status::Usage
+            }
+            Trouble::NotThere
+            | Trouble::NotTrashed
+            | Trouble::OtherInfo
+            | Trouble::TooLong
+            | Trouble::NotText
+            | Trouble::NotAFile
+            | Trouble::NoMailbox
+            | Trouble::Flawed => Status::DataError,
+            Trouble::NoMaildir | Trouble::NoDirectory => Status::NoInput,
+            Trouble::NameTaken | Trouble::CannotMake => Status::CannotCreate,
+            Trouble::Unread | Trouble::Unwritten => Status::InputOutput,
+            Trouble::Lost
+            | Trouble::TimedOut
+            | Trouble::TmpGone
+            | Trouble::Fault
+            | Trouble::NoName
+            | Trouble::NoMemory => Status::TryAgain,
+            Trouble::NoRights => Status::NoPermission,
+        }
+    }
+
+    /// What is said of it.
+    pub(crate) fn text(self) -> &'static str
+        ensures { result.now ≡ text_of self }
+    {
+        match self {
+            Trouble::Unflushed => "delivered, but the directory could not be flushed",
+            Trouble::BadKey => "not the name of a message, nor its path in this maildir",
+            Trouble::BadChange => "not a change of flags, as +FS-T",
+            Trouble::BadFolder => "not the name of a folder",
+            Trouble::SameMaildir => "the message is there already",
+            Trouble::NotThere => "no such message",
+            Trouble::NotTrashed => "the message has not the flag T",
+            Trouble::OtherInfo => "the name of the message has no flags after its colon",
+            Trouble::TooLong => "the message is longer than 16777216 bytes",
+            Trouble::NotText => "its name is not UTF-8",
+            Trouble::NotAFile => "it is no regular file",
+            Trouble::NoMailbox => "no line 'From ' begins the first message",
+            Trouble::Flawed => "the maildir has flaws",
+            Trouble::NoMaildir => "no such maildir",
+            Trouble::NoDirectory => "no such directory",
+            Trouble::NameTaken => "the name is taken",
+            Trouble::CannotMake => "it can't be made",
+            Trouble::Unread => "reading failed",
+            Trouble::Unwritten => "writing failed",
+            Trouble::Lost => "others kept changing the message",
+            Trouble::TimedOut => "the delivery took more than 24 hours",
+            Trouble::TmpGone => "the file in tmp is gone",
+            Trouble::Fault => "it could not be done",
+            Trouble::NoName => "the name of this host makes no unique name",
+            Trouble::NoMemory => "out of memory",
+            Trouble::NoRights => "permission denied",
+        }
+    }
+}
+
+/// Why a job that ended with this answer has not done what it was for, if it has not.
+pub(crate) fn trouble_of(answer: Answer) -> Option<Trouble>
+    ensures { result ≡ trouble_by answer }
+{
+    match answer {
+        Answer::Delivered
+        | Answer::Flags(_)
+        | Answer::Moved
+        | Answer::Expunged
+        | Answer::Copied
+        | Answer::Cleaned(_) => None,
+        Answer::NotThere => Some(Trouble::NotThere),
+        Answer::NotTrashed => Some(Trouble::NotTrashed),
+        Answer::OtherInfo => Some(Trouble::OtherInfo),
+        Answer::Lost => Some(Trouble::Lost),
+        Answer::TimedOut => Some(Trouble::TimedOut),
+        Answer::TmpGone => Some(Trouble::TmpGone),
+        Answer::NameTaken => Some(Trouble::NameTaken),
+        Answer::Fault => Some(Trouble::Fault),
+    }
+}
+
+/// What a cause of the system is to a command. Any other is a call that failed.
+pub(crate) fn trouble_caused(cause: Cause) -> Trouble
+    ensures { result ≡ caused_by cause }
+{
+    match cause {
+        Cause::System(ErrorKind::PermissionDenied) => Trouble::NoRights,
+        Cause::System(ErrorKind::OutOfMemory) => Trouble::NoMemory,
+        Cause::NotText => Trouble::NotText,
+        Cause::NotAFile => Trouble::NotAFile,
+        Cause::NoDirectory => Trouble::NoMaildir,
+        Cause::NoMessage => Trouble::NotThere,
+        Cause::NameTaken => Trouble::NameTaken,
+        Cause::Lost => Trouble::Lost,
+        _ => Trouble::Fault,
+    }
+}
+
+/// The trouble of a job on a disk: a fault is its cause.
+pub(crate) fn trouble_told(trouble: Trouble, cause: Option<Cause>) -> Trouble
+    ensures { result ≡ told_by trouble cause }
+{
+    match trouble {
+        Trouble::Fault => match cause {
+            Some(cause) => trouble_caused(cause),
+            None => Trouble::Fault,
+        },
+        _ => trouble,
+    }
+}
