@@ -1,13 +1,14 @@
 """A Maildir store in memory that is proved to lose no mail to a race, for Python.
 
-`Maildir` is a mailbox with the methods of `mailbox.Maildir`. `World` is the store itself: its jobs
+`Maildir` is a mailbox with the methods of `mailbox.Maildir`, and `DiskMaildir` one on a disk. `World` is the store itself: its jobs
 deliver, flag, move, copy and expunge messages by the directory calls of maildir(5), which a program
 may let run step by step.
 """
 
-from . import calls, errors, headers, lines, names, scripts
+from . import calls, driven, errors, headers, lines, names, scripts
 from ._disk import LeftOut
 from ._names import fresh_unique
+from .disk_maildir import DiskMaildir
 from .errors import DeolmuttError, Failed, Refused, WrongThread
 from .headers import Summary, summary
 from .maildir import Maildir
@@ -17,6 +18,7 @@ from .world import World
 
 __all__ = [
     "DeolmuttError",
+    "DiskMaildir",
     "Failed",
     "LeftOut",
     "Maildir",
@@ -25,6 +27,7 @@ __all__ = [
     "World",
     "WrongThread",
     "calls",
+    "driven",
     "errors",
     "fresh_unique",
     "headers",

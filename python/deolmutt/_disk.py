@@ -5,9 +5,11 @@ from __future__ import annotations
 import os
 import stat
 import warnings
+from contextlib import suppress
 from typing import Iterator, NamedTuple, Optional
 
 from ._names import fresh_unique
+from ._running import flush_directory
 from ._tree import TOP, Trail
 from .calls import Place
 
@@ -76,9 +78,7 @@ def read_files(directory: str, colon: str) -> Iterator[File]:
                 break
 
 
-def _read(
-    directory: str, place: Place, name: str, colon: str
-) -> tuple[Optional[File], int]:
+def _read(directory: str, place: Place, name: str, colon: str) -> tuple[Optional[File], int]:
     """A file and its number on the disk; none where the name is no message's."""
     unique, found, info = name.partition(colon)
     if not unique or unique.startswith("."):
@@ -125,17 +125,14 @@ def write_file(path: str, body: bytes, date: float) -> None:
             os.fsync(out.fileno())
             _place(fresh, path)
         finally:
-            _unlink(fresh)
+            with suppress(FileNotFoundError):
+                os.unlink(fresh)
 
 
 def flush_folder(directory: str) -> None:
     """Flushes the names in a folder to the disk."""
     for place in Place:
-        descriptor = os.open(os.path.join(directory, place.value), os.O_RDONLY | os.O_DIRECTORY)
-        try:
-            os.fsync(descriptor)
-        finally:
-            os.close(descriptor)
+        flush_directory(os.path.join(directory, place.value))
 
 
 def _place(fresh: str, path: str) -> None:
@@ -146,13 +143,6 @@ def _place(fresh: str, path: str) -> None:
         if os.path.lexists(path):
             raise FileExistsError(path) from None
         os.rename(fresh, path)
-
-
-def _unlink(path: str) -> None:
-    try:
-        os.unlink(path)
-    except FileNotFoundError:
-        pass
 
 
 def is_sayable(info: Optional[str]) -> bool:

@@ -39,6 +39,21 @@ class StepStruct(ctypes.Structure):
     )
 
 
+class RequestStruct(ctypes.Structure):
+    """`deolmutt_request`."""
+
+    _fields_ = (
+        ("call", ctypes.c_uint32),
+        ("folder", ctypes.c_uint32),
+        ("place", ctypes.c_uint32),
+        ("to_folder", ctypes.c_uint32),
+        ("to_place", ctypes.c_uint32),
+        ("reserved", ctypes.c_uint32),
+        ("name", ctypes.c_uint64),
+        ("second", ctypes.c_uint64),
+    )
+
+
 _U32 = ctypes.c_uint32
 _U64 = ctypes.c_uint64
 _SIZE = ctypes.c_size_t
@@ -76,8 +91,19 @@ FIRST_ROOM = 1 << 16
 # Buffers of that room that no call uses. To make one takes longer than most calls.
 _spare: list[bytearray] = []
 
-# A library that was built without it has no settle.
-_MAYBE = {"deolmutt_settle": (_WORLD, _TO_U64)}
+_DRIVEN = ctypes.c_void_p
+
+# A library that was built without them has no settle, or no driven jobs.
+_MAYBE = {
+    "deolmutt_settle": (_WORLD, _TO_U64),
+    "deolmutt_drive": (*_CALL, ctypes.POINTER(_DRIVEN)),
+    "deolmutt_driven_free": (_DRIVEN,),
+    "deolmutt_driven_ask": (_DRIVEN, _U64),
+    "deolmutt_driven_request": (_DRIVEN, ctypes.POINTER(RequestStruct), _OUT, _SIZE, _TO_SIZE),
+    "deolmutt_driven_row": (_DRIVEN, _BYTES, _SIZE, _U64, _U64),
+    "deolmutt_driven_take": (_DRIVEN, _U32, ctypes.POINTER(StepStruct)),
+    "deolmutt_driven_answer": (_DRIVEN, _TO_ANSWER),
+}
 
 
 @lru_cache(maxsize=None)
@@ -94,9 +120,7 @@ def library() -> ctypes.CDLL:
     raise LibraryMissing("\n".join([f"{FILE_NAME} was not found.", *tried, _HOW]))
 
 
-def filled(
-    function: Callable[..., int], *asked: Any, room: int = FIRST_ROOM
-) -> tuple[int, bytes]:
+def filled(function: Callable[..., int], *asked: Any, room: int = FIRST_ROOM) -> tuple[int, bytes]:
     """What a function comes to, and what it gives into a buffer, which grows until it is large enough.
 
     After what is asked it takes a buffer, the buffer's room, and where the whole length goes.
@@ -111,6 +135,11 @@ def filled(
         if status != _ROOM:
             return status, given
         room = length.value
+
+
+def drives(found: ctypes.CDLL) -> bool:
+    """Whether the library has driven jobs."""
+    return hasattr(found, "deolmutt_drive")
 
 
 def start_of(buffer: bytearray) -> Any:

@@ -4,7 +4,7 @@ from __future__ import annotations
 
 import string
 from functools import lru_cache
-from typing import Callable, NamedTuple, Union
+from typing import Any, Callable, NamedTuple, Tuple, Union
 
 from . import errors
 from .calls import Answer, Call, Clean, Copy, Deliver, Expunge, Flag, Move, Outcome, Seen, Step
@@ -25,6 +25,9 @@ REFUSALS: dict[int, type[DeolmuttError]] = {
     9: errors.NoMessageName,
     10: errors.Unanswered,
     11: errors.Misused,
+    12: errors.NotAsked,
+    13: errors.AskedBefore,
+    14: errors.Misused,
     20: errors.BadName,
     21: errors.LongUnique,
     22: errors.DuplicateUnique,
@@ -132,6 +135,11 @@ class Asked(NamedTuple):
     second: bytes = b""
     number: int = 0
 
+    def words(self) -> Tuple[Any, ...]:
+        """What it asks, as the library takes it: after each text its length."""
+        first, second = (self.first, len(self.first)), (self.second, len(self.second))
+        return self.kind, self.folder, self.unique, len(self.unique), self.to, *first, *second, self.number
+
 
 def _bytes(body: Union[bytes, bytearray, memoryview]) -> bytes:
     """The bytes of a body. A number, of which `bytes` would make so many, is none."""
@@ -141,9 +149,7 @@ def _bytes(body: Union[bytes, bytearray, memoryview]) -> bytes:
 _ASKED: dict[type, Callable[..., Asked]] = {
     Deliver: lambda c: Asked(1, c.folder, encoded(c.unique), 0, _bytes(c.body), b"", c.piece),
     Seen: lambda c: Asked(2, c.folder, encoded(c.unique), 0, encoded(c.flags), b"", c.tries),
-    Flag: lambda c: Asked(
-        3, c.folder, encoded(c.unique), 0, encoded(c.add), encoded(c.remove), c.tries
-    ),
+    Flag: lambda c: Asked(3, c.folder, encoded(c.unique), 0, encoded(c.add), encoded(c.remove), c.tries),
     Move: lambda c: Asked(4, c.folder, encoded(c.unique), c.to, b"", b"", c.tries),
     Expunge: lambda c: Asked(5, c.folder, encoded(c.unique), 0, b"", b"", c.tries),
     Copy: lambda c: Asked(6, c.folder, encoded(c.unique), c.to, encoded(c.fresh), b"", c.tries),

@@ -2,7 +2,7 @@
  * The interface of deolmutt.h over the proved functions of md_ffi, which take references and slices: none of them null, each of a length
  * that fits PTRDIFF_MAX. What a proof can't test of C's pointers is tested here, and nothing else is done here: a call is passed on.
  *
- * A world is the proved handle in memory of malloc: two words, all zero where it is closed.
+ * A world is the proved handle in memory of malloc: two words, all zero where it is closed. So is a driven job.
  */
 
 /* getentropy is no part of C99. */
@@ -16,6 +16,11 @@
 #include <unistd.h>
 
 struct deolmutt_world {
+    uint8_t is_open;
+    void *at;
+};
+
+struct deolmutt_driven {
     uint8_t is_open;
     void *at;
 };
@@ -63,6 +68,14 @@ uint32_t md_ffi_unique(uint64_t sec, uint64_t micro, uint64_t pid, uint64_t coun
                        size_t room, size_t *length);
 uint32_t md_ffi_split(const uint8_t *name, size_t length, size_t *unique_length, uint32_t *info, uint64_t *flags);
 uint32_t md_ffi_summary(const uint8_t *message, size_t length, uint8_t *out, size_t room, size_t *out_length);
+uint32_t md_ffi_drive(const struct asked *asked, const uint8_t *unique, size_t unique_length, const uint8_t *first, size_t first_length,
+                      const uint8_t *second, size_t second_length, struct deolmutt_driven *handle);
+uint32_t md_ffi_driven_free(struct deolmutt_driven *handle);
+uint32_t md_ffi_driven_ask(struct deolmutt_driven *handle, uint64_t at);
+uint32_t md_ffi_driven_request(struct deolmutt_driven *handle, deolmutt_request *shown, uint8_t *out, size_t room, size_t *length);
+uint32_t md_ffi_driven_row(struct deolmutt_driven *handle, const uint8_t *name, size_t length, uint64_t stamp, uint64_t size);
+uint32_t md_ffi_driven_take(struct deolmutt_driven *handle, uint32_t reply, deolmutt_step_out *step);
+uint32_t md_ffi_driven_answer(struct deolmutt_driven *handle, deolmutt_answer *answer);
 
 /* What a slice of no bytes points to. */
 static const uint8_t no_bytes[1] = {0};
@@ -255,4 +268,68 @@ uint32_t deolmutt_summary(const uint8_t *message, size_t length, uint8_t *out, s
     if (IS_LONG(length) || IS_LONG(room))
         return DEOLMUTT_LENGTH;
     return md_ffi_summary(BYTES(message, length), ROOM(out, room), out_length);
+}
+
+uint32_t deolmutt_drive(uint32_t kind, uint32_t folder, const uint8_t *unique, size_t unique_length, uint32_t to, const uint8_t *first,
+                        size_t first_length, const uint8_t *second, size_t second_length, uint64_t number, deolmutt_driven **job) {
+    struct asked asked = asked_of(kind, folder, to, number);
+    struct deolmutt_driven *made;
+    uint32_t status;
+    if (job == NULL || IS_NULL(unique, unique_length) || IS_NULL(first, first_length) || IS_NULL(second, second_length))
+        return DEOLMUTT_NULL;
+    if (IS_LONG(unique_length) || IS_LONG(first_length) || IS_LONG(second_length))
+        return DEOLMUTT_LENGTH;
+    *job = NULL;
+    made = calloc(1, sizeof *made);
+    if (made == NULL)
+        return DEOLMUTT_NO_MEMORY;
+    status = md_ffi_drive(&asked, BYTES(unique, unique_length), BYTES(first, first_length), BYTES(second, second_length), made);
+    if (status == DEOLMUTT_OK)
+        *job = made;
+    else
+        free(made);
+    return status;
+}
+
+uint32_t deolmutt_driven_free(deolmutt_driven *job) {
+    uint32_t status;
+    if (job == NULL)
+        return DEOLMUTT_NULL;
+    status = md_ffi_driven_free(job);
+    free(job);
+    return status;
+}
+
+uint32_t deolmutt_driven_ask(deolmutt_driven *job, uint64_t second) {
+    if (job == NULL)
+        return DEOLMUTT_NULL;
+    return md_ffi_driven_ask(job, second);
+}
+
+uint32_t deolmutt_driven_request(deolmutt_driven *job, deolmutt_request *request, uint8_t *out, size_t room, size_t *length) {
+    if (job == NULL || request == NULL || length == NULL || IS_NULL(out, room))
+        return DEOLMUTT_NULL;
+    if (IS_LONG(room))
+        return DEOLMUTT_LENGTH;
+    return md_ffi_driven_request(job, request, ROOM(out, room), length);
+}
+
+uint32_t deolmutt_driven_row(deolmutt_driven *job, const uint8_t *name, size_t length, uint64_t stamp, uint64_t size) {
+    if (job == NULL || IS_NULL(name, length))
+        return DEOLMUTT_NULL;
+    if (IS_LONG(length))
+        return DEOLMUTT_LENGTH;
+    return md_ffi_driven_row(job, BYTES(name, length), stamp, size);
+}
+
+uint32_t deolmutt_driven_take(deolmutt_driven *job, uint32_t reply, deolmutt_step_out *step) {
+    if (job == NULL || step == NULL)
+        return DEOLMUTT_NULL;
+    return md_ffi_driven_take(job, reply, step);
+}
+
+uint32_t deolmutt_driven_answer(deolmutt_driven *job, deolmutt_answer *answer) {
+    if (job == NULL || answer == NULL)
+        return DEOLMUTT_NULL;
+    return md_ffi_driven_answer(job, answer);
 }

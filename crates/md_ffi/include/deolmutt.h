@@ -6,8 +6,8 @@
  *
  * Bytes come as a pointer and a length in bytes. A length of 0 may come with any pointer, also a null one. What a function gives is
  * copied into the caller's buffer: `out` has `room` bytes, and *length becomes the whole length. Where that is more than `room`, nothing
- * is written to `out` and the status is DEOLMUTT_ROOM; a call with room 0 asks for the length alone. `out` may overlap nothing else that
- * is passed in the call.
+ * is written to `out` and the status is DEOLMUTT_ROOM; a call with room 0 asks for the length alone. What a call writes, `out` and its
+ * out-parameters, may overlap nothing else that is passed in the call.
  *
  * Out-parameters. Where the status is 0 each is written. After DEOLMUTT_NULL and DEOLMUTT_LENGTH none is. After another refusal those are
  * written alone of which the function says so.
@@ -17,13 +17,15 @@
  * Null pointers. A pointer that is null, but for those that may be, is refused as DEOLMUTT_NULL before anything else is done, and a
  * length of more than PTRDIFF_MAX as DEOLMUTT_LENGTH.
  *
- * Who owns what. deolmutt_load gives a world, which is the caller's until deolmutt_free takes it back. It is a precondition of each call
- * that a world passed to it was given by deolmutt_load and not taken back since, and that pointers and lengths tell of memory that is
- * there. The library keeps no pointer of the caller's after a call has returned.
+ * Who owns what. deolmutt_load gives a world, which is the caller's until deolmutt_free takes it back, and deolmutt_drive a driven job,
+ * which is the caller's until deolmutt_driven_free does. It is a precondition of each call that a world or a job passed to it was given so
+ * and not taken back since, and that pointers and lengths tell of memory that is there. The library keeps no pointer of the caller's after
+ * a call has returned.
  *
  * Threads. One world is for one thread at a time: no two calls on one world may overlap, and a world goes from one thread to another by
- * what orders their memory (a lock, a join). Calls on two worlds may overlap. The library starts no thread, takes no lock and keeps no
- * state of its own. It is not to be called from a signal handler, or in a forked child of a process with threads.
+ * what orders their memory (a lock, a join). So it is with a driven job. Calls on two worlds or jobs may overlap. The library starts no
+ * thread, takes no lock and keeps no state of its own. It is not to be called from a signal handler, or in a forked child of a process with
+ * threads.
  *
  * Moments are seconds since 1970-01-01 00:00:00 UTC. Folders are numbered from 0, in the order in which they were loaded; jobs from 1.
  * Memory comes from malloc, realloc and free; where there is none left, a call is refused as DEOLMUTT_NO_MEMORY.
@@ -47,6 +49,9 @@ extern "C" {
 /* A store: folders, their messages, and the jobs on them. */
 typedef struct deolmutt_world deolmutt_world;
 
+/* A job whose directory calls its caller makes. */
+typedef struct deolmutt_driven deolmutt_driven;
+
 /* Why a call is refused. */
 enum deolmutt_refusal {
     DEOLMUTT_OK = 0,
@@ -63,6 +68,9 @@ enum deolmutt_refusal {
     DEOLMUTT_NO_MESSAGE_NAME = 9,  /* a name that begins with a dot or a colon, or is empty */
     DEOLMUTT_UNANSWERED = 10,      /* a job has no answer yet */
     DEOLMUTT_CLOSED = 11,          /* a handle without a world; no call on a world of deolmutt_load gives it */
+    DEOLMUTT_NOT_ASKED = 12,       /* no call of a driven job waits for a reply */
+    DEOLMUTT_ASKED = 13,           /* a call of a driven job waits for its reply */
+    DEOLMUTT_BAD_REPLY = 14,       /* no reply, 1 to 4 */
 
     /* of a world */
     DEOLMUTT_BAD_NAME = 20,          /* a file name that is empty, over 255 bytes, or with a slash, NUL, LF or CR */
@@ -127,8 +135,8 @@ enum deolmutt_answer_kind {
     DEOLMUTT_LOST = 10,             /* the name was gone at the act in each of the tries */
     DEOLMUTT_TIMED_OUT = 11,        /* a delivery's 24 hours ended before its link */
     DEOLMUTT_TMP_GONE = 12,         /* the file in tmp was gone at an append or the link */
-    DEOLMUTT_NAME_TAKEN = 13,       /* no call gives it: a name that is there is refused as DEOLMUTT_NAME_USED */
-    DEOLMUTT_FAULT = 14             /* no call gives it: no directory call fails in memory */
+    DEOLMUTT_NAME_TAKEN = 13,       /* the name that was to be made is there: of driven jobs alone, since a world refuses NAME_USED */
+    DEOLMUTT_FAULT = 14             /* a directory call failed: of a driven job alone, since in memory none does */
 };
 
 enum deolmutt_place { DEOLMUTT_TMP = 0, DEOLMUTT_NEW = 1, DEOLMUTT_CUR = 2 };
@@ -143,7 +151,8 @@ enum deolmutt_dir_call {
     DEOLMUTT_LIST = 6 /* value: the place */
 };
 
-/* What the directories answered. In memory no directory call fails, so that no step shows DEOLMUTT_FAULTED. */
+/* What the directories answered: EEXIST is DEOLMUTT_EXISTS, ENOENT is DEOLMUTT_NOT_FOUND, and any other error DEOLMUTT_FAULTED. In memory
+   no directory call fails, so that no step of a world shows DEOLMUTT_FAULTED. */
 enum deolmutt_dir_reply { DEOLMUTT_DONE = 1, DEOLMUTT_EXISTS = 2, DEOLMUTT_NOT_FOUND = 3, DEOLMUTT_FAULTED = 4 };
 
 /* How a job ended: enum deolmutt_answer_kind, and its value, 0 where the kind names none. */
@@ -160,6 +169,20 @@ typedef struct deolmutt_step_out {
     uint64_t effect;
     deolmutt_answer answer;
 } deolmutt_step_out;
+
+/* A directory call that a driven job asks for: enum deolmutt_dir_call, the folder and the place of its name, and of a link and a rename
+   those of the second name, else 0. `name` is the length of its name, 0 of a listing; `second` that of the second name or, of an append, of
+   the bytes. */
+typedef struct deolmutt_request {
+    uint32_t call;
+    uint32_t folder;
+    uint32_t place;
+    uint32_t to_folder;
+    uint32_t to_place;
+    uint32_t reserved;
+    uint64_t name;
+    uint64_t second;
+} deolmutt_request;
 
 /* The version of this interface: DEOLMUTT_ABI of the header that the library was built with. It is another one where a call changes; a
    call that is added leaves it. */
@@ -255,6 +278,48 @@ uint32_t deolmutt_split(const uint8_t *name, size_t length, size_t *unique_lengt
 /* The summary of a message's header, as the command `summary` prints it: lines `subject=`, `from=`, `message-id=`, `date=` and `seconds=`
    for each that is there, and `end`. Refused: DEOLMUTT_NO_MEMORY, ROOM (*out_length is written). */
 uint32_t deolmutt_summary(const uint8_t *message, size_t length, uint8_t *out, size_t room, size_t *out_length);
+
+/* A job whose directory calls the caller makes, on a disk say: the job asks for one call after the other, and goes on by what was replied.
+   The calls are those of the proved machine, whatever is replied, and names are of any bytes. To run a job:
+
+     deolmutt_drive, and then until a step has an answer:
+       deolmutt_driven_ask      at this second
+       deolmutt_driven_request  which call it is
+       make the call; of a reading tell the rows by deolmutt_driven_row
+       deolmutt_driven_take     what was replied
+
+   A create is to be as by open with O_CREAT and O_EXCL, a rename must not replace, and an append adds all of its bytes, or is FAULTED. What
+   a reading found counts as it was told: tell that nothing was found only of a reading in which the directory rested, and flush a file
+   before its link, and the directory after.
+
+   deolmutt_drive makes the job of a call, as deolmutt_submit takes it, of which no step was taken. Folders are the caller's own numbers.
+   Refused, with *job null: DEOLMUTT_BAD_KIND, BAD_FLAG, SAME_FOLDER, BAD_UNIQUE, BAD_TRIES, BAD_CHUNK, NO_MEMORY. */
+uint32_t deolmutt_drive(uint32_t kind, uint32_t folder, const uint8_t *unique, size_t unique_length, uint32_t to, const uint8_t *first,
+                        size_t first_length, const uint8_t *second, size_t second_length, uint64_t number, deolmutt_driven **job);
+
+/* Takes a driven job back, at any time. */
+uint32_t deolmutt_driven_free(deolmutt_driven *job);
+
+/* Asks for the job's next call, at a second by the caller's clock. Refused: DEOLMUTT_ANSWERED; ASKED, where the reply to a call is waited
+   for. */
+uint32_t deolmutt_driven_ask(deolmutt_driven *job, uint64_t second);
+
+/* The call that was asked for, as often as wanted. `out` gets its name and, right after it, its second name or the bytes of an append.
+   Refused: DEOLMUTT_NOT_ASKED, NO_MEMORY, ROOM (*request and *length are written). */
+uint32_t deolmutt_driven_request(deolmutt_driven *job, deolmutt_request *request, uint8_t *out, size_t room, size_t *length);
+
+/* One row of the reading that was asked for: a name, and the stamp of its file in seconds and its size in bytes. Seen, flag, move, copy and
+   expunge go by the name of the first row that is the message's: the others need not be told. A clean goes by each row of tmp, and by its
+   stamp, the second of its last use. Refused: DEOLMUTT_NOT_ASKED, NO_MEMORY. */
+uint32_t deolmutt_driven_row(deolmutt_driven *job, const uint8_t *name, size_t length, uint64_t stamp, uint64_t size);
+
+/* What was replied to the call that was asked for, enum deolmutt_dir_reply. *step is what this came to, with the answer where it was the
+   last. Refused: DEOLMUTT_BAD_REPLY; NOT_ASKED; NO_MEMORY, where the reply is still waited for, and is to be told again, without its
+   rows, which are kept. */
+uint32_t deolmutt_driven_take(deolmutt_driven *job, uint32_t reply, deolmutt_step_out *step);
+
+/* The answer of a driven job, DEOLMUTT_NO_ANSWER where it has none yet. */
+uint32_t deolmutt_driven_answer(deolmutt_driven *job, deolmutt_answer *answer);
 
 #ifdef __cplusplus
 }

@@ -1,6 +1,9 @@
+pub mod DrivenSlots
+pub mod Laid
 pub mod Listed
 pub mod Records
 pub mod Refused
 pub mod Slots
 pub mod Unanswered
 pub mod Values
+pub mod Wrapping

@@ -67,6 +67,9 @@ refusal_number refusal.NotThere = 8
 refusal_number refusal.NoMessageName = 9
 refusal_number refusal.Unanswered = 10
 refusal_number refusal.Closed = 11
+refusal_number refusal.NotAsked = 12
+refusal_number refusal.Asked = 13
+refusal_number refusal.BadReply = 14
 refusal_number (refusal.Kind kind) = kind_number kind
 
 -- what a refusal says
@@ -81,6 +84,9 @@ refusal_text refusal.NotThere = codes "not there"
 refusal_text refusal.NoMessageName = codes "no message's name"
 refusal_text refusal.Unanswered = codes "unanswered"
 refusal_text refusal.Closed = codes "closed"
+refusal_text refusal.NotAsked = codes "not asked"
+refusal_text refusal.Asked = codes "asked before"
+refusal_text refusal.BadReply = codes "bad reply"
 refusal_text (refusal.Kind kind) = kind_text kind
 
 -- the text of the refusal that has this number, and no byte where none has it

@@ -1,10 +1,16 @@
-//! The store for C: worlds behind handles, scripts, indexes, names and header summaries. `include/deolmutt.h` has the interface.
+//! The store for C: worlds behind handles, jobs whose directory calls C makes itself, scripts, indexes, names and header summaries.
+//! `include/deolmutt.h` has the interface.
 //!
 //! Each exported function here takes references, and `face/deolmutt.c` makes them of C's pointers, which it tests for null first.
 #![tactic(auto)]
 
 mod asked;
 pub mod calls;
+mod checks;
+mod driven;
+mod driven_handle;
+mod driven_slot;
+pub mod driving;
 mod handle;
 mod held;
 pub mod indexing;
@@ -14,6 +20,7 @@ mod loose;
 pub mod names;
 pub mod reading;
 mod refusal;
+mod request;
 mod room;
 mod seed;
 pub mod settle;
@@ -22,8 +29,12 @@ mod slot;
 pub mod version;
 
 pub use asked::{Asked, Own};
+pub use driven::Driven;
+pub use driven_handle::DrivenHandle;
+pub use driven_slot::DrivenSlot;
 pub use handle::Handle;
 pub use held::Held;
 pub use refusal::Refusal;
+pub use request::RequestShown;
 pub use shown::{AnswerShown, StepShown};
 pub use slot::Slot;

@@ -33,6 +33,12 @@ pub enum Refusal {
     Unanswered,
     /// The handle is closed.
     Closed,
+    /// No call of the job waits for a reply.
+    NotAsked,
+    /// A call of the job waits for its reply.
+    Asked,
+    /// No reply.
+    BadReply,
     /// What the store, a name or a line of a script is refused for.
     Kind(PlayKind),
 }
@@ -56,6 +62,9 @@ impl Refusal {
             Refusal::NoMessageName => 9,
             Refusal::Unanswered => 10,
             Refusal::Closed => 11,
+            Refusal::NotAsked => 12,
+            Refusal::Asked => 13,
+            Refusal::BadReply => 14,
             Refusal::Kind(kind) => kind_number(kind),
         }
     }
@@ -76,6 +85,9 @@ impl Refusal {
             Refusal::NoMessageName => "no message's name",
             Refusal::Unanswered => "unanswered",
             Refusal::Closed => "closed",
+            Refusal::NotAsked => "not asked",
+            Refusal::Asked => "asked before",
+            Refusal::BadReply => "bad reply",
             Refusal::Kind(kind) => kind.text(),
         }
     }
@@ -175,6 +187,9 @@ fn refusal_of(number: u32) -> Option<Refusal>
         9 => Some(Refusal::NoMessageName),
         10 => Some(Refusal::Unanswered),
         11 => Some(Refusal::Closed),
+        12 => Some(Refusal::NotAsked),
+        13 => Some(Refusal::Asked),
+        14 => Some(Refusal::BadReply),
         20..=32 => core_of(number),
         40 => Some(Refusal::Kind(PlayKind::Name(NameError::BadHost))),
         41 => Some(Refusal::Kind(PlayKind::Name(NameError::BadMicro))),

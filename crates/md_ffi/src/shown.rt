@@ -1,6 +1,7 @@
 //! What C sees of answers and steps.
 ghost use Rattle.std.specs.Prelude.{◌≡◌};
 ghost use Rattle.md_dirs.specs.Path.{place_index};
+ghost use Rattle.md_ffi.specs.Handled.{reply_at};
 ghost use Rattle.md_ffi.specs.Reading.{place_at};
 ghost use Rattle.md_ffi.specs.Shown.{answer_shown, call_number, call_value, reply_number, step_shown};
 
@@ -100,6 +101,19 @@ fn reply_shown(reply: DirReply) -> u32
         DirReply::Exists => 2,
         DirReply::NotFound => 3,
         DirReply::Fault => 4,
+    }
+}
+
+/// The reply of a number, if it is one's.
+pub(crate) fn reply_of(number: u32) -> Option<DirReply>
+    ensures { result ≡ reply_at number }
+{
+    match number {
+        1 => Some(DirReply::Ok),
+        2 => Some(DirReply::Exists),
+        3 => Some(DirReply::NotFound),
+        4 => Some(DirReply::Fault),
+        _ => None,
     }
 }
 

@@ -1,11 +1,12 @@
 /* Every function of deolmutt.h: what it gives, each refusal that a caller can come to, and every null pointer. Ends with a count. */
 #include "checks.h"
+#include "driven.h"
 #include "worlds.h"
 
 #include <time.h>
 
 static void test_texts(void) {
-    static const uint32_t numbers[] = {1,  2,  3,  4,  5,  6,  7,  8,  9,  10, 11, 20, 21, 22, 23, 24, 25, 26, 27, 28, 29, 30,
+    static const uint32_t numbers[] = {1,  2,  3,  4,  5,  6,  7,  8,  9,  10, 11, 12, 13, 14, 20, 21, 22, 23, 24, 25, 26, 27, 28, 29, 30,
                                        31, 32, 40, 41, 42, 50, 51, 52, 53, 54, 55, 56, 57, 58, 59, 60, 61, 62, 63};
     uint8_t text[64];
     uint32_t number, at = 0;
@@ -569,6 +570,7 @@ int main(void) {
     test_settle();
     test_full();
     test_worlds();
+    test_driven();
     printf("%lu checks\n", checked);
     return 0;
 }

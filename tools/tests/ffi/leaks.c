@@ -1,5 +1,5 @@
 /* So many calls, given as the argument: 1,000 in a world of their own, which is freed, and 1,000 in one world that is kept to the end and
-   settles now and then, in turn. Prints the peak of the memory in KiB, which is to be the same for any number of calls. */
+   settles now and then, in turn. Prints the peak of the memory in KiB, which is to be much the same for any number of calls. */
 #include "deolmutt.h"
 
 #include <stdio.h>
@@ -73,6 +73,21 @@ static void calls_of_a_world(void) {
     must(deolmutt_index((const uint8_t *)"folder a\nlist a\n", 16, out, sizeof out, &length, &line) == DEOLMUTT_NOT_IN_THIS_RUN, "refused index");
 }
 
+/* A driven job that is let go amid its steps, and one that waits for a reply. */
+static void driven_jobs(void) {
+    deolmutt_driven *job = NULL;
+    deolmutt_step_out step;
+    int at;
+    for (at = 0; at < EACH; at++) {
+        must(deolmutt_drive(DEOLMUTT_FLAG, 0, (const uint8_t *)"u", 1, 0, (const uint8_t *)"F", 1, NULL, 0, 1, &job) == DEOLMUTT_OK, "drive");
+        must(deolmutt_driven_ask(job, 1) == DEOLMUTT_OK, "ask");
+        must(deolmutt_driven_row(job, (const uint8_t *)"u:2,S", 5, 0, 0) == DEOLMUTT_OK, "row");
+        if (at % 2 == 0)
+            must(deolmutt_driven_take(job, DEOLMUTT_DONE, &step) == DEOLMUTT_OK, "take");
+        must(deolmutt_driven_free(job) == DEOLMUTT_OK, "free");
+    }
+}
+
 int main(int count, char **words) {
     long left = count > 1 ? atol(words[1]) : 2 * EACH, from;
     struct rusage used;
@@ -82,6 +97,7 @@ int main(int count, char **words) {
     for (from = 0; left > 0; from += EACH / 4) {
         calls_of_a_world();
         calls_of_the_kept_world(kept, from);
+        driven_jobs();
         left -= 2 * EACH;
     }
     must(deolmutt_free(kept) == DEOLMUTT_OK, "free");

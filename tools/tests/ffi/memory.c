@@ -187,6 +187,52 @@ static int call_without(long at) {
     return was_met;
 }
 
+/* A driven flag change with each of its calls' allocations `at` refused: what was refused changed nothing, and is done when it comes again. */
+static int driven_without(long at) {
+    static const uint8_t long_name[] = "1234567890.M123456P1234567Q123456.a-host-with-a-long-name:2,S";
+    static const size_t unique = sizeof long_name - 1 - 4;
+    static uint8_t out[256];
+    deolmutt_driven *job = NULL;
+    deolmutt_request asked, untouched;
+    deolmutt_step_out step, unmade;
+    size_t length = 0;
+    uint32_t status;
+    int was_met = 0, made;
+    memset(&untouched, 9, sizeof untouched);
+    memset(&unmade, 9, sizeof unmade);
+    WITHOUT(deolmutt_drive(DEOLMUTT_FLAG, 0, long_name, unique, 0, (const uint8_t *)"F", 1, NULL, 0, 1, &job));
+    must((status == DEOLMUTT_OK) == (job != NULL), "a driven job or none");
+    if (job == NULL)
+        must(deolmutt_drive(DEOLMUTT_FLAG, 0, long_name, unique, 0, (const uint8_t *)"F", 1, NULL, 0, 1, &job) == DEOLMUTT_OK, "again");
+    for (made = 0; made < 2; made++) {
+        WITHOUT(deolmutt_driven_ask(job, 1));
+        must(status == DEOLMUTT_OK, "to ask takes no memory");
+        asked = untouched;
+        length = 99;
+        WITHOUT(deolmutt_driven_request(job, &asked, out, sizeof out, &length));
+        if (status == DEOLMUTT_NO_MEMORY) {
+            must(memcmp(&asked, &untouched, sizeof asked) == 0 && length == 99, "a refused request shows nothing");
+            must(deolmutt_driven_request(job, &asked, out, sizeof out, &length) == DEOLMUTT_OK, "and may come again");
+        }
+        must(asked.call == (made ? DEOLMUTT_RENAME : DEOLMUTT_LIST) && asked.name + asked.second == length, "it shows the call");
+        if (!made) {
+            WITHOUT(deolmutt_driven_row(job, long_name, sizeof long_name - 1, 0, 0));
+            if (status == DEOLMUTT_NO_MEMORY)
+                must(deolmutt_driven_row(job, long_name, sizeof long_name - 1, 0, 0) == DEOLMUTT_OK, "a refused row may come again");
+        }
+        step = unmade;
+        WITHOUT(deolmutt_driven_take(job, DEOLMUTT_DONE, &step));
+        if (status == DEOLMUTT_NO_MEMORY) {
+            must(memcmp(&step, &unmade, sizeof step) == 0, "a refused reply shows nothing");
+            must(deolmutt_driven_ask(job, 1) == DEOLMUTT_ASKED, "and is still waited for");
+            must(deolmutt_driven_take(job, DEOLMUTT_DONE, &step) == DEOLMUTT_OK, "and may come again");
+        }
+    }
+    must(step.answer.kind == DEOLMUTT_FLAGS && step.effect == 1, "the flags are changed");
+    must(deolmutt_driven_free(job) == DEOLMUTT_OK, "free");
+    return was_met;
+}
+
 int main(void) {
     long at = 0;
     while (call_without(at))
@@ -196,6 +242,10 @@ int main(void) {
     while (steps_without(at))
         at++;
     must(at > 0, "and that of a step");
+    at = 0;
+    while (driven_without(at))
+        at++;
+    must(at > 0, "and that of a driven job");
     printf("%lu refused allocations\n", refused);
     return 0;
 }
