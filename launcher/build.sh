@@ -1,4 +1,4 @@
-# Proving and building the program: crate by crate, each after those that it uses, so that it is known which one is at work.
+# Proving and building a program: crate by crate, each after those that it uses, so that it is known which one is at work.
 
 # Minutes and seconds.
 clock() {
@@ -24,7 +24,7 @@ build_crate() {
   say "crate $crate_number of $crates, $current"
   case $1 in
     maildir_cli) start_rt "$1" /dev/null "$work/log" run -- play ;;
-    maildir_judge) start_rt "$1" /dev/null "$work/log" run -- --version ;;
+    maildir_judge | deolmutt) start_rt "$1" /dev/null "$work/log" run -- --version ;;
     *) start_rt "$1" /dev/null "$work/log" lib ;;
   esac
   join_job
@@ -42,7 +42,7 @@ build_crates() {
 # Proves the program with all that it is made of, and builds it, unless its build is up to date.
 build_program() {
   if [ -z "$(why_stale)" ]; then
-    say "the program is built, and nothing that it is made of has changed since"
+    say "$called is built, and nothing that it is made of has changed since"
     return
   fi
   require_rt

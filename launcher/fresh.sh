@@ -3,6 +3,9 @@
 # When the build began that made the program, as the file's own time, and which toolchain made it.
 stamp=$program.built
 
+# What the launcher calls the program: the one of scripts, unless the mail program or the judge is taken.
+called="the script program"
+
 made_of=
 
 # Adds a crate to those that the program is made of, after the crates that it uses: the order in which rt proves them.
@@ -42,19 +45,24 @@ find_newer() {
   find "$@" -newer "$stamp" -print | head -n 1
 }
 
+# That something is newer than the build, where it is.
+why_older() {
+  newer=$(find_newer)
+  [ -z "$newer" ] || echo "$called's build is older than ${newer#"$top/"}"
+}
+
 # Why the program has to be built, and nothing where its build is there and up to date. With no rt on the path there is no other
 # toolchain that could have made it.
 why_stale() {
   if [ ! -x "$program" ] || [ ! -f "$stamp" ]; then
-    echo "the program is not built"
+    echo "$called is not built"
     return
   fi
   if command -v rt >/dev/null && [ "$(version_of_toolchain)" != "$(cat "$stamp")" ]; then
-    echo "the program's build is by another toolchain"
+    echo "$called's build is by another toolchain"
     return
   fi
-  newer=$(find_newer)
-  [ -z "$newer" ] || printf "the program's build is older than %s" "${newer#"$top/"}"
+  why_older
 }
 
 require_rt() {

@@ -1,17 +1,30 @@
-# Installing the program with its manual page and completions: all of it, or nothing.
+# Installing the programs that are built, with their manual pages and completions: all of it, or nothing.
 
 files=$parts/files.txt
 
-# The files to install: those of the table, and the judge where it is built.
+# Takes the files of a program where it is built: take_files PROGRAM WHY_NOT COMMAND. What an earlier install has put here is not taken away
+# for want of a build: mail may be delivered by it.
+take_files() {
+  if [ -z "$2" ]; then
+    sed -n "s/^$1 //p" "$files" >>"$work/files_to_install"
+  elif recorded_files "$work/record" | grep -qxF -- "$prefix/bin/$1"; then
+    refuse 70 "$prefix/bin/$1 can't be replaced, since $2: '$0 $3' proves and builds it; or uninstall first"
+  else
+    say "$1 is left out, since $2: '$0 $3' proves and builds it"
+  fi
+}
+
 list_files() {
-  cat "$files"
-  if has_judge; then echo 755 crates/maildir_judge/out/maildir_judge bin/maildir_judge; fi
+  take_files deolmutt "$(why_no_mail)" "build mail"
+  take_files maildir_cli "$(why_stale)" build
+  take_files maildir_judge "$(why_no_judge)" "build judge"
+  [ -s "$work/files_to_install" ] || refuse 70 "nothing is installed, since no program is built"
 }
 
 # Calls a function with the mode, the source and the target of each file.
 each_file() {
   while read -r mode from to; do
-    case $mode in '#' | '') ;; *) "$1" "$mode" "$top/$from" "$prefix/$to" ;; esac
+    "$1" "$mode" "$top/$from" "$prefix/$to"
   done <"$work/files_to_install"
 }
 
@@ -81,8 +94,7 @@ open_install() {
   is_installed=
   open_work
   trap close_install EXIT
-  for name in record folders files placed; do : >"$work/$name"; done
-  list_files >"$work/files_to_install"
+  for name in record folders files placed files_to_install; do : >"$work/$name"; done
   [ ! -e "$manifest" ] || { check_record "$manifest" && cp "$manifest" "$work/record"; }
   umask 022
 }
@@ -97,11 +109,10 @@ bring_record() {
   } >"$manifest.new.$$" || refuse 73 "$manifest: can't be written: nothing is installed"
 }
 
-install_program() {
-  why=$(why_stale)
-  [ -z "$why" ] || refuse 70 "the program can't be installed, since $why: '$0 build' proves and builds it"
+install_programs() {
   set_manifest
   open_install
+  list_files
   each_file check_file
   each_file bring_file
   bring_record

@@ -8,6 +8,7 @@ take_judge() {
   program=$judge/out/maildir_judge
   stamp=$program.built
   runs=maildir_judge
+  called="the judge"
 }
 
 # Judges the log of a file, or of standard input where the file is - or none. The judge gets the other words.
@@ -37,20 +38,26 @@ judge_log() {
   run_judge "$@"
 }
 
-# Whether the judge is built, by the launcher or by the gate, and nothing is newer that it is made of.
+# Whether the judge is built, and nothing is newer that it is made of: by the stamp of the launcher's build, or by the time of the gate's.
 has_judge() (
   take_judge
+  [ -n "$(why_stale)" ] || exit 0
   stamp=$program
   [ -x "$program" ] && [ -z "$(find_newer)" ]
 )
 
+why_no_judge() {
+  has_judge || echo "the judge is not built, or older than what it is made of"
+}
+
 # Judges by the built program where it is up to date, and else unproved.
 run_judge() {
   take_judge
-  if has_judge; then
+  why=$(why_no_judge)
+  if [ -z "$why" ]; then
     if [ -n "$file" ]; then exec "$program" "$@" <"$file"; fi
     exec "$program" "$@"
   fi
   remedy="'$0 build judge' proves and builds the judge"
-  play_unproved "the judge is not built, or older than what it is made of" "$@"
+  play_unproved "$why" "$@"
 }

@@ -1,4 +1,4 @@
-# The folder below which the program is installed.
+# The folder below which programs are installed.
 
 set_prefix() {
   prefix=

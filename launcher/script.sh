@@ -19,7 +19,7 @@ set_file() {
     -) shift ;;
     -*) refuse_words "$1 is no option; a file of that name is ./$1" ;;
   esac
-  [ $# -le 1 ] || refuse_words "one file at most"
   [ $# -eq 0 ] || check_readable "$1"
+  [ $# -le 1 ] || refuse_words "one file at most"
   file=${1-}
 }

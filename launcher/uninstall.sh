@@ -11,7 +11,7 @@ remove_file() {
   fi
 }
 
-uninstall_program() {
+uninstall_programs() {
   set_manifest
   [ -e "$manifest" ] || refuse 66 "$manifest: is not there, so nothing is installed below $prefix"
   check_record "$manifest"

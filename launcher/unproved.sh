@@ -28,7 +28,7 @@ print_run() {
 refuse_unanswered() {
   reason=$(sed -n 's/^checked: no-answer: //p' "$work/log")
   [ -n "$reason" ] || cat "$work/log" >&2
-  refuse 70 "the unproved run gave no answer${reason:+: $reason}; '$0 build' builds the program"
+  refuse 70 "the unproved run gave no answer${reason:+: $reason}; '$0 build' builds the script program"
 }
 
 # Plays the script by the words of a command, after why the build isn't used.
@@ -36,7 +36,7 @@ play_unproved() {
   why=$1
   shift
   require_rt
-  say "this run is not proved yet, since $why: ${remedy:-'$0 build' proves and builds the program}"
+  say "this run is not proved yet, since $why: ${remedy:-'$0 build' proves and builds the script program}"
   open_work
   take_script
   start_rt "${runs:-maildir_cli}" "$work/script" "$work/out" try -- "$@"

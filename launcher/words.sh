@@ -30,46 +30,79 @@ refuse_more() {
   [ $# -eq 0 ] || refuse_words "$1 is a word too many"
 }
 
-# A line of the help for each command of the program.
+# A row of the help, whose text goes on below itself where the row would be wider than 80 columns.
+print_row() (
+  set -f
+  line=$(printf '  %-26s' "$1")
+  for word in $2; do
+    if [ $((${#line} + ${#word})) -gt 80 ]; then
+      printf '%s\n' "${line% }"
+      line='                            '
+    fi
+    line="$line$word "
+  done
+  printf '%s\n' "${line% }"
+)
+
+# The rows of the help for the commands of a kind, with what the launcher takes after their words: print_commands KIND AFTER.
 print_commands() {
   while IFS=: read -r kind word argument _ text; do
-    [ "$kind" != command ] || printf '  %-28s%s\n' "$word${argument:+ $argument} [FILE]" "$text"
+    [ "$kind" != "$1" ] || print_row "$word${argument:+ $argument}$2" "$text"
   done <"$words"
 }
 
 print_help() {
   cat <<END
-Usage: deolmutt FILE
-       deolmutt COMMAND
+Usage: ./deolmutt COMMAND [WORD]...
+       ./deolmutt FILE
 
-Plays scripts over a Maildir store in memory. docs/SCRIPT.md has the language.
+Mail, in the maildir BOX:
+$(print_commands mail '')
 
-Commands:
-$(print_commands)
-  judge [WORDS] [FILE]        Says which steps of a log of directory calls break the law of a maildir; docs/JUDGE.md has the words
-  build [judge]               Proves the program, or the judge, and builds it
-  install [--prefix DIR]      Installs maildir_cli with its manual page and completions for bash, zsh and fish, and maildir_judge
-                              where that is built
-  uninstall [--prefix DIR]    Takes away what install has put there
+KEY is a message's name or its path, or - for keys from standard input. First
+'./deolmutt build mail' has to build the mail program; from then on
+'./deolmutt help COMMAND' has all words of a command. docs/deolmutt.1 is the
+manual.
+
+Scripts, over a store in memory, in the language of docs/SCRIPT.md:
+$(print_commands command ' [FILE]')
+
+'./deolmutt FILE' is './deolmutt play FILE', which also plays a FILE that is
+called like a command. With no FILE, or where it is -, the script is read from
+standard input; after -- a word is a FILE whatever it begins with. Until the
+script program is built, each run compiles it anew, unproved, which takes some
+minutes, and prints at most 1 MiB.
+
+Logs of directory calls, with the words of docs/JUDGE.md:
+$(print_row 'judge [WORD]... [FILE]' 'Says which steps of a log break the law of a maildir')
+
+Building and installing:
+$(
+    print_row 'build mail' 'Proves the mail program, deolmutt, and builds it'
+    print_row build 'Proves the script program, maildir_cli, and builds it'
+    print_row 'build judge' 'Proves the judge, maildir_judge, and builds it'
+    print_row 'install [--prefix DIR]' 'Installs those of these programs that are built, with manual pages and completions for '\
+'bash, zsh and fish'
+    print_row 'uninstall [--prefix DIR]' 'Takes away what install has put there'
+  )
+
+DIR is ~/.local where it is not given; '--prefix /usr/local' installs for all
+users. The deolmutt that is installed has the mail commands alone. A zsh finds
+its completions where DIR's folder share/zsh/site-functions is in fpath. What
+install has put there is recorded, and a file that was changed since is never
+touched.
 
 Options:
-  -h, --help                  Print help
-  -V, --version               Print version
+$(
+    print_row '-h, --help' 'Print help'
+    print_row '-V, --version' 'Print version'
+  )
 
-'deolmutt FILE' is 'deolmutt play FILE'. With no FILE, or where it is -, the script is read from standard input; after -- a word
-is a FILE whatever it begins with.
-
-DIR is ~/.local where it is not given; '--prefix /usr/local' installs for all users. A zsh finds its completions where DIR's folder
-share/zsh/site-functions is in fpath. What install has put there is recorded, and a file that was changed since is never touched.
-
-Until the program is built, and after a change of what it is made of, scripts are played unproved: each run compiles it anew, which
-takes some minutes, and prints at most 1 MiB. 'deolmutt build' proves and builds it.
-
-Status: the program's own, which is 0, or 1 where a line was refused or reading, writing or memory failed; and where the launcher
-refuses, one of sysexits.h:
-  64  the words are wrong             70  the program is not built, or its unproved run failed
-  65  a file is not as it must be     73  a file or folder can't be made or taken away
-  66  a file can't be read            74  reading or writing failed
-  69  rt, the toolchain, is missing   129, 130, 143  ended by a signal
+Status: the program's own, or where the launcher refuses, one of sysexits.h:
+  64  the words are wrong               70  a program is not built, or its
+  65  a file is not as it must be           unproved run failed
+  66  a file can't be read              73  a file or folder can't be made
+  69  rt, the toolchain, is missing         or taken away
+  129, 130, 143  ended by a signal      74  reading or writing failed
 END
 }

@@ -7,6 +7,7 @@ import signal
 import subprocess
 import tempfile
 import threading
+import time
 import unittest
 
 HERE = os.path.dirname(os.path.realpath(__file__))
@@ -17,6 +18,7 @@ TOOLS = '''basename cat chmod cp cut date dirname find grep head mkdir mktemp mv
 tail touch wc'''.split()
 
 PROGRAM = 'crates/maildir_cli/out/maildir_cli'
+MAIL_PROGRAM = 'crates/deolmutt/out/deolmutt'
 TOOLCHAIN = 'the toolchain of a test\n'
 SCRIPT = 'folder inbox\nlist inbox\n'
 
@@ -26,6 +28,8 @@ md_name_tests: md_name
 md_dirs: md_name indexmap
 md_core: md_name md_dirs
 maildir_cli: md_core clap
+deolmutt: md_name md_disk clap
+md_disk: md_dirs
 """
 MADE_OF = ['md_name', 'md_dirs', 'md_core', 'maildir_cli']
 
@@ -37,6 +41,14 @@ def without_rights():
     if not shutil.which('setpriv'):
         raise unittest.SkipTest('setpriv is not installed, and root may write everywhere')
     return [shutil.which('setpriv'), '--reuid=65534', '--regid=65534', '--clear-groups']
+
+
+def posix_shells():
+    """The shells that are installed of those that will do, each with its words."""
+    for shell in ('dash', 'bash --posix', 'busybox sh', 'mksh', 'yash', 'zsh --emulate sh'):
+        name, *flags = shell.split()
+        if shutil.which(name):
+            yield shutil.which(name), flags
 
 
 def take_signals():
@@ -63,7 +75,7 @@ class Scene(unittest.TestCase):
         self.copy_tree()
         for tool in TOOLS:
             os.symlink(shutil.which(tool), self.path('tools', tool))
-        for fake in ('rt', 'maildir_cli'):
+        for fake in ('rt', 'maildir_cli', 'mail'):
             shutil.copy(os.path.join(HERE, 'fake', fake), os.path.join(self.bin, fake))
         self.environment = {
             'PATH': f"{self.bin}:{self.path('tools')}",
@@ -85,7 +97,7 @@ class Scene(unittest.TestCase):
         without_tests = shutil.ignore_patterns('tests', '__pycache__')
         shutil.copytree(os.path.join(TOP, 'launcher'), os.path.join(self.top, 'launcher'), ignore=without_tests)
         os.makedirs(os.path.join(self.top, 'docs'))
-        for file in ('deolmutt', 'docs/maildir_cli.1'):
+        for file in ('deolmutt', 'docs/maildir_cli.1', 'docs/deolmutt.1'):
             shutil.copy(os.path.join(TOP, file), os.path.join(self.top, file))
         # A launcher that looks at its job more often makes the tests quicker.
         work = os.path.join(self.top, 'launcher', 'work.sh')
@@ -99,6 +111,11 @@ class Scene(unittest.TestCase):
                 source = os.path.join(self.top, 'crates', line.split(':')[0], 'src')
                 os.makedirs(source, exist_ok=True)
                 self.write(os.path.join(source, 'lib.rt'), '')
+
+    def change(self, crate):
+        """Changes a crate, later than all that was made so far."""
+        time.sleep(0.01)
+        self.write(os.path.join(self.top, 'crates', crate, 'src', 'lib.rt'), '// changed\n')
 
     def write(self, path, text):
         with open(path, 'w', encoding='utf-8') as file:
@@ -124,6 +141,12 @@ class Scene(unittest.TestCase):
         how = {'env': self.environment, 'cwd': self.room, 'input': '', **how}
         return subprocess.run([launcher or os.path.join(self.top, 'deolmutt'), *words], capture_output=True, text=True, timeout=60, **how)
 
+    def run_into_full(self, *words):
+        """A run whose standard output is a full disk."""
+        command = [os.path.join(self.top, 'deolmutt'), *words]
+        with open('/dev/full', 'w', encoding='utf-8') as full:
+            return subprocess.run(command, stdout=full, stderr=subprocess.PIPE, env=self.environment, text=True, check=False)
+
     def refused(self, status, text, *words, **how):
         """One line on standard error, with the status, and nothing on standard output."""
         ran = self.run_launcher(*words, **how)
@@ -133,9 +156,16 @@ class Scene(unittest.TestCase):
 
     def build(self):
         """Leaves what `deolmutt build` leaves, which a test of that compares with this."""
-        program = os.path.join(self.top, PROGRAM)
+        return self.leave_build(PROGRAM, 'maildir_cli')
+
+    def build_mail(self):
+        """Leaves what `deolmutt build mail` leaves."""
+        return self.leave_build(MAIL_PROGRAM, 'mail')
+
+    def leave_build(self, program, fake):
+        program = os.path.join(self.top, program)
         os.makedirs(os.path.dirname(program))
-        shutil.copy(os.path.join(self.bin, 'maildir_cli'), program)
+        shutil.copy(os.path.join(self.bin, fake), program)
         self.write(f'{program}.built', TOOLCHAIN)
         return program
 

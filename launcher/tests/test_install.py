@@ -1,5 +1,6 @@
 """Installing below a prefix, and taking back exactly that."""
 
+import functools
 import hashlib
 import os
 import shutil
@@ -7,25 +8,31 @@ import stat
 import subprocess
 import unittest
 
-from scene import PROGRAM, Scene, without_rights
+from scene import MAIL_PROGRAM, PROGRAM, Scene, without_rights
 
-# What is installed, as users expect it below a prefix, and where each comes from.
-INSTALLED = {
-    'bin/maildir_cli': PROGRAM,
-    'share/man/man1/maildir_cli.1': 'docs/maildir_cli.1',
-    'share/bash-completion/completions/maildir_cli': 'launcher/completions/maildir_cli.bash',
-    'share/zsh/site-functions/_maildir_cli': 'launcher/completions/_maildir_cli',
-    'share/fish/vendor_completions.d/maildir_cli.fish': 'launcher/completions/maildir_cli.fish',
-}
 MANIFEST = 'share/deolmutt/manifest'
 
 
-class Install(Scene):
+def files_of(name, program):
+    """What is installed of a program, as users expect it below a prefix, and where each file comes from."""
+    return {
+        f'bin/{name}': program,
+        f'share/man/man1/{name}.1': f'docs/{name}.1',
+        f'share/bash-completion/completions/{name}': f'launcher/completions/{name}.bash',
+        f'share/zsh/site-functions/_{name}': f'launcher/completions/_{name}',
+        f'share/fish/vendor_completions.d/{name}.fish': f'launcher/completions/{name}.fish',
+    }
+
+
+INSTALLED, MAIL = files_of('maildir_cli', PROGRAM), files_of('deolmutt', MAIL_PROGRAM)
+
+
+class Prefixed(Scene):
+    """A prefix, and what may be asked of it."""
 
     def setUp(self):
         super().setUp()
         self.prefix = self.path('a prefix')
-        self.build()
 
     def below(self, *words):
         return os.path.join(self.prefix, *words)
@@ -59,13 +66,21 @@ class Install(Scene):
         self.assertIn(text, ran.stderr.splitlines()[-1])
         self.assertEqual(self.tree() if os.path.isdir(self.prefix) else None, before)
 
-    def assert_installed(self):
+    def assert_installed(self, expected=None):
+        expected = expected or INSTALLED
         files = {path: text for path, text in self.tree().items() if text is not None}
-        self.assertEqual({*files}, {*INSTALLED, MANIFEST})
-        for path, source in INSTALLED.items():
+        self.assertEqual({*files}, {*expected, MANIFEST})
+        for path, source in expected.items():
             self.assertEqual(files[path], self.read(os.path.join(self.top, source)))
             mode = 0o755 if path.startswith('bin/') else 0o644
             self.assertEqual(stat.S_IMODE(os.stat(self.below(path)).st_mode), mode, path)
+
+
+class Install(Prefixed):
+
+    def setUp(self):
+        super().setUp()
+        self.build()
 
     def test_an_empty_prefix_gets_all_and_gives_all_back(self):
         os.mkdir(self.prefix)
@@ -202,17 +217,17 @@ class Install(Scene):
     def test_a_prefix_that_cannot_be_written_is_refused(self):
         os.mkdir(self.prefix)
         os.chmod(self.prefix, 0o555)
-        self.assert_refused_without_rights(f"{self.below('bin')}: can't be made")
+        self.assert_refused_without_rights(f"{self.below('bin')}: can't be made", 'install')
 
     def test_an_install_that_fails_on_its_way_is_taken_back(self):
         os.makedirs(self.below('share', 'zsh'))
         for folder in ('', 'share', 'share/zsh'):
             os.chmod(self.below(folder), 0o777 if folder != 'share/zsh' else 0o555)
-        self.assert_refused_without_rights(f"{self.below('share', 'zsh', 'site-functions')}: can't be made")
+        self.assert_refused_without_rights(f"{self.below('share', 'zsh', 'site-functions')}: can't be made", 'install')
 
-    def assert_refused_without_rights(self, text):
+    def assert_refused_without_rights(self, text, command):
         before = self.tree()
-        words = [*without_rights(), os.path.join(self.top, 'deolmutt'), 'install', '--prefix', self.prefix]
+        words = [*without_rights(), os.path.join(self.top, 'deolmutt'), command, '--prefix', self.prefix]
         ran = subprocess.run(words, capture_output=True, text=True, env=self.environment, cwd='/', check=False)
         self.assertEqual((ran.returncode, ran.stdout), (73, ''), ran.stderr)
         self.assertIn(text, ran.stderr.splitlines()[-1])
@@ -243,17 +258,14 @@ class Install(Scene):
     def test_a_file_that_cannot_be_taken_away_is_named(self):
         os.mkdir(self.prefix)
         self.install()
-        before = self.tree()
         os.chmod(self.below('bin'), 0o555)
-        words = [*without_rights(), os.path.join(self.top, 'deolmutt'), 'uninstall', '--prefix', self.prefix]
-        ran = subprocess.run(words, capture_output=True, text=True, env=self.environment, cwd='/', check=False)
-        self.assertEqual((ran.returncode, ran.stdout), (73, ''))
-        self.assertIn("bin/maildir_cli: can't be taken away", ran.stderr.splitlines()[-1])
-        self.assertEqual(self.tree(), before)
+        self.assert_refused_without_rights("bin/maildir_cli: can't be taken away", 'uninstall')
 
     def test_a_program_that_is_not_built_is_refused(self):
         shutil.rmtree(os.path.join(self.top, 'crates', 'maildir_cli', 'out'))
-        self.assert_refused(70, f"'{self.top}/deolmutt build'", 'install')
+        self.assert_refused(70, 'nothing is installed, since no program is built', 'install')
+        for command in ('build', 'build mail', 'build judge'):
+            self.assertIn(f"'{self.top}/deolmutt {command}'", self.run_launcher('install').stderr)
 
     def test_a_file_that_is_missing_here_is_named(self):
         os.remove(os.path.join(self.top, 'docs', 'maildir_cli.1'))
@@ -300,7 +312,84 @@ class Install(Scene):
     def test_it_says_where_its_program_is_not_found(self):
         self.assertIn('is not on the path', self.install().stderr)
         environment = {**self.environment, 'PATH': f"{self.below('bin')}:{self.environment['PATH']}"}
-        self.assertEqual(self.install(env=environment).stderr, '')
+        self.assertNotIn('is not on the path', self.install(env=environment).stderr)
+
+
+class Programs(Prefixed):
+    """Which programs are installed: those that are built."""
+
+    def setUp(self):
+        super().setUp()
+        os.mkdir(self.prefix)
+
+    def build_all(self):
+        self.build()
+        self.build_mail()
+
+    def assert_left_out(self, *names):
+        """A line for each program that is left out, with what would build it."""
+        commands = {'deolmutt': 'build mail', 'maildir_cli': 'build', 'maildir_judge': 'build judge'}
+        said = [line for line in self.install().stderr.splitlines() if 'left out' in line]
+        self.assertEqual(len(said), len(names), said)
+        for line, name in zip(said, names):
+            self.assertRegex(line, f'^deolmutt: {name} is left out, since ')
+            self.assertIn(f"'{self.top}/deolmutt {commands[name]}' proves and builds it", line)
+
+    def test_mail_alone(self):
+        self.build_mail()
+        self.assert_left_out('maildir_cli', 'maildir_judge')
+        self.assert_installed(MAIL)
+        run = functools.partial(subprocess.run, input='a message\n', capture_output=True, text=True, env=self.environment, check=True)
+        self.assertEqual(run([self.below('bin', 'deolmutt'), 'deliver', 'Mail']).stdout, '[deliver][Mail]\na message\n')
+        self.uninstall()
+        self.assertEqual(self.tree(), {})
+
+    def test_the_player_alone(self):
+        self.build()
+        self.assert_left_out('deolmutt', 'maildir_judge')
+        self.assert_installed()
+
+    def test_all(self):
+        self.build_all()
+        self.leave_build('crates/maildir_judge/out/maildir_judge', 'maildir_cli')
+        self.assert_left_out()
+        self.assert_installed({**MAIL, **INSTALLED, 'bin/maildir_judge': PROGRAM})
+        self.uninstall()
+        self.assertEqual(self.tree(), {})
+
+    def test_a_program_that_is_built_later_is_added(self):
+        self.build()
+        self.install()
+        self.build_mail()
+        self.install()
+        self.assert_installed({**MAIL, **INSTALLED})
+
+    def test_a_build_that_is_too_old_is_left_out(self):
+        self.build_all()
+        source = os.path.join(self.top, 'crates', 'md_disk', 'src', 'lib.rt')
+        os.utime(source, (2_000_000_000, 2_000_000_000))
+        self.assert_left_out('deolmutt', 'maildir_judge')
+        self.assertIn("the mail program's build is older than crates/md_disk/src/lib.rt", self.install().stderr)
+        self.assert_installed()
+
+    def test_what_is_installed_does_not_go_for_want_of_a_build(self):
+        self.build_all()
+        self.install()
+        shutil.rmtree(os.path.join(self.top, 'crates', 'deolmutt', 'out'))
+        self.assert_refused(70, f"{self.below('bin', 'deolmutt')} can't be replaced, since the mail program is not built", 'install')
+        self.assert_refused(70, f"'{self.top}/deolmutt build mail' proves and builds it", 'install')
+        self.build_mail()
+        shutil.rmtree(os.path.join(self.top, 'crates', 'maildir_cli', 'out'))
+        self.assert_refused(70, f"{self.below('bin', 'maildir_cli')} can't be replaced, since the script program is not built", 'install')
+        self.uninstall()
+        self.install()
+        self.assert_installed(MAIL)
+
+    def test_a_foreign_deolmutt_is_never_overwritten(self):
+        self.build_all()
+        os.mkdir(self.below('bin'))
+        os.symlink(os.path.join(self.top, 'deolmutt'), self.below('bin', 'deolmutt'))
+        self.assert_refused(73, f"{self.below('bin', 'deolmutt')}: is not from an install", 'install')
 
 
 if __name__ == '__main__':

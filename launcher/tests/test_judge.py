@@ -53,6 +53,11 @@ class Judged(Scene):
         self.assertIn('nothing that it is made of has changed since', again.stderr)
         self.refused(64, 'a word too many', 'build', 'judge', 'judge')
 
+    def test_a_build_that_left_an_old_file_is_used(self):
+        self.run_launcher('build', 'judge')
+        os.utime(os.path.join(self.top, 'crates', 'maildir_judge', 'out', 'maildir_judge'), (1, 1))
+        self.assertEqual(self.run_launcher('judge', self.log).stdout, f'words: \n{LOG}')
+
     def test_it_is_installed_where_it_is_built(self):
         self.run_launcher('build')
         self.run_launcher('install')

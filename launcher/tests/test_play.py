@@ -2,13 +2,12 @@
 
 import os
 import pty
-import shutil
 import signal
 import subprocess
 import time
 import unittest
 
-from scene import SCRIPT, Scene, Watch, without_rights
+from scene import SCRIPT, Scene, Watch, posix_shells, without_rights
 
 NOT_PROVED = 'this run is not proved yet'
 NAMES = ('a b', '-odd', '--help', '*', "it's", 'two\nlines', '$HOME', 'ü', 'play', 'build', '(')
@@ -146,24 +145,21 @@ class Built(Scene):
         self.assert_plays('-c', 'deolmutt "a script"', launcher='/bin/sh')
 
     def test_any_posix_shell_will_do(self):
-        for shell in ('dash', 'bash --posix', 'busybox sh', 'mksh', 'yash', 'zsh --emulate sh'):
-            name, *flags = shell.split()
-            if shutil.which(name):
-                with self.subTest(shell=shell):
-                    words = (*flags, os.path.join(self.top, 'deolmutt'))
-                    os.remove(self.program)
-                    for command in ('build', 'install', 'uninstall'):
-                        ran = self.run_launcher(*words, command, launcher=shutil.which(name))
-                        self.assertEqual(ran.returncode, 0, ran.stderr)
-                    self.assert_plays(*words, self.script(), launcher=shutil.which(name))
+        for shell, flags in posix_shells():
+            with self.subTest(shell=shell):
+                words = (*flags, os.path.join(self.top, 'deolmutt'))
+                os.remove(self.program)
+                for command in ('build', 'install', 'uninstall', '--help'):
+                    ran = self.run_launcher(*words, command, launcher=shell)
+                    self.assertEqual(ran.returncode, 0, ran.stderr)
+                self.assert_plays(*words, self.script(), launcher=shell)
 
     def test_the_status_is_that_of_the_program(self):
         ran = self.run_launcher(self.script(text='refused\n'))
         self.assertEqual((ran.returncode, ran.stderr), (1, 'line 1: bad command\n'))
 
     def test_it_is_not_used_after_a_change(self):
-        time.sleep(0.01)
-        self.write(os.path.join(self.top, 'crates', 'md_core', 'src', 'lib.rt'), '// changed\n')
+        self.change('md_core')
         self.assert_stale('older than crates/md_core/src/lib.rt')
 
     def test_it_is_not_used_after_a_file_went(self):
@@ -176,8 +172,7 @@ class Built(Scene):
         self.assert_stale("by another toolchain")
 
     def test_it_is_used_after_a_change_that_it_is_not_made_of(self):
-        time.sleep(0.01)
-        self.write(os.path.join(self.top, 'crates', 'md_name_tests', 'src', 'lib.rt'), '// changed\n')
+        self.change('md_name_tests')
         self.assert_plays(self.script())
 
     def test_it_is_used_without_a_toolchain(self):
@@ -189,31 +184,19 @@ class Built(Scene):
         self.tell('seconds', '1')
         building = Watch(self, 'build')
         self.assertTrue(building.wait_for('crate 2 of'))
-        self.write(os.path.join(self.top, 'crates', 'md_name', 'src', 'lib.rt'), '// changed\n')
+        self.change('md_name')
         self.assertEqual(building.end(60)[1], 0)
         self.tell('seconds', '0')
         self.assert_stale('older than crates/md_name/src/lib.rt')
 
     def test_output_that_cannot_be_written_is_the_program_s_to_tell(self):
-        with open('/dev/full', 'w', encoding='utf-8') as full:
-            ran = subprocess.run(
-                [os.path.join(self.top, 'deolmutt'), self.script()], stdout=full, stderr=subprocess.PIPE, env=self.environment, check=False
-            )
-        self.assertNotEqual(ran.returncode, 0)
+        self.assertNotEqual(self.run_into_full(self.script()).returncode, 0)
 
 
 class Unwritten(Scene):
 
     def test_output_that_cannot_be_written_is_named(self):
-        with open('/dev/full', 'w', encoding='utf-8') as full:
-            ran = subprocess.run(
-                [os.path.join(self.top, 'deolmutt'), self.script()],
-                stdout=full,
-                stderr=subprocess.PIPE,
-                env=self.environment,
-                text=True,
-                check=False,
-            )
+        ran = self.run_into_full(self.script())
         self.assertEqual(ran.returncode, 74)
         self.assertIn("standard output can't be written", ran.stderr)
 

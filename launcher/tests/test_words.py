@@ -1,6 +1,7 @@
 """What the launcher takes and what it refuses."""
 
 import os
+import re
 import subprocess
 import unittest
 
@@ -32,6 +33,7 @@ class Words(Scene):
             (('--version', 'x'), 'x is a word too many'),
             (('index', '2', script, script), 'one file at most'),
             (('build', 'x'), 'x is a word too many'),
+            (('build', 'mail', 'x'), 'x is a word too many'),
             (('install', 'x'), 'x is a word too many'),
             (('install', '--prefix'), '--prefix takes a folder'),
             (('install', '--prefix='), '--prefix takes a folder'),
@@ -44,7 +46,7 @@ class Words(Scene):
     def test_files_that_cannot_be_read_are_refused(self):
         os.mkdir(self.path('a folder'))
         missing = (('no file',), ('play', 'no file'), ('threads', '2', 'no file'), ('index', '2', '--', '-no'), ('--', '-no'), ('play', ''))
-        for words in missing:
+        for words in (*missing, ('lst', 'Mail')):
             with self.subTest(words=words):
                 self.refused(66, 'no such file', *words)
         self.refused(66, 'a folder: is a folder', 'a folder')
@@ -64,13 +66,22 @@ class Words(Scene):
 
     def test_help_has_each_word(self):
         files = ('play [FILE]', 'threads N [FILE]', 'index N [FILE]')
-        others = ('build', 'install [--prefix DIR]', 'uninstall [--prefix DIR]', '--version')
+        others = ('build', 'build mail', 'build judge', 'install [--prefix DIR]', 'uninstall [--prefix DIR]', '--version')
+        mail = ('make BOX', 'deliver BOX', 'list BOX', 'read BOX KEY', 'flag BOX CHANGE KEY...', 'move BOX TO KEY...', 'check BOX')
         for words in (('--help',), ('-h',), ('help',), ('play', '--help'), ('threads', '-h'), ('install', '--help')):
             with self.subTest(words=words):
                 ran = self.run_launcher(*words)
                 self.assertEqual((ran.returncode, ran.stderr), (0, ''))
-                for word in files + others:
-                    self.assertIn(word, ran.stdout)
+                for word in mail + files + others:
+                    self.assertRegex(ran.stdout, rf'(?m)^  ([^ ].*, )?{re.escape(word)}(  |$)')
+
+    def test_help_begins_with_mail_and_fits_a_terminal(self):
+        lines = self.run_launcher('--help').stdout.splitlines()
+        self.assertEqual([line for line in lines if len(line) > 80], [])
+        rows = [line.split()[0] for line in lines if line.startswith('  ') and line[2] != ' ']
+        at = [rows.index(word) for word in ('make', 'check', 'play', 'index', 'judge', 'build', 'install', 'uninstall')]
+        self.assertEqual(at, sorted(at))
+        self.assertEqual(at[0], 0)
 
     def test_the_version_is_that_of_the_program(self):
         with open(os.path.join(TOP, 'crates', 'maildir_cli', 'src', 'options.rt'), encoding='utf-8') as file:

@@ -1,0 +1,158 @@
+"""The commands on mail: their words as they are, and never an unproved run."""
+
+import os
+import subprocess
+import unittest
+
+from scene import MAIL_PROGRAM, SCRIPT, TOP, TOOLCHAIN, Scene, Watch, posix_shells
+
+COMMANDS = ('make', 'deliver', 'list', 'read', 'seen', 'flag', 'move', 'copy', 'expunge', 'clean', 'check')
+
+
+class Unbuilt(Scene):
+
+    def test_nothing_is_run_and_the_remedy_is_named(self):
+        for command in COMMANDS:
+            text = f"{command} can't be run, since the mail program is not built: '{self.top}/deolmutt build mail' proves and builds it"
+            self.refused(70, text, command, 'Mail')
+        self.assertEqual(self.calls(), [])
+
+    def test_what_it_is_given_to_read_is_not_read(self):
+        with open(self.script('a message'), encoding='utf-8') as message:
+            words = [os.path.join(self.top, 'deolmutt'), 'deliver', 'Mail']
+            ran = subprocess.run(words, stdin=message, env=self.environment, capture_output=True, check=False)
+            self.assertEqual((ran.returncode, ran.stdout), (70, b''))
+            self.assertEqual(message.read(), SCRIPT)
+
+    def test_a_missing_toolchain_is_not_asked_for(self):
+        os.remove(os.path.join(self.bin, 'rt'))
+        self.refused(70, 'the mail program is not built', 'list', 'Mail')
+
+    def test_help_is_the_launcher_s(self):
+        expected = self.run_launcher('--help').stdout
+        for words in (('help', 'list'), ('list', '--help'), ('flag', 'Mail', '-h')):
+            ran = self.run_launcher(*words)
+            self.assertEqual((ran.returncode, ran.stdout, ran.stderr), (0, expected, ''))
+        self.refused(70, 'list can', 'list', '--', '--help')
+
+
+class Built(Scene):
+
+    def setUp(self):
+        super().setUp()
+        self.program = self.build_mail()
+
+    def assert_runs(self, *words, **how):
+        ran = self.run_launcher(*words, input=SCRIPT, **how)
+        self.assertEqual((ran.returncode, ran.stdout, ran.stderr), (0, ''.join(f'[{word}]' for word in words) + '\n' + SCRIPT, ''))
+
+    def assert_stale(self, why):
+        self.refused(70, f"list can't be run, since the mail program's build is {why}: '{self.top}/deolmutt build mail'", 'list', 'Mail')
+        self.assertFalse([call for call in self.calls() if ' try ' in call])
+
+    def test_words_pass_as_they_are(self):
+        for command in COMMANDS:
+            self.assert_runs(command)
+            self.assert_runs(command, '--help')
+        odd = ('*', "it's", 'two\nlines', '$HOME', '\\n')
+        for words in (('Mail',), ('a b', '', '-'), ('--', '-x'), ('Mail', '+FS-T', *odd), ('--prefix', '-V')):
+            self.assert_runs('flag', *words)
+        self.assertEqual(self.calls(), [])
+
+    def test_a_message_may_have_any_bytes(self):
+        message = bytes(range(256)) * 1000
+        words = [os.path.join(self.top, 'deolmutt'), 'deliver', 'Mail']
+        ran = subprocess.run(words, input=message, env=self.environment, capture_output=True, check=False)
+        self.assertEqual((ran.returncode, ran.stdout), (0, b'[deliver][Mail]\n' + message))
+
+    def test_the_status_is_that_of_the_program(self):
+        for status in (64, 65, 75):
+            self.tell('mail-status', str(status))
+            self.assertEqual(self.run_launcher('read', 'Mail', 'x').returncode, status)
+
+    def test_help_is_the_program_s(self):
+        ran = self.run_launcher('help', 'flag')
+        self.assertEqual((ran.returncode, ran.stdout, ran.stderr), (0, '[help][flag]\n', ''))
+        self.assertIn('threads N [FILE]', self.run_launcher('help', 'threads').stdout)
+        self.assertIn('threads N [FILE]', self.run_launcher('help').stdout)
+
+    def test_it_is_found_from_anywhere(self):
+        link = self.path('a link')
+        os.symlink('a tree/deolmutt', link)
+        self.assert_runs('list', 'Mail', launcher=link)
+        self.assert_runs('list', 'Mail', launcher='../../deolmutt', cwd=os.path.join(self.top, 'crates', 'md_core'))
+
+    def test_a_file_may_have_the_name_of_a_command(self):
+        self.build()
+        for name in COMMANDS:
+            self.script(name)
+            for words in (('play', name), (f'./{name}',), ('--', name)):
+                self.assertEqual(self.run_launcher(*words).stdout, f'words: play\n{SCRIPT}')
+
+    def test_it_is_not_used_after_a_change(self):
+        self.change('md_core')
+        self.assert_runs('list', 'Mail')
+        self.change('md_disk')
+        self.assert_stale('older than crates/md_disk/src/lib.rt')
+
+    def test_it_is_not_used_with_another_toolchain(self):
+        self.write(self.path('kit', 'KIT-ID'), 'another\n')
+        self.assert_stale('by another toolchain')
+        os.remove(os.path.join(self.bin, 'rt'))
+        self.assert_runs('list', 'Mail')
+
+    def test_a_build_of_the_gate_goes_by_its_own_time(self):
+        os.remove(f'{self.program}.built')
+        self.assert_runs('list', 'Mail')
+        self.change('md_disk')
+        self.assert_stale('older than crates/md_disk/src/lib.rt')
+
+    def test_any_posix_shell_will_do(self):
+        for shell, flags in posix_shells():
+            with self.subTest(shell=shell):
+                ran = self.run_launcher(*flags, os.path.join(self.top, 'deolmutt'), 'list', 'a b', launcher=shell)
+                self.assertEqual((ran.returncode, ran.stdout, ran.stderr), (0, '[list][a b]\n', ''))
+
+
+class Build(Scene):
+
+    def test_it_is_built_crate_by_crate(self):
+        ran = self.run_launcher('build', 'mail')
+        self.assertEqual(self.calls(), ['md_name lib', 'md_dirs lib', 'md_disk lib', 'deolmutt run -- --version'], ran.stderr)
+        self.assertIn('proved and built 4 crates', ran.stderr)
+        self.assertEqual(self.read(os.path.join(self.top, f'{MAIL_PROGRAM}.built')), TOOLCHAIN)
+        self.assertEqual(self.run_launcher('list', 'Mail').stdout, '[list][Mail]\n')
+        again = self.run_launcher('build', 'mail')
+        self.assertIn('the mail program is built, and nothing that it is made of has changed since', again.stderr)
+        self.assertEqual(len(self.calls()), 4)
+
+    def test_the_player_is_another_build(self):
+        self.run_launcher('build')
+        self.refused(70, 'the mail program is not built', 'list', 'Mail')
+        self.assertFalse([call for call in self.calls() if call.startswith('deolmutt ')])
+
+    def test_one_program_at_a_time(self):
+        self.refused(64, 'judge is a word too many', 'build', 'mail', 'judge')
+
+    def test_a_change_while_it_is_proved_is_newer(self):
+        self.tell('seconds', '1')
+        building = Watch(self, 'build', 'mail')
+        self.assertTrue(building.wait_for('crate 2 of'))
+        self.change('md_name')
+        self.assertEqual(building.end(60)[1], 0)
+        self.refused(70, 'older than crates/md_name/src/lib.rt', 'list', 'Mail')
+
+
+class Table(unittest.TestCase):
+
+    def test_no_word_is_two_commands(self):
+        with open(os.path.join(TOP, 'launcher', 'words.txt'), encoding='utf-8') as file:
+            rows = [line.split(':') for line in file if line.startswith(('command:', 'mail:'))]
+        words = [row[1] for row in rows]
+        self.assertEqual([row[1] for row in rows if row[0] == 'mail'], [*COMMANDS])
+        taken = [*words, 'help', 'judge', 'build', 'install', 'uninstall']
+        self.assertEqual(len(taken), len({*taken}))
+
+
+if __name__ == '__main__':
+    unittest.main()
