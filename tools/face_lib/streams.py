@@ -50,6 +50,8 @@ _JUDGE_FORMS = [("", _LONG_LOG), ("--lines", _LONG_LOG), ("--json", _LONG_LOG)]
 _JUDGE_RUNS = [("", _LOG), ("--lines", _LOG), ("--json", _LOG), ("--help", _LOG), *_JUDGE_FORMS]
 _JUDGE_READS = [("", _LOG), ("--lines", _LOG)]
 _TRACE_RUNS = [("", _FILES), ("--states", _FILES)]
+_DISK_RUNS = [("--help", b""), ("--version", b""), ("help list", b"")]
+_NO_MAILDIR = b"deolmutt: /none: no such maildir\n"
 
 FACES: dict[str, Face] = {
     "maildir_cli": Face(
@@ -91,6 +93,18 @@ FACES: dict[str, Face] = {
         unread=_each("", Ended(1, b"", _UNWRITTEN), _TRACE_RUNS),
         reset=_each("", Ended(1, b"", _UNREAD), _TRACE_RUNS[:1]),
         no_text=Ended(2, b"", b"maildir_trace: usage: maildir_trace [--states] < SCRIPT\n"),
+    ),
+    # Its streams beside a maildir are a matter of tools/check_disk.
+    "deolmutt": Face(
+        streams=[
+            *_each(">/dev/full", Ended(74, b"", b"deolmutt: standard output: writing failed: No space left on device (os error 28)\n"), _DISK_RUNS),
+            *_each("</", Ended(66, b"", _NO_MAILDIR), [("deliver /none", b""), ("seen /none -", b"")]),
+            *_each("2>/dev/full", Ended(66, b"", b""), [("deliver /none", b""), ("list /none", b"")]),
+            *_each("2>&-", Ended(64, b"", b""), [("mak", b""), ("flag /none F k", b"")]),
+        ],
+        unread=_each("", Ended(74, b"", b"deolmutt: standard output: writing failed: Broken pipe (os error 32)\n"), _DISK_RUNS),
+        reset=[],
+        no_text=Ended(64, b"", b"deolmutt: a word is not UTF-8; try 'deolmutt --help'\n"),
     ),
 }
 

@@ -176,7 +176,8 @@ class Rows(unittest.TestCase):
     def test_each_program_has_rows_of_each_status(self):
         for name in FACES:
             with self.subTest(name):
-                self.assertEqual({row.example.status for row in rows_of(name)}, {0, 1, 2})
+                statuses = {0, 1, 64, 66, 73} if name == "deolmutt" else {0, 1, 2}
+                self.assertEqual({row.example.status for row in rows_of(name)}, statuses)
 
     def test_the_example_of_a_row_is_right_and_another_end_is_not(self):
         for row in (row for name in FACES for row in rows_of(name)):
@@ -276,7 +277,7 @@ class Words(unittest.TestCase):
                 self.assertEqual(done.stdout, b"")
 
     def test_each_program_is_known(self):
-        self.assertEqual(set(FACES), {"maildir_cli", "maildir_judge", "maildir_trace"})
+        self.assertEqual(set(FACES), {"deolmutt", "maildir_cli", "maildir_judge", "maildir_trace"})
 
 
 if __name__ == "__main__":

@@ -1,0 +1,1 @@
+"""What the built deolmutt does with real maildirs."""

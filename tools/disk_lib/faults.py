@@ -1,0 +1,170 @@
+"""Each system call of each command fails in turn, and the process is killed at each, by strace."""
+
+from __future__ import annotations
+
+import os
+import re
+import shutil
+import subprocess
+import unittest
+from collections import Counter
+from collections.abc import Callable, Iterator
+from concurrent.futures import ThreadPoolExecutor
+from pathlib import Path
+from tempfile import TemporaryDirectory
+from typing import NamedTuple
+
+from .boxes import MAIL, UNIQUE, Box, BoxTest, Ended, run
+
+CALLS = ("openat", "read", "write", "close", "fsync", "link", "linkat", "rename", "renameat", "renameat2", "unlink", "unlinkat",
+         "getdents64", "stat", "lstat", "newfstatat", "statx", "mkdir", "mkdirat")
+
+# Statuses that a command may end with where a call fails.
+STATUSES = {0, 66, 73, 74, 75, 77}
+
+_CALL = re.compile(r"^(\w+)\(")
+
+
+class Scene(NamedTuple):
+    """A command, what it is run on, and whether what it leaves is what it claims: by the files of both maildirs before and after."""
+
+    words: tuple[str, ...]
+    place: str
+    name: bytes
+    is_done: Callable[[dict[bytes, bytes]], bool]
+
+
+def _has(*names: bytes) -> Callable[[dict[bytes, bytes]], bool]:
+    return lambda files: all(files.get(name) == MAIL for name in names)
+
+
+def _gone(files: dict[bytes, bytes]) -> bool:
+    return not any(UNIQUE in name for name in files)
+
+
+def _delivered(files: dict[bytes, bytes]) -> bool:
+    return [body for name, body in files.items() if name.startswith(b"box/new/")] == [MAIL]
+
+
+def _copied(files: dict[bytes, bytes]) -> bool:
+    return [body for name, body in files.items() if name.startswith(b"other/new/")] == [MAIL]
+
+
+SCENES = (
+    Scene(("deliver", "box"), "", b"", _delivered),
+    Scene(("seen", "box", UNIQUE.decode()), "new", UNIQUE, _has(b"box/cur/" + UNIQUE + b":2,S")),
+    Scene(("flag", "box", "+F", UNIQUE.decode()), "cur", UNIQUE + b":2,S", _has(b"box/cur/" + UNIQUE + b":2,FS")),
+    Scene(("move", "box", "other", UNIQUE.decode()), "new", UNIQUE, _has(b"other/new/" + UNIQUE)),
+    Scene(("copy", "box", "other", UNIQUE.decode()), "new", UNIQUE, _copied),
+    Scene(("expunge", "box", UNIQUE.decode()), "cur", UNIQUE + b":2,T", _gone),
+)
+
+
+class Left(NamedTuple):
+    """What a run came to and what it left."""
+
+    ended: Ended
+    files: dict[bytes, bytes]
+
+
+def _tried(scene: Scene, options: list[str]) -> Left:
+    """A run under strace on maildirs of its own."""
+    with TemporaryDirectory() as scratch:
+        top = Path(scratch)
+        boxes = {name: Box(top / name) for name in ("box", "other")}
+        if scene.place:
+            boxes["box"].put(scene.place, scene.name)
+        ended = run(*scene.words, given=MAIL, before=["strace", *options], cwd=top)
+        files = {name.encode() + b"/" + path: body for name, box in boxes.items() for path, body in box.files().items()}
+        return Left(ended, files)
+
+
+def _calls(scene: Scene, log: Path) -> Iterator[tuple[str, int]]:
+    """The calls of a run, from the first one that names a maildir on, each by its name and how many of that name it is."""
+    _tried(scene, ["-o", str(log), "-e", "trace=" + ",".join(f"?{call}" for call in CALLS)])
+    counts: Counter[str] = Counter()
+    has_begun = False
+    for line in log.read_text(errors="replace").splitlines():
+        found = _CALL.match(line)
+        if not found:
+            continue
+        counts[found[1]] += 1
+        has_begun = has_begun or '"box' in line
+        if has_begun:
+            yield found[1], counts[found[1]]
+
+
+def _traces() -> bool:
+    """Whether strace can be used here."""
+    if shutil.which("strace") is None:
+        return False
+    return subprocess.run(["strace", "-o", os.devnull, "true"], capture_output=True, check=False).returncode == 0
+
+
+@unittest.skipUnless(_traces(), "no strace")
+class Faults(unittest.TestCase):
+    """A call that fails, and a process that is killed."""
+
+    def setUp(self) -> None:
+        with TemporaryDirectory() as scratch:
+            logs = [Path(scratch) / str(number) for number in range(len(SCENES))]
+            self.cases = [(scene, call, at) for scene, log in zip(SCENES, logs) for call, at in _calls(scene, log)]
+        self.assertGreater(len(self.cases), 40)
+
+    def lefts(self, options: Callable[[str, int], str]) -> Iterator[tuple[Scene, str, Left]]:
+        """What each case leaves, where a call is met so."""
+        with ThreadPoolExecutor(os.cpu_count()) as pool:
+            def tried(case: tuple[Scene, str, int]) -> tuple[Scene, str, Left]:
+                scene, call, at = case
+                inject = options(call, at)
+                return scene, f"{' '.join(scene.words)}, {inject}", _tried(scene, ["-o", os.devnull, "-e", f"trace={call}", "-e", inject])
+            yield from pool.map(tried, self.cases)
+
+    def whole(self, scene: Scene, left: Left) -> None:
+        """No message is lost, in part or twice."""
+        new = [body for name, body in left.files.items() if b"/tmp/" not in name]
+        if scene.words[0] == "deliver":
+            self.assertIn(new, ([], [MAIL]))
+        elif scene.words[0] == "expunge":
+            self.assertIn(new, ([], [MAIL]))
+        elif scene.words[0] == "copy":
+            self.assertIn(new, ([MAIL], [MAIL, MAIL]))
+        else:
+            self.assertEqual(new, [MAIL])
+
+    def test_each_call_fails(self) -> None:
+        for error in ("EIO", "ENOENT", "ENOSPC"):
+            for scene, case, left in self.lefts(lambda call, at, error=error: f"inject={call}:error={error}:when={at}"):
+                with self.subTest(case):
+                    self.whole(scene, left)
+                    self.assertIn(left.ended.status, STATUSES | {65})
+                    if left.ended.status == 0:
+                        self.assertTrue(scene.is_done(left.files), left)
+                    elif "close" not in case:
+                        self.assertFalse(scene.is_done(left.files), left)
+                        self.assertTrue(left.ended.said.startswith(b"deolmutt: "), left)
+                    # A file that is said to be gone is not taken away.
+                    if "unlink" not in case and error != "ENOENT":
+                        self.assertEqual([name for name in left.files if b"/tmp/" in name], [], left)
+
+    def test_killed_at_each_call(self) -> None:
+        for scene, case, left in self.lefts(lambda call, at: f"inject={call}:signal=KILL:when={at}"):
+            with self.subTest(case):
+                self.whole(scene, left)
+
+
+@unittest.skipUnless(_traces(), "no strace")
+class Readings(BoxTest):
+    """What is read for many messages."""
+
+    def test_one_reading_for_many(self) -> None:
+        for number in range(1000):
+            self.box.put("cur", b"m%d:2," % number)
+        log = self.top / "log"
+        keys = b"".join(b"m%d\n" % number for number in range(1000))
+        ended = run("flag", "box", "+F", "-", given=keys, before=["strace", "-o", str(log), "-e", "trace=openat,rename"], cwd=self.top)
+        self.assertEqual((ended.status, ended.said), (0, b""))
+        calls = Counter(line.split("(")[0] for line in log.read_text(errors="replace").splitlines())
+        self.assertEqual(calls["rename"], 1000)
+        self.assertLess(calls["openat"], 30)
+        self.assertEqual(self.box.names("cur"), sorted(b"m%d:2,F" % number for number in range(1000)))

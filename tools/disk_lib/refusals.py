@@ -1,0 +1,111 @@
+"""What there is no maildir for, or no room, or no leave."""
+
+from __future__ import annotations
+
+import os
+import subprocess
+import unittest
+
+from .boxes import MAIL, NOBODY, PROGRAM, UNIQUE, BoxTest, run
+
+MOST_BYTES = 16_777_216
+
+# Each command that wants a maildir to be there.
+COMMANDS = (("deliver", "B"), ("list", "B"), ("read", "B", "k"), ("seen", "B", "k"), ("flag", "B", "+F", "k"), ("expunge", "B", "k"),
+            ("move", "B", "box", "k"), ("copy", "B", "box", "k"), ("move", "box", "B", "k"), ("clean", "B"), ("check", "B"))
+
+
+class Refusals(BoxTest):
+    """Commands that do nothing."""
+
+    def test_no_maildir(self) -> None:
+        (self.top / "file").write_bytes(b"")
+        (self.top / "plain").mkdir()
+        (self.top / "half" / "tmp").mkdir(parents=True)
+        (self.top / "half" / "new").write_bytes(b"")
+        before = self.box.files()
+        for path in ("none", "file", "plain", "half", "box/new", ""):
+            for words in COMMANDS:
+                ended = run(*(path if word == "B" else word for word in words), cwd=self.top, given=MAIL)
+                self.assertEqual((ended.status, ended.printed), (66, b""), words)
+                self.assertIn(b": no such maildir\n", ended.said)
+        self.assertEqual(self.box.files(), before)
+
+    def test_make_over_a_file(self) -> None:
+        (self.top / "file").write_bytes(b"")
+        ended = run("make", "file", cwd=self.top)
+        self.assertEqual((ended.status, (self.top / "file").read_bytes()), (73, b""))
+        self.assertEqual(run("make", "none/mail", cwd=self.top).status, 73)
+
+    def test_no_message(self) -> None:
+        for words in (("read", "box", "k"), ("seen", "box", "k"), ("flag", "box", "+F", "k"), ("expunge", "box", "k")):
+            self.run_badly(65, b"k: no such message", *words)
+
+    def test_other_info(self) -> None:
+        self.box.put("cur", UNIQUE + b":1,x")
+        self.run_badly(65, UNIQUE + b": the name of the message has no flags after its colon", "flag", "box", "+F", UNIQUE)
+
+    def test_wrong_keys(self) -> None:
+        for key in ("", "a/b", "other/cur/a", "box/tmp/a", "box/cur/", "box/cur/.a", ".a", ":2,S", "/"):
+            ended = run("seen", "box", "--", key, cwd=self.top)
+            self.assertEqual(ended.status, 64, key)
+
+    def test_wrong_changes(self) -> None:
+        self.box.put("cur", UNIQUE + b":2,")
+        for change in ("+", "-", "F", "+F-", "+-F", "+F+S", "+F-S-T", "+1", ""):
+            ended = run("flag", "box", "--", change, UNIQUE, cwd=self.top)
+            self.assertEqual(ended.status, 64, change)
+        self.assertEqual(self.box.names("cur"), [UNIQUE + b":2,"])
+
+    def test_wrong_folders(self) -> None:
+        for folder in ("", ".a", "a/b"):
+            ended = run("deliver", "box", f"--folder={folder}", cwd=self.top, given=MAIL)
+            self.assertEqual(ended.status, 64, folder)
+
+    def test_same_maildir(self) -> None:
+        self.run_badly(64, b"box: the message is there already", "move", "box", "box/", "k")
+
+    def test_no_text(self) -> None:
+        ended = run("list", b"\xff", cwd=self.top)
+        self.assertEqual((ended.status, ended.said), (64, b"deolmutt: a word is not UTF-8; try 'deolmutt --help'\n"))
+
+    def test_too_long(self) -> None:
+        body = b"a" * MOST_BYTES
+        self.run_badly(65, b"box: the message is longer than 16777216 bytes", "deliver", "box", given=body + b"a")
+        self.assertEqual(self.box.files(), {})
+        self.run_well("deliver", "box", given=body)
+        self.assertEqual([*self.box.files().values()], [body])
+
+    def test_full_output(self) -> None:
+        self.box.put("new", UNIQUE)
+        for words in (("list", "box"), ("read", "box", UNIQUE), ("--help",)):
+            with open("/dev/full", "wb") as full:
+                command = [PROGRAM, *(os.fsencode(word) for word in words)]
+                done = subprocess.run(command, stdout=full, stderr=subprocess.PIPE, cwd=self.top, check=False)
+            self.assertEqual(done.returncode, 74, words)
+            self.assertIn(b"writing failed", done.stderr)
+
+    @unittest.skipIf(os.geteuid() != 0, "another user can't be asked")
+    def test_no_rights(self) -> None:
+        self.box.put("new", UNIQUE)
+        other = {"user": NOBODY, "group": NOBODY, "extra_groups": []}
+        for words in (("deliver", "box"), ("seen", "box", UNIQUE), ("make", "box/.sub")):
+            ended = run(*words, cwd=self.top, given=MAIL, **other)
+            self.assertEqual(ended.status, 77, (words, ended.said))
+        (self.box.path / "cur").chmod(0)
+        ended = run("list", "box", cwd=self.top, **other)
+        self.assertEqual((ended.status, ended.printed), (77, b""))
+        self.assertEqual(self.box.files(), {b"new/" + UNIQUE: MAIL})
+
+    def test_full_disk(self) -> None:
+        script = """mount -t tmpfs -o size=262144 none "$1" && mkdir -p "$1/b/tmp" "$1/b/new" "$1/b/cur" && cd "$1" || exit
+            head -c 1000000 /dev/zero | "$2" deliver b; echo "status $?"; ls b/tmp b/new
+            echo hello | "$2" deliver b; echo "status $?"; cat b/new/*"""
+        place = self.top / "full"
+        place.mkdir()
+        command = ["unshare", "-rm", "sh", "-c", script, "sh", str(place), PROGRAM]
+        done = subprocess.run(command, capture_output=True, check=False)
+        if b"status" not in done.stdout:
+            self.skipTest("no file system of its own")
+        self.assertEqual(done.stdout, b"status 75\nb/new:\n\nb/tmp:\nstatus 0\nhello\n", done.stderr)
+        self.assertIn(b"it could not be done: no storage space", done.stderr)
