@@ -19,7 +19,8 @@ Runs two commands in every interleaving of their directory calls in maildirs,
 and asks maildir_judge about each run. A and B are commands of sh, each one
 word. Each run begins in an empty directory of its own, with what SETUP makes
 there. Each process is stopped after each of its directory calls (strace does
-it), so the calls come in the order that is tried, and overlap nowhere.
+it), and of a reading of a directory after each name, so the calls come in the
+order that is tried, and overlap nowhere.
 """
 
 _MORE = """\

@@ -6,7 +6,7 @@ import os
 import subprocess
 import tempfile
 import time
-from typing import Callable, Dict, List, NamedTuple, Optional, Set, Tuple
+from typing import Callable, Dict, FrozenSet, List, NamedTuple, Optional, Set, Tuple
 
 from .claims import Claim
 from .folders import Folders, files_of, found_folders, named_folders
@@ -37,12 +37,13 @@ class Bounds(NamedTuple):
 
 
 class Broken(NamedTuple):
-    """The first run that broke a clause, and how many did."""
+    """The first run that broke a clause, how many did, and whose steps broke it in any."""
 
     order: str
     log: bytes
     finding: Finding
     count: int
+    actors: FrozenSet[str] = frozenset()
 
 
 class Explored(NamedTuple):
@@ -81,10 +82,16 @@ def explore(pairing: Pairing, bounds: Bounds, tell: Tell) -> Explored:
 def note(order: str, log: bytes, found: List[Finding], broken: Dict[str, Broken]) -> bool:
     """Counts what the judge has found in a run among what others have broken, and answers whether it is anything."""
     for clause in dict.fromkeys(finding.clause for finding in found):
-        first = next(finding for finding in found if finding.clause == clause)
-        former = broken.get(clause)
-        broken[clause] = former._replace(count=former.count + 1) if former else Broken(order, log, first, 1)
+        those = [finding for finding in found if finding.clause == clause]
+        former = broken.get(clause, Broken(order, log, those[0], 0))
+        actors = former.actors.union(line_of(log, finding.line).split()[0] for finding in those)
+        broken[clause] = former._replace(count=former.count + 1, actors=actors)
     return bool(found)
+
+
+def line_of(log: bytes, number: int) -> str:
+    """A line of a log, without its moment."""
+    return log.split(b"\n")[number - 1].decode("utf-8", "replace").partition(" ")[2]
 
 
 def run_once(pairing: Pairing, prefix: str) -> Tuple[Played, Log]:

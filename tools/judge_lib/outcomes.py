@@ -5,9 +5,9 @@ from __future__ import annotations
 import shlex
 import time
 from pathlib import Path
-from typing import List
+from typing import Dict, List, Optional, Tuple
 
-from .scene import Scene
+from .scene import Scene, version_of
 from .staging import Found, Outcome, trace_words
 from .tracing import version
 
@@ -35,8 +35,26 @@ def text(outcome: Outcome) -> List[str]:
 
 
 def markdown(outcomes: List[Outcome]) -> List[str]:
-    """The table, a row for each scene."""
-    return [ran_here(), "", *_HEAD, *(_row(outcome) for outcome in outcomes)]
+    """The table, a row for each scene; of pairs, a row for each command."""
+    pairs = {outcome.scene.pair: outcome for outcome in outcomes if outcome.scene.pair}
+    return [ran_here(), "", *(_table_of(pairs) if pairs else [*_HEAD, *map(_row, outcomes)])]
+
+
+def _table_of(pairs: Dict[Tuple[str, str], Outcome]) -> List[str]:
+    """A cell for each pair: how many interleavings there are, and what was found in how many, by the command (A) or by the other (B)."""
+    packages = {package: version_of(package) for outcome in pairs.values() for package in outcome.scene.packages()}
+    firsts, others = (list(dict.fromkeys(pair[at] for pair in pairs)) for at in (0, 1))
+    rows = [[first, *(_cell(pairs.get((first, other))) for other in others)] for first in firsts]
+    table = [["", *others], ["---"] * (len(others) + 1), *rows]
+    return ["With " + ", ".join(f"{package} {version}" for package, version in packages.items()) + ".", "",
+            *("| " + " | ".join(row) + " |" for row in table)]
+
+
+def _cell(outcome: Optional[Outcome]) -> str:
+    if outcome is None:
+        return "-"
+    found = "".join(f"; {each.clause} by {each.actors} in {each.runs}" for each in outcome.found)
+    return f"{outcome.runs}{'' if outcome.is_whole else ' of more'}{found}"
 
 
 def _row(outcome: Outcome) -> str:

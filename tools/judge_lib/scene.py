@@ -6,12 +6,15 @@ import re
 import shutil
 import subprocess
 from pathlib import Path
-from typing import Dict, List, NamedTuple, Optional
+from typing import Dict, Iterator, List, NamedTuple, Optional, Tuple
 
 from .refused import Refused
 
 FOLDER = Path(__file__).resolve().parent.parent / "scenes.d"
 ENDING = ".scene"
+PAIRS = ".pairs"
+# Programs of this repository, each with a file of pairs.
+OWN = {path.name.removesuffix(PAIRS) for path in FOLDER.glob("*" + PAIRS)}
 # What each scene begins with, before its own lines `setup`.
 BEGINNING = ["mkdir -p box/tmp box/new box/cur", r"printf 'From: a@example.org\nSubject: one\n\nhello\n' > mail"]
 _LINE = re.compile(r"([a-z]+) +(.*)")
@@ -35,6 +38,8 @@ class Scene(NamedTuple):
     beside: Optional[str]
     status: int
     is_unprivileged: bool
+    # Of a pair: its command and the place of its message, and whom it is beside.
+    pair: Optional[Tuple[str, str]] = None
 
     def packages(self) -> List[str]:
         """All packages that it needs."""
@@ -71,17 +76,44 @@ def read_scene(path: Path) -> Scene:
     )
 
 
+def read_pairs(path: Path) -> Iterator[Scene]:
+    """The scenes of a file that has commands of one of our programs, and those of others that each is explored beside."""
+    rows: Dict[str, List[List[str]]] = {}
+    for line in path.read_text(encoding="utf-8").splitlines():
+        found = _LINE.fullmatch(line)
+        if found:
+            rows.setdefault(found[1], []).append([part.strip() for part in found[2].split(" :: ")] + [""] * 3)
+    program, setup = rows["program"][0][0], [row[0] for row in rows["setup"]]
+    made, others = {row[0]: row[1] for row in rows["place"]}, {row[0]: row for row in rows["others"]}
+    for first, command, claim, *_ in rows["explore"]:
+        place = first.split()[1]
+        own = ["itself " + place, command]
+        for other, beside, *_ in [own, *(row for row in rows["beside"] if row[0].endswith(" " + place))]:
+            peer = other.split()[0]
+            _, packages, makes, user, *_ = others.get(peer, [""] * 4)
+            claims = ["A: " + claim] + ["B: " + claim] * (peer == "itself")
+            yield Scene(name="-".join([program, *first.split(), "beside", peer]), package=program, program=program, runs=program,
+                        about=f"{first.split()[0]}, its message in {place}, beside {peer}", needs=packages.split(),
+                        setup=[*BEGINNING, *setup, made[place], *filter(None, [makes])], claims=claims, fail=[], command=command,
+                        beside=beside, status=0, is_unprivileged=bool(user), pair=(first, peer))
+
+
 def read_scenes(names: List[str], folder: Path = FOLDER) -> List[Scene]:
-    """The scenes of these names, or all of them."""
-    there = sorted(path.name.removesuffix(ENDING) for path in folder.glob("*" + ENDING))
+    """The scenes of these names, or all that have a file of their own. A file of pairs is named as a whole, or by a scene of it."""
+    alone = {scene.name: [scene] for scene in sorted(map(read_scene, folder.glob("*" + ENDING)), key=lambda scene: scene.name)}
+    pairs = {path.name.removesuffix(PAIRS): list(read_pairs(path)) for path in folder.glob("*" + PAIRS)}
+    there = {**alone, **pairs, **{scene.name: [scene] for scenes in pairs.values() for scene in scenes}}
     for name in names:
         if name not in there:
             raise Refused(f"there is no scene {name}; --list names them")
-    return [read_scene(folder / (name + ENDING)) for name in names or there]
+    return [scene for name in names or alone for scene in there[name]]
 
 
 def version_of(package: str) -> Optional[str]:
-    """The version of an installed package of a Debian system; None where it is not installed."""
+    """The version of an installed package of a Debian system, or of a program of ours; None where there is none."""
+    if package in OWN:
+        found = shutil.which(package)
+        return found and subprocess.run([found, "--version"], capture_output=True, text=True, check=True).stdout.split()[-1]
     if shutil.which("dpkg-query") is None:
         raise Refused("scenes need a system with Debian's packages: there is no dpkg-query")
     run = subprocess.run(["dpkg-query", "-W", "-f", "${db:Status-Abbrev} ${Version}", package], capture_output=True, text=True, check=False)

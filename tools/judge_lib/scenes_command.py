@@ -6,13 +6,15 @@ import argparse
 import os
 import subprocess
 import sys
+from concurrent.futures import ThreadPoolExecutor
+from pathlib import Path
 from typing import List, Optional, Sequence
 
 from .exploring import Bounds
 from .judge_run import judge_program
 from .outcomes import markdown, repeated, text
 from .refused import Refused
-from .scene import Scene, read_scenes, version_of
+from .scene import OWN, Scene, read_scenes, version_of
 from .staging import Outcome, stage
 from .tracing import strace
 
@@ -20,8 +22,11 @@ _ABOUT = """\
 Runs scenes of real mail programs, of Debian's packages, and says what
 maildir_judge finds in each. Each scene is a file of tools/scenes.d, and runs
 in an empty directory of its own. A program that isn't installed is named, and
-its scenes are left out.
+its scenes are left out. Of `deolmutt`, which has to be named, each command is
+explored beside itself and beside others: the built one, or DEOLMUTT's.
 """
+
+_BUILT = str(Path(__file__).resolve().parents[2] / "crates/deolmutt/out/deolmutt")
 
 _MORE = """\
 status:
@@ -42,6 +47,7 @@ def _options() -> argparse.ArgumentParser:
     parser.add_argument("--logs", metavar="DIR", help="keeps the log of each scene in DIR")
     parser.add_argument("--runs", type=int, default=1000, metavar="N", help="at most so many runs of two commands (1000)")
     parser.add_argument("--seconds", type=float, default=120, metavar="N", help="at most so many seconds for two commands (120)")
+    parser.add_argument("--jobs", type=int, default=1, metavar="N", help="so many scenes side by side (1)")
     parser.add_argument("names", nargs="*", metavar="SCENE", help="which scenes; without any, all")
     return parser
 
@@ -49,6 +55,7 @@ def _options() -> argparse.ArgumentParser:
 def main(words: Optional[Sequence[str]] = None) -> int:
     """Does what the words say, and answers the status."""
     options = _options().parse_args(words)
+    os.environ["PATH"] = os.path.dirname(os.environ.get("DEOLMUTT", _BUILT)) + ":" + os.environ["PATH"]
     try:
         scenes = read_scenes(options.names)
         if options.list or options.print:
@@ -68,7 +75,7 @@ def main(words: Optional[Sequence[str]] = None) -> int:
 
 
 def _install(scenes: List[Scene], is_now: bool) -> int:
-    lacking = list(dict.fromkeys(package for scene in scenes for package in scene.lacks()))
+    lacking = list(dict.fromkeys(package for scene in scenes for package in scene.lacks() if package not in OWN))
     words = ["apt-get", "install", "--yes", "--no-install-recommends", *lacking]
     if not lacking:
         print("all packages are installed")
@@ -78,24 +85,33 @@ def _install(scenes: List[Scene], is_now: bool) -> int:
 
 
 def _run(scenes: List[Scene], options: argparse.Namespace) -> int:
-    outcomes, has_failed = [], False
-    for scene in scenes:
-        lacking = scene.lacks()
-        if lacking:
-            _say(f"{scene.name}: left out: not installed: {' '.join(lacking)}")
-            continue
-        try:
-            outcome = stage(scene, version_of(scene.package) or "", Bounds(options.runs, options.seconds), _tell)
-        except Refused as error:
-            _say(str(error))
-            has_failed = True
-            continue
-        outcomes.append(outcome)
-        _keep(outcome, options.logs)
-        _say("" if options.markdown else "\n".join(text(outcome)))
+    there = [scene for scene in scenes if _is_there(scene)]
+    outcomes, bounds = [], Bounds(options.runs, options.seconds)
+    with ThreadPoolExecutor(options.jobs) as pool:
+        side_by_side = map if options.jobs == 1 else pool.map
+        for outcome in side_by_side(lambda scene: _staged(scene, bounds), there):
+            if outcome is not None:
+                outcomes.append(outcome)
+                _keep(outcome, options.logs)
+                _say("" if options.markdown else "\n".join(text(outcome)))
     if options.markdown:
         print("\n".join(markdown(outcomes)))
-    return 1 if has_failed else 0
+    return 1 if len(outcomes) < len(there) else 0
+
+
+def _is_there(scene: Scene) -> bool:
+    lacking = scene.lacks()
+    if lacking:
+        _say(f"{scene.name}: left out: not installed: {' '.join(lacking)}")
+    return not lacking
+
+
+def _staged(scene: Scene, bounds: Bounds) -> Optional[Outcome]:
+    try:
+        return stage(scene, version_of(scene.package) or "", bounds, _tell)
+    except Refused as error:
+        _say(str(error))
+        return None
 
 
 def _keep(outcome: Outcome, folder: Optional[str]) -> None:

@@ -59,7 +59,10 @@ def branches(played: Played, prefix: str) -> List[str]:
     Begun with the run of no prefix, these and theirs are the runs that `next_prefix` comes to, each once, and in any order.
     """
     sides = "".join(choice.side for choice in played.choices)
-    return [sides[:at] + SIDES[1] for at, choice in enumerate(played.choices) if at >= len(prefix) and _may_part(choice)]
+    calls = [at for at, choice in enumerate(played.choices) if choice.side == SIDES[1] and choice.went is not Went.ENDED]
+    # After its last call B has only its end left.
+    last = len(sides) if played.waits else max(calls, default=0)
+    return [sides[:at] + SIDES[1] for at in range(len(prefix), last) if _may_part(played.choices[at])]
 
 
 def _may_part(choice: Choice) -> bool:

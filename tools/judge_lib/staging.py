@@ -3,13 +3,14 @@
 from __future__ import annotations
 
 import os
+import shlex
 import subprocess
 import sys
 import tempfile
 from pathlib import Path
 from typing import List, NamedTuple
 
-from .exploring import Bounds, Pairing, Tell, explore, make_ready
+from .exploring import Bounds, Pairing, Tell, explore, line_of, make_ready
 from .judge_run import SENTENCES, judge
 from .refused import Refused
 from .scene import Scene
@@ -23,12 +24,13 @@ _AS_NOBODY = ["setpriv", f"--reuid={_NOBODY}", f"--regid={_NOBODY}", "--clear-gr
 
 
 class Found(NamedTuple):
-    """A clause that is broken: in how many of the runs, the line that breaks it first, without its moment, and that line's sentence."""
+    """A clause that is broken: in how many of the runs, the line that breaks it first, without its moment, that line's sentence, and by whom."""
 
     clause: str
     runs: int
     line: str
     sentence: str
+    actors: str = ""
 
 
 class Outcome(NamedTuple):
@@ -49,29 +51,31 @@ def stage(scene: Scene, version: str, bounds: Bounds, tell: Tell) -> Outcome:
     with tempfile.TemporaryDirectory(prefix="scene-") as top:
         base = os.path.join(top, "work")
         os.mkdir(base)
-        os.chmod(top, 0o711)
         log = _traced(scene, base, os.path.join(top, "log"))
     first = {}
     for finding in judge(log):
         first.setdefault(finding.clause, finding)
-    found = [Found(clause, 1, _line(log, finding.line), SENTENCES[clause]) for clause, finding in first.items()]
+    found = [Found(clause, 1, line_of(log, finding.line), SENTENCES[clause]) for clause, finding in first.items()]
     return Outcome(scene, version, 1, True, found, log)
 
 
 def _traced(scene: Scene, base: str, log: str) -> bytes:
-    make_ready("\n".join(scene.setup), base)
-    command = ["sh", "-c", scene.command]
-    if scene.is_unprivileged and os.geteuid() == 0:
-        command = _AS_NOBODY + command
-        for folder, names, files in os.walk(base):
-            for name in [".", *names, *files]:
-                os.chown(os.path.join(folder, name), _NOBODY, _NOBODY)
+    make_ready(_setup(scene), base)
+    command = [*_before(scene), "sh", "-c", scene.command]
     said = _run([sys.executable, str(_TOOLS / "trace"), *trace_words(scene), "-o", log, *command], base, scene.name)
     with open(log, "rb") as file:
         text = file.read()
     if b" ended with status %d\n" % scene.status not in text:
         raise Refused(f"{scene.name}: the command did not end with status {scene.status}: {said}")
     return text
+
+
+def _setup(scene: Scene) -> str:
+    return "\n".join([*scene.setup, *[f"chown -R {_NOBODY}:{_NOBODY} .; chmod 711 .."] * bool(_before(scene))])
+
+
+def _before(scene: Scene) -> List[str]:
+    return _AS_NOBODY if scene.is_unprivileged and os.geteuid() == 0 else []
 
 
 def _run(words: List[str], base: str, name: str) -> str:
@@ -101,13 +105,10 @@ def trace_words(scene: Scene) -> List[str]:
 
 
 def _explored(scene: Scene, version: str, bounds: Bounds, tell: Tell) -> Outcome:
-    pairing = Pairing("\n".join(scene.setup), (scene.command, scene.beside or ""), read_claims(scene.claims))
+    commands = [shlex.join(["exec", *_before(scene), "sh", "-c", command]) for command in (scene.command, scene.beside or "")]
+    pairing = Pairing(_setup(scene), (commands[0], commands[1]), read_claims(scene.claims))
     explored = explore(pairing, bounds, tell)
-    found = [Found(clause, each.count, _line(each.log, each.finding.line), SENTENCES[clause]) for clause, each in explored.broken.items()]
+    found = [Found(clause, each.count, line_of(each.log, each.finding.line), SENTENCES[clause], "".join(sorted(each.actors)))
+             for clause, each in explored.broken.items()]
     log = next((each.log for each in explored.broken.values()), b"")
     return Outcome(scene, version, len(explored.orders), explored.is_whole, found, log)
-
-
-def _line(log: bytes, number: int) -> str:
-    """A line of a log, without its moment."""
-    return log.split(b"\n")[number - 1].decode("utf-8", "replace").partition(" ")[2]

@@ -259,6 +259,8 @@ class Read(Step):
         self._place, self._reply, self._names, self._turn = place, reply, names, turn
         # Whether this part alone has all of the reading's names: one call reads them at one moment.
         self.is_whole = reply == "ok"
+        # One that shows nothing and ends nothing may as well come with the next.
+        self.is_of_directories = bool(names) or reply != "more"
 
     def fits(self, directories: Directories) -> bool:
         names, reading = set(self._names), directories.readings.get((self.when.actor, self._place))

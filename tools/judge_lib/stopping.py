@@ -17,13 +17,14 @@ from .strace_lines import OPTIONS, Call, Ended, Reader, Stopped
 from .tracing import end_processes, end_strace, strace, traced_calls
 
 SIDES = ("A", "B")
-# A process is stopped after each of these. A signal cuts a reading of a directory (getdents64) into parts, so a program that reads one is
-# stopped when it has opened it.
-_STOPPING = ("open openat openat2 creat link linkat symlink symlinkat rename renameat renameat2 unlink unlinkat rmdir mkdir mkdirat "
-             "mknod mknodat")
+# A process is stopped after each of these. Linux ends a getdents64 amid which a signal waits after one name, so each name that a reading
+# shows is a step of its own, as it may be in a directory that is too large for one call.
+_STOPPING = ("open openat openat2 creat getdents getdents64 link linkat symlink symlinkat rename renameat renameat2 unlink unlinkat rmdir "
+             "mkdir mkdirat mknod mknodat")
 _SECONDS_TO_START = 20
-# A command that makes no call for so long waits for the other one, as for a lock.
+# A command that makes no call for so long waits for the other one, as for a lock; and so does one that makes none in a maildir for longer.
 _SECONDS_TO_WAIT = 3
+_SECONDS_TO_ASK_AGAIN = 20
 
 # Each command writes its process number, and waits until it is told to begin.
 _BEGIN = 'echo $$ > "$0/$1"; kill -STOP $$; exec sh -c "$2" > "$0/$1.out" 2>&1'
@@ -33,7 +34,7 @@ _BOTH = 'sh -c "$3" "$0" A "$1" & sh -c "$3" "$0" B "$2" & wait'
 class Went(Enum):
     """What came of telling a command to go on."""
 
-    CALLED = "it made one directory call, and the readings before it"
+    CALLED = "it made one directory call"
     ENDED = "it ended without a call"
     WAITS = "it made no call, and did not end"
 
@@ -48,7 +49,6 @@ class Pair:
         self._side_of: Dict[int, str] = {}
         self._stopped: Dict[int, None] = {}
         self._is_counted: Dict[int, bool] = {}
-        self._has_read = False
         self._rest = b""
         fifo = os.path.join(room, "trace")
         os.mkfifo(fifo)
@@ -87,18 +87,17 @@ class Pair:
 
     def go_on(self, side: str) -> Went:
         """Has a command go on to the end of its next directory call, or to its own end."""
-        until = time.monotonic() + _SECONDS_TO_WAIT
-        self._has_read = False
+        until = time.monotonic() + _SECONDS_TO_ASK_AGAIN
         self._continue_one(side)
         while not self.has_ended(side):
-            counted = self._read(until)
+            counted = self._read(min(until, time.monotonic() + _SECONDS_TO_WAIT))
             if counted is None:
                 return Went.WAITS
             if side in counted:
                 return Went.CALLED
             if not self._is_running(side):
                 self._continue_one(side)
-        return Went.CALLED if self._has_read else Went.ENDED
+        return Went.ENDED
 
     def run_to_end(self, seconds: float) -> bool:
         """Lets both go on unstopped; whether they ended in time."""
@@ -152,7 +151,6 @@ class Pair:
             steps = self._making.add(event)
             if isinstance(event, Call):
                 self._side_of_new(event.pid)
-                self._has_read |= any(step.is_of_directories for step in steps)
                 self._is_counted[event.pid] = self._is_counted.get(event.pid, False) or any(step.is_of_directories for step in steps)
             elif isinstance(event, Ended):
                 self._end(event.pid)

@@ -8,18 +8,21 @@ from itertools import combinations
 from judge_support import TOOLS
 
 from judge_lib.explore_command import table
-from judge_lib.exploring import Broken, Explored
+from judge_lib.exploring import Broken, Explored, note
+from judge_lib.folders import Place
 from judge_lib.judge_run import SENTENCES, Finding
+from judge_lib.processes import Turn
 from judge_lib.schedules import branches, next_prefix, play
+from judge_lib.steps import Read, When
 from judge_lib.stopping import Went
 
 
 class Counted:
     """Two commands of so many calls, of which one may wait for the other."""
 
-    def __init__(self, a, b, has_read_at_end=False, waits_at=None):
+    def __init__(self, a, b, waits_at=None):
         self.left, self.ended = {"A": a, "B": b}, set()
-        self.has_read_at_end, self.waits_at, self.made = has_read_at_end, waits_at, ""
+        self.waits_at, self.made = waits_at, ""
 
     def has_ended(self, side):
         return side in self.ended
@@ -29,7 +32,7 @@ class Counted:
             return Went.WAITS
         if not self.left[side]:
             self.ended.add(side)
-            return Went.CALLED if self.has_read_at_end else Went.ENDED
+            return Went.ENDED
         self.left[side] -= 1
         self.made += side
         return Went.CALLED
@@ -62,13 +65,17 @@ class Schedules(unittest.TestCase):
                 left += branches(played, prefix)
             self.assertEqual(sorted(found), sorted(orders(make)))
 
-    def test_a_reading_before_the_end_is_a_step(self):
-        self.assertEqual(len(set(orders(lambda: Counted(1, 1, has_read_at_end=True)))), 6)
-
     def test_a_command_that_waits(self):
         played = play(Counted(2, 2, waits_at="AB"), "AB")
         self.assertTrue(played.waits)
         self.assertEqual(played.order, "AB")
+
+
+class Readings(unittest.TestCase):
+    def test_each_name_and_the_end_is_a_step(self):
+        place = Place(b"box", "cur")
+        steps = [Read(When("A", 1, 1, 1), place, reply, names, Turn()) for reply, names in [("more", []), ("more", [b"u"]), ("ok", [])]]
+        self.assertEqual([step.is_of_directories for step in steps], [False, True, True])
 
 
 class Table(unittest.TestCase):
@@ -79,6 +86,12 @@ class Table(unittest.TestCase):
                                  "not in order    1 runs, where one command waited for the other",
                                  f"Mixed           2, first in BA: {SENTENCES['Mixed']}",
                                  f"Gone            1, first in AB: {SENTENCES['Gone']}"])
+
+    def test_whose_steps_break_a_clause(self):
+        broken = {}
+        note("AB", b"maildir_log 1\n1 A unlink box/cur/u ok\n1 B unlink box/cur/v ok\n", [Finding(2, "Gone")], broken)
+        note("BA", b"maildir_log 1\n1 A unlink box/cur/u ok\n1 B unlink box/cur/v ok\n", [Finding(3, "Gone")], broken)
+        self.assertEqual((broken["Gone"].order, broken["Gone"].count, broken["Gone"].actors), ("AB", 2, {"A", "B"}))
 
     def test_refusals(self):
         for words in [["true"], ["--claims", "done box u", "true", "true"]]:

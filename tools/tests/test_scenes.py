@@ -14,7 +14,7 @@ from judge_lib import outcomes
 from judge_lib.claims import read_claim
 from judge_lib.judge_run import judge, judge_program
 from judge_lib.refused import Refused
-from judge_lib.scene import FOLDER, read_scene
+from judge_lib.scene import FOLDER, read_scene, read_scenes
 from judge_lib.staging import Found, Outcome
 
 TRACED = """\
@@ -66,14 +66,25 @@ class Scenes(unittest.TestCase):
                 self.read(text)
 
     def test_each_scene_can_be_read(self):
-        files = sorted(FOLDER.iterdir())
-        self.assertGreater(len(files), 12)
-        for path in files:
-            scene = read_scene(path)
-            self.assertEqual(path.suffix, ".scene")
+        scenes, pairs = read_scenes([]), read_scenes(["deolmutt"])
+        self.assertEqual(len(scenes) + 1, len(list(FOLDER.iterdir())))
+        self.assertEqual(len({scene.pair for scene in pairs}), 18 * 6)
+        for scene in scenes + pairs:
             self.assertIn("box/cur", scene.setup[0])
+            self.assertNotIn("|", scene.about)
             for claim in scene.claims:
                 read_claim(claim)
+
+    def test_pairs(self):
+        rows = []
+        for scene in read_scenes(["deolmutt-flag-cur-beside-itself", "deolmutt-seen-new-beside-mblaze"]):
+            found = [Found("Gone", 2, "B unlink box/new/u ok", "it goes", "B")] * (scene.beside == "minc box")
+            rows.append(Outcome(scene, "1", 4, not found, found, b""))
+        with mock.patch.object(outcomes, "version_of", return_value="1"):
+            self.assertEqual(outcomes.markdown(rows)[2:], [
+                "With deolmutt 1, mblaze 1.", "", "|  | itself | mblaze |", "| --- | --- | --- |", "| flag cur | 4 | - |",
+                "| seen new | - | 4 of more; Gone by B in 2 |"])
+        self.assertEqual(rows[0].scene.claims, ["A: flags box u +F", "B: flags box u +F"])
 
     def test_repeated(self):
         traced = "tools/trace --actor q --claims 'done box u' --fail unlink:error=EIO -o log sh -c 'q r < s'"
