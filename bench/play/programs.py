@@ -2,6 +2,7 @@
 
 import glob
 import os
+import shlex
 import subprocess
 
 HERE = os.path.dirname(os.path.realpath(__file__))
@@ -21,6 +22,12 @@ def plain(work):
     build = ['cargo', 'build', '--quiet', '--release', '--offline', '--locked', '--manifest-path', manifest, '--target-dir', work]
     subprocess.run(build, check=True)
     return os.path.join(work, 'release', 'plain')
+
+
+def commands(of_ours, of_plain, work):
+    """The words by which both programs play a script: those of their commands, or of what is built where there is none."""
+    ours_words = shlex.split(of_ours) if of_ours else [ours(), 'play']
+    return ours_words, shlex.split(of_plain) if of_plain else [plain(work), 'play']
 
 
 def rust(work, name, source, *flags):

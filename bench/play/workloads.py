@@ -6,6 +6,7 @@ Each workload is a function of a random generator and a size, which gives the li
 
 import random
 from datetime import datetime, timezone
+from functools import partial
 
 FIRST_SECOND = 1_700_000_000
 HOST = 'mail.example.org'
@@ -114,31 +115,16 @@ def deliver(rng, size):
     yield 'list inbox'
 
 
-def tiny(names, inboxes=1, lists=0):
-    """Messages of a byte under these names, each delivered at once; then listings of each folder."""
+def tiny(rng, size, is_in_order=True, inboxes=1, lists=0):
+    """Messages of a byte, each delivered at once; then listings of each folder."""
     jobs = Jobs()
+    names = unique_names(rng, size)
     inboxes = ['inbox%d' % number for number in range(inboxes)]
     yield from folders(*inboxes)
-    for number, name in enumerate(names):
+    for number, name in enumerate(names if is_in_order else shuffled(rng, names)):
         yield from jobs.finished('deliver %s %s 4096 x' % (inboxes[number % len(inboxes)], name))
     for _ in range(lists):
         yield from ('list ' + inbox for inbox in inboxes)
-
-
-def tiny_in_order(rng, size):
-    return tiny(unique_names(rng, size))
-
-
-def tiny_shuffled(rng, size):
-    return tiny(shuffled(rng, unique_names(rng, size)))
-
-
-def tiny_in_folders(rng, size):
-    return tiny(unique_names(rng, size), inboxes=64, lists=1)
-
-
-def tiny_listed(rng, size):
-    return tiny(unique_names(rng, size), lists=1)
 
 
 def submitted(rng, size):
@@ -229,14 +215,6 @@ def flagged(rng, size, listed):
             yield 'list inbox'
 
 
-def flags_and_lists(rng, size):
-    return flagged(rng, size, 200)
-
-
-def flags_and_a_list(rng, size):
-    return flagged(rng, size, 1)
-
-
 def image(rng, size):
     """Files in no order, half of them seen, and one listing."""
     yield from folders('inbox')
@@ -250,7 +228,7 @@ def clean(rng, size):
     yield from folders('inbox')
     for name in shuffled(rng, unique_names(rng, size)):
         yield file('inbox', 'tmp', name, stamp=FIRST_SECOND + rng.randrange(1_000))
-    yield from Jobs().finished('clean inbox')[:1]
+    yield Jobs().job('clean inbox')
     yield 'finish 1 %d' % (FIRST_SECOND + 200_000)
 
 
@@ -344,46 +322,27 @@ def comments(rng, size):
     yield from ('# ' + rng.choice(lines)[:50] for _ in range(size))
 
 
-def one_body(body, chunk):
+def one_body(_, size, letter='x', piece=4_096):
+    """One body of so many KiB of a letter, as a script writes it, in pieces of so many bytes."""
     yield from folders('inbox')
-    yield from Jobs().finished('deliver inbox u %d %s' % (chunk, body))
+    yield from Jobs().finished('deliver inbox u %d %s' % (piece, letter * size * 1_024))
     yield 'list inbox'
-
-
-def body_in_pages(_, size):
-    """One body of so many KiB, in pieces of 4,096 bytes."""
-    return one_body('x' * size * 1_024, 4_096)
-
-
-def body_in_pieces(_, size):
-    """The same in pieces of 64 bytes."""
-    return one_body('x' * size * 1_024, 64)
-
-
-def body_in_bytes(_, size):
-    """The same byte by byte."""
-    return one_body('x' * size * 1_024, 1)
-
-
-def body_of_escapes(_, size):
-    """One body of so many KiB of line feeds, in one piece."""
-    return one_body('\\n' * size * 1_024, 16_777_216)
 
 
 # Each with its three sizes, the last of which is near what a script may hold or what is still measured in seconds.
 WORKLOADS = {
     'deliver': (deliver, (1_000, 3_000, 10_000)),
-    'tiny': (tiny_in_order, (1_000, 3_000, 10_000)),
-    'tiny-shuffled': (tiny_shuffled, (1_000, 3_000, 10_000)),
-    'tiny-in-folders': (tiny_in_folders, (1_000, 3_000, 10_000)),
-    'tiny-listed': (tiny_listed, (1_000, 3_000, 10_000)),
+    'tiny': (tiny, (1_000, 3_000, 10_000)),
+    'tiny-shuffled': (partial(tiny, is_in_order=False), (1_000, 3_000, 10_000)),
+    'tiny-in-folders': (partial(tiny, inboxes=64, lists=1), (1_000, 3_000, 10_000)),
+    'tiny-listed': (partial(tiny, lists=1), (1_000, 3_000, 10_000)),
     'submitted': (submitted, (1_000, 3_000, 10_000)),
     'standing': (standing, (1_000, 3_000, 10_000)),
     'in-pieces': (in_pieces, (1_000, 3_000, 10_000)),
     'delivered-and-moved': (delivered_and_moved, (500, 1_500, 5_000)),
     'mixed': (mixed, (300, 1_000, 3_000)),
-    'flags-and-lists': (flags_and_lists, (1_000, 3_000, 10_000)),
-    'flags-and-a-list': (flags_and_a_list, (1_000, 10_000, 100_000)),
+    'flags-and-lists': (partial(flagged, listed=200), (1_000, 3_000, 10_000)),
+    'flags-and-a-list': (partial(flagged, listed=1), (1_000, 10_000, 100_000)),
     'image': (image, (1_000, 10_000, 100_000)),
     'clean': (clean, (1_000, 10_000, 100_000)),
     'marks': (marks, (300, 1_000, 3_000)),
@@ -395,10 +354,10 @@ WORKLOADS = {
     'summaries': (summaries, (1_000, 3_000, 10_000)),
     'made-names': (made_names, (10_000, 30_000, 100_000)),
     'comments': (comments, (50_000, 150_000, 500_000)),
-    'body-in-pages': (body_in_pages, (1_024, 4_096, 16_384)),
-    'body-in-pieces': (body_in_pieces, (1_024, 4_096, 16_384)),
-    'body-in-bytes': (body_in_bytes, (64, 256, 1_024)),
-    'body-of-escapes': (body_of_escapes, (1_024, 4_096, 16_384)),
+    'body-in-pages': (one_body, (1_024, 4_096, 16_384)),
+    'body-in-pieces': (partial(one_body, piece=64), (1_024, 4_096, 16_384)),
+    'body-in-bytes': (partial(one_body, piece=1), (64, 256, 1_024)),
+    'body-of-escapes': (partial(one_body, letter='\\n', piece=16_777_216), (1_024, 4_096, 16_384)),
 }
 
 

@@ -166,9 +166,7 @@ class Tree:
     def deliver_all(self, number: int, messages: list[tuple[bytes, Wanted]]) -> list[str]:
         """The same for many messages, in some calls of the library."""
         uniques = [fresh_unique() for _ in messages]
-        self._call_all(
-            Deliver(number, unique, body) for unique, (body, _) in zip(uniques, messages)
-        )
+        self._call_all(Deliver(number, unique, body) for unique, (body, _) in zip(uniques, messages))
         for unique, (_, wanted) in zip(uniques, messages):
             self._dates[unique] = wanted.date
         self._call_all(

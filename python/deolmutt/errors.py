@@ -62,6 +62,18 @@ class NotSettled(DeolmuttError):
     """The library has no settle, so that a world ends after 10,000 calls."""
 
 
+class NotDriven(DeolmuttError):
+    """The library has no driven jobs: it was built before them."""
+
+
+class Restless(DeolmuttError, OSError):
+    """A directory was changed again and again, so that no reading of it could be believed."""
+
+
+class TwoNames(DeolmuttError):
+    """Two files of a directory have one unique name, so that nobody can say which is the message."""
+
+
 # What the store refuses of a call.
 
 
@@ -113,6 +125,14 @@ class Unanswered(Refused):
     """A job has no answer yet. `job` is the first one's number."""
 
     job: int = 0
+
+
+class NotAsked(Refused):
+    """No call of a driven job waits for a reply."""
+
+
+class AskedBefore(Refused):
+    """A call of a driven job waits for its reply."""
 
 
 class NoMemory(Refused, MemoryError):

@@ -101,7 +101,7 @@ class Maildir(Closing, mailbox.Mailbox):  # type: ignore[type-arg]
         letters, is refused as `OtherInfo`, and what is no message as TypeError or ValueError.
         """
         with self._held():
-            return self._tree.deliver(self._number(), self._body(message), _wanted(message))
+            return self._tree.deliver(self._number(), self._body(message), wanted_of(message))
 
     def add_all(self, messages: Iterable[Addable]) -> List[str]:
         """Adds messages, and answers their keys, faster than one by one.
@@ -109,7 +109,7 @@ class Maildir(Closing, mailbox.Mailbox):  # type: ignore[type-arg]
         All are looked at before the first is added, so that one that `add` refuses is raised first.
         """
         with self._held():
-            checked = [(self._body(message), _wanted(message)) for message in messages]
+            checked = [(self._body(message), wanted_of(message)) for message in messages]
             return self._tree.deliver_all(self._number(), checked)
 
     def remove(self, key: str) -> None:
@@ -133,7 +133,7 @@ class Maildir(Closing, mailbox.Mailbox):  # type: ignore[type-arg]
             number = self._number()
             old = self._lookup(key)
             old.check_info()
-            wanted = _wanted(message, old)
+            wanted = wanted_of(message, old)
             fresh = self._tree.deliver(number, self._body(message), wanted)
             self._tree.remove(number, key)
             self._tree.rename_key(number, fresh, key)
@@ -216,7 +216,7 @@ class Maildir(Closing, mailbox.Mailbox):  # type: ignore[type-arg]
         Raises KeyError for no message, `BadFlag` for what is no letter, and `OtherInfo` where the
         message has another program's mark.
         """
-        _check_text(flags)
+        check_text(flags)
         with self._held():
             others = "".join(set(self._lookup(key).flags) - set(flags))
             self._tree.change_flags(self._number(), key, flags, others)
@@ -230,8 +230,8 @@ class Maildir(Closing, mailbox.Mailbox):  # type: ignore[type-arg]
         self._change_flags(key, "", flag)
 
     def _change_flags(self, key: str, add: str, remove: str) -> None:
-        _check_text(add)
-        _check_text(remove)
+        check_text(add)
+        check_text(remove)
         with self._held():
             self._lookup(key)
             self._tree.change_flags(self._number(), key, add, remove)
@@ -241,7 +241,7 @@ class Maildir(Closing, mailbox.Mailbox):  # type: ignore[type-arg]
 
         All keys are looked up before the first message is changed.
         """
-        _check_text(flag)
+        check_text(flag)
         with self._held():
             wanted, contents = list(keys), self._contents()
             for key in wanted:
@@ -460,12 +460,10 @@ class _Loading:
         keys.add(key)
         self.notes[unique] = key, file.date
         name = unique if file.info is None else f"{unique}:{file.info}"
-        self.lines.append(
-            file_line(store_name(number), file.place.value, name, int(file.date), file.body)
-        )
+        self.lines.append(file_line(store_name(number), file.place.value, name, int(file.date), file.body))
 
 
-def _wanted(message: Addable, old: Optional[Message] = None) -> Wanted:
+def wanted_of(message: Addable, old: Optional[Message] = None) -> Wanted:
     """What a message is to be: what it says itself, else what the one before it was."""
     if isinstance(message, mailbox.MaildirMessage):
         flags = flags_in(message.get_info())
@@ -477,7 +475,7 @@ def _wanted(message: Addable, old: Optional[Message] = None) -> Wanted:
     return Wanted(Place.NEW if is_new else Place.CUR, old.flags, time.time())
 
 
-def _check_text(flags: str) -> None:
+def check_text(flags: str) -> None:
     if not isinstance(flags, str):
         raise TypeError(f"flags must be a string: {type(flags)}")
     check_flags(flags)

@@ -40,9 +40,7 @@ def unique_name(second: int, microsecond: int, process: int, count: int, host: s
     if not 0 <= microsecond < MOST_U64:
         raise BadMicrosecond()
     name = encoded(host)
-    status, made = filled(
-        library().deolmutt_unique, second, microsecond, process, count, name, len(name)
-    )
+    status, made = filled(library().deolmutt_unique, second, microsecond, process, count, name, len(name))
     if status != OK:
         raise refusal(status)
     return decoded(made)

@@ -6,25 +6,12 @@ import ctypes
 import struct
 import threading
 import time
-from typing import Any, Callable, Iterable, Iterator, List, NamedTuple, NoReturn, Optional, Union
+from typing import Any, Callable, Iterable, Iterator, List, NoReturn, Optional, Union
 
 from ._closing import Closing
 from ._library import AnswerStruct, StepStruct, filled, library, start_of
-from ._numbers import MOST_U32, MOST_U64, OK, Asked, answer_of, asked, refusal, step_of
-from .calls import (
-    Answer,
-    Call,
-    Clean,
-    Copy,
-    Deliver,
-    Entry,
-    Expunge,
-    Flag,
-    Move,
-    Place,
-    Seen,
-    Step,
-)
+from ._numbers import MOST_U32, MOST_U64, OK, answer_of, asked, refusal, step_of
+from .calls import Answer, Call, Clean, Copy, Deliver, Entry, Expunge, Flag, Move, Place, Seen, Step
 from .errors import (
     Closed,
     DeolmuttError,
@@ -124,9 +111,7 @@ class World(Closing):
         """
         return self.call(Seen(folder, unique, flags), now).flags
 
-    def flag(
-        self, folder: int, unique: str, add: str = "", remove: str = "", now: Optional[int] = None
-    ) -> str:
+    def flag(self, folder: int, unique: str, add: str = "", remove: str = "", now: Optional[int] = None) -> str:
         """Adds and removes flags of a message in cur, and answers its flags.
 
         Refused: `BadFlag`, `NoFolder`, `BadUnique`. Answered without success: `NotThere`, where it is
@@ -141,9 +126,7 @@ class World(Closing):
         """
         self.call(Move(folder, unique, to), now)
 
-    def copy(
-        self, folder: int, unique: str, to: int, fresh: str, now: Optional[int] = None
-    ) -> None:
+    def copy(self, folder: int, unique: str, to: int, fresh: str, now: Optional[int] = None) -> None:
         """Gives a message a second name, in this folder or another, which was never used.
 
         The two names share one file. Refused: `NoFolder`, `BadUnique`, `NameUsed`. Answered without
@@ -176,7 +159,7 @@ class World(Closing):
             self._changes += 1
             self._job.value = 0
             status = self._library.deolmutt_call(
-                self._open(), *_arguments(asked(call)), _moment(now), _pointer(own),
+                self._open(), *asked(call).words(), _moment(now), _pointer(own),
                 ctypes.byref(self._job), ctypes.byref(self._answer),
             )  # fmt: skip
             if status != OK:
@@ -188,9 +171,7 @@ class World(Closing):
 
     # Many calls.
 
-    def deliver_many(
-        self, folder: int, messages: Iterable[tuple[str, bytes]], now: Optional[int] = None
-    ) -> None:
+    def deliver_many(self, folder: int, messages: Iterable[tuple[str, bytes]], now: Optional[int] = None) -> None:
         """Delivers messages, each a unique name and its bytes, faster than one by one.
 
         The first that is refused or fails is raised, as by `deliver`; those before it are delivered.
@@ -213,9 +194,7 @@ class World(Closing):
         calls = [Flag(folder, unique, add, remove) for unique in uniques]
         return [answer.flags for answer in self._all(self.call_many(calls, now))]
 
-    def call_many(
-        self, calls: Iterable[Call], now: Optional[int] = None
-    ) -> List[Union[Answer, Failed]]:
+    def call_many(self, calls: Iterable[Call], now: Optional[int] = None) -> List[Union[Answer, Failed]]:
         """Makes calls one after the other, and answers how each ended: an answer that is no success is
         given as its exception, and not raised.
 
@@ -232,9 +211,7 @@ class World(Closing):
                     raise error
         return answers
 
-    def _make(
-        self, records: bytes, count: int, now: int, answers: List[Union[Answer, Failed]]
-    ) -> int:
+    def _make(self, records: bytes, count: int, now: int, answers: List[Union[Answer, Failed]]) -> int:
         given = bytearray(count * _ANSWER.size)
         self._length.value = 0
         self._changes += 1
@@ -260,10 +237,7 @@ class World(Closing):
         Refused: as by `call`.
         """
         with self._hold:
-            status = self._library.deolmutt_submit(
-                self._open(), *_arguments(asked(call)), ctypes.byref(self._job)
-            )
-            self._check(status)
+            self._check(self._library.deolmutt_submit(self._open(), *asked(call).words(), ctypes.byref(self._job)))
             return self._job.value
 
     def step(self, job: int, now: Optional[int] = None, own: Optional[int] = None) -> Step:
@@ -286,10 +260,7 @@ class World(Closing):
         An answer that is no success is raised: `Failed`. Refused: `NoJob`.
         """
         with self._hold:
-            status = self._library.deolmutt_job_answer(
-                self._open(), _checked(job, NoJob), ctypes.byref(self._answer)
-            )
-            self._check(status)
+            self._check(self._library.deolmutt_job_answer(self._open(), _checked(job, NoJob), ctypes.byref(self._answer)))
             if self._answer.kind == 0:
                 return None
             answer = answer_of(self._answer.kind, self._answer.value)
@@ -374,9 +345,7 @@ class World(Closing):
 
     def _loaded(self, lines: bytes) -> ctypes.c_void_p:
         handle, line = ctypes.c_void_p(), ctypes.c_uint64()
-        status = self._library.deolmutt_load(
-            lines, len(lines), ctypes.byref(handle), ctypes.byref(line)
-        )
+        status = self._library.deolmutt_load(lines, len(lines), ctypes.byref(handle), ctypes.byref(line))
         if status != OK:
             raise at_line(refusal(status), line.value)
         return handle
@@ -422,28 +391,6 @@ def _checked(number: int, refused: type[DeolmuttError], most: int = MOST_U64) ->
     if not 0 <= number < most:
         raise refused()
     return number
-
-
-class _Arguments(NamedTuple):
-    """What a call asks, as the library takes it."""
-
-    kind: int
-    folder: int
-    unique: bytes
-    unique_length: int
-    to: int
-    first: bytes
-    first_length: int
-    second: bytes
-    second_length: int
-    number: int
-
-
-def _arguments(a: Asked) -> _Arguments:
-    return _Arguments(
-        a.kind, a.folder, a.unique, len(a.unique), a.to, a.first, len(a.first), a.second,
-        len(a.second), a.number,
-    )  # fmt: skip
 
 
 def _together(calls: Iterable[Call]) -> Iterator[tuple[bytes, int]]:

@@ -127,39 +127,18 @@ def _(box: Any) -> Any:
 # add.
 
 
-@row("add takes a string", MESSAGE)
-def _(box: Any) -> Any:
-    return box.get_bytes(box.add(MESSAGE.decode("ascii")))
-
-
-@row("add takes a byte string", MESSAGE)
-def _(box: Any) -> Any:
-    return box.get_bytes(box.add(MESSAGE))
-
-
-@row("add takes a file that is open for reading bytes", MESSAGE)
-def _(box: Any) -> Any:
-    return box.get_bytes(box.add(io.BytesIO(MESSAGE)))
-
-
-@row("The lines of a file end as on this system", b"a\nb\nc")
-def _(box: Any) -> Any:
-    return box.get_bytes(box.add(io.BytesIO(b"a\r\nb\nc")))
-
-
-@row("The line ends of a byte string stay", b"a\r\nb\nc\rd")
-def _(box: Any) -> Any:
-    return box.get_bytes(box.add(b"a\r\nb\nc\rd"))
-
-
-@row("add takes an email.message.Message", MESSAGE)
-def _(box: Any) -> Any:
-    return box.get_bytes(box.add(email.message_from_bytes(MESSAGE)))
-
-
-@row("add takes a mailbox.Message", MESSAGE)
-def _(box: Any) -> Any:
-    return box.get_bytes(box.add(mailbox.Message(MESSAGE)))
+# What is said of an added message, how it is made, and the bytes that it then has.
+ADDED: tuple[tuple[str, Callable[[], Any], bytes], ...] = (
+    ("add takes a string", lambda: MESSAGE.decode("ascii"), MESSAGE),
+    ("add takes a byte string", lambda: MESSAGE, MESSAGE),
+    ("add takes a file that is open for reading bytes", lambda: io.BytesIO(MESSAGE), MESSAGE),
+    ("The lines of a file end as on this system", lambda: io.BytesIO(b"a\r\nb\nc"), b"a\nb\nc"),
+    ("The line ends of a byte string stay", lambda: b"a\r\nb\nc\rd", b"a\r\nb\nc\rd"),
+    ("add takes an email.message.Message", lambda: email.message_from_bytes(MESSAGE), MESSAGE),
+    ("add takes a mailbox.Message", lambda: mailbox.Message(MESSAGE), MESSAGE),
+)
+for sentence, made, added in ADDED:
+    row(sentence, added)(lambda box, made=made: box.get_bytes(box.add(made())))
 
 
 @row("add takes a text file, with a warning", (MESSAGE, DeprecationWarning))
@@ -281,8 +260,7 @@ def _(box: Any) -> Any:
     return [(box[key].get_subdir(), box[key].get_flags()) for key in keys]
 
 
-@row("An assignment of what is no message raises TypeError, and changes nothing",
-     (TypeError, [MESSAGE]))
+@row("An assignment of what is no message raises TypeError, and changes nothing", (TypeError, [MESSAGE]))
 def _(box: Any) -> Any:
     key = box.add(MESSAGE)
     raised = outcome(box.__setitem__, key, None)
@@ -308,8 +286,7 @@ def _(box: Any) -> Any:
     return iter(iterator) is iterator, set(iterator) == keys == set(box.keys()), type(box.keys())
 
 
-@row("itervalues is an iterator over messages, and values a list of them",
-     (True, ["Bye.\n", "Hello.\n"], list))
+@row("itervalues is an iterator over messages, and values a list of them", (True, ["Bye.\n", "Hello.\n"], list))
 def _(box: Any) -> Any:
     box.add(MESSAGE)
     box.add(OTHER)
@@ -354,14 +331,12 @@ def _(box: Any) -> Any:
     return type(box[key]), type(box.get(key))
 
 
-@row("get answers its default where there is no message, and [] raises KeyError",
-     (None, True, KeyError))
+@row("get answers its default where there is no message, and [] raises KeyError", (None, True, KeyError))
 def _(box: Any) -> Any:
     return box.get("a"), box.get("a", MARK) is MARK, outcome(box.__getitem__, "a")
 
 
-@row("get_message, get_bytes, get_string and get_file raise KeyError where there is none",
-     [KeyError] * 4)
+@row("get_message, get_bytes, get_string and get_file raise KeyError where there is none", [KeyError] * 4)
 def _(box: Any) -> Any:
     forms = box.get_message, box.get_bytes, box.get_string, box.get_file
     return [outcome(form, "a") for form in forms]

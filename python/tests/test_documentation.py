@@ -20,13 +20,13 @@ class DocumentationTest(Case):
     def test_each_row_is_so_of_this_mailbox(self) -> None:
         for row in ROWS:
             with self.subTest(row.sentence), deolmutt.Maildir() as box:
-                self.assertEqual(_plain(row.tried(box)), _plain(row.expected))
+                self.assertEqual(plain_lists(row.tried(box)), plain_lists(row.expected))
 
     def test_each_row_is_so_of_cpythons_mailbox(self) -> None:
         for number, row in enumerate(_ROWS_OF_CPYTHON):
             box = mailbox.Maildir(self.folder / str(number))
             with self.subTest(row.sentence):
-                self.assertEqual(_plain(row.tried(box)), _plain(row.expected))
+                self.assertEqual(plain_lists(row.tried(box)), plain_lists(row.expected))
 
     def test_every_public_name_is_there(self) -> None:
         names = {name for name in dir(mailbox.Maildir) if not name.startswith("_")}
@@ -38,10 +38,10 @@ class DocumentationTest(Case):
                 self.assertTrue(value.__doc__, name)
 
 
-def _plain(value: object) -> object:
+def plain_lists(value: object) -> object:
     """Lists for tuples, so that rows may write either."""
     if isinstance(value, (list, tuple)):
-        return [_plain(each) for each in value]
+        return [plain_lists(each) for each in value]
     return value
 
 

@@ -16,7 +16,7 @@ class PageTest(Case):
     def test_sessions(self) -> None:
         for page, least in PAGES:
             with self.subTest(page=page.name):
-                names = {"tree": str(self.folder / "tree")}
+                names = {"tree": str(self.folder / "tree"), "disk": str(self.folder / "disk")}
                 ran = doctest.testfile(str(page), module_relative=False, globs=names, encoding="utf-8")
                 self.assertGreaterEqual(ran.attempted, least)
                 self.assertEqual(0, ran.failed)

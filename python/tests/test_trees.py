@@ -6,9 +6,9 @@ import contextlib
 import mailbox
 import os
 import pathlib
-import threading
 import unittest
 import warnings
+from concurrent.futures import ThreadPoolExecutor
 from typing import Any
 
 from support import MESSAGE, Case, maildir_message, needs_library
@@ -295,7 +295,7 @@ class DifferenceTest(Case):
     def test_threads_that_meet_are_refused_and_break_nothing(self) -> None:
         keys: list[str] = []
 
-        def work() -> None:
+        def work(_: int) -> None:
             for _ in range(200):
                 try:
                     key = self.box.add(MESSAGE)
@@ -305,11 +305,8 @@ class DifferenceTest(Case):
                 with contextlib.suppress(WrongThread):
                     self.box.add_flag(key, "S")
 
-        threads = [threading.Thread(target=work) for _ in range(4)]
-        for thread in threads:
-            thread.start()
-        for thread in threads:
-            thread.join()
+        with ThreadPoolExecutor(4) as pool:
+            list(pool.map(work, range(4)))
         self.assertEqual({"a", "b", *keys}, set(self.box.keys()))
 
     def test_a_mailbox_takes_more_calls_than_a_world(self) -> None:

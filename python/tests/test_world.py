@@ -5,28 +5,15 @@ from __future__ import annotations
 import copy
 import pickle
 import re
-import threading
 import unittest
+from concurrent.futures import ThreadPoolExecutor
 from typing import Callable
 
 from support import MESSAGE, TOP, needs_library
 
 from deolmutt import World, WrongThread, errors, lines
 from deolmutt._numbers import FAILURES, MOST_U64, REFUSALS
-from deolmutt.calls import (
-    Answer,
-    Call,
-    Clean,
-    Copy,
-    Deliver,
-    Expunge,
-    Flag,
-    Move,
-    Outcome,
-    Place,
-    Seen,
-    Step,
-)
+from deolmutt.calls import Answer, Call, Clean, Copy, Deliver, Expunge, Flag, Move, Outcome, Place, Seen, Step
 
 HEADER = TOP / "crates/md_ffi/include/deolmutt.h"
 DAY = 86_400
@@ -53,9 +40,7 @@ class CallTest(unittest.TestCase):
 
     def test_a_listing_is_in_order_of_unique_names(self) -> None:
         entries = self.world.list(0)
-        self.assertEqual(
-            [(Place.CUR, "c:2,FS", 2), (Place.NEW, "n", 1), (Place.CUR, "o:1,x", 0)], entries
-        )
+        self.assertEqual([(Place.CUR, "c:2,FS", 2), (Place.NEW, "n", 1), (Place.CUR, "o:1,x", 0)], entries)
         self.assertEqual(["c", "n", "o"], [entry.unique for entry in entries])
         self.assertEqual(["2,FS", None, "1,x"], [entry.info for entry in entries])
 
@@ -376,16 +361,13 @@ class ThreadTest(unittest.TestCase):
     def test_each_thread_may_have_a_world(self) -> None:
         found: list[int] = []
 
-        def work() -> None:
+        def work(_: int) -> None:
             with World.with_folders("a") as world:
                 world.deliver_many(0, [(f"m{number}", bytes(number)) for number in range(2000)])
                 found.append(sum(len(world.read(entry.name)) for entry in world.list(0)))
 
-        threads = [threading.Thread(target=work) for _ in range(4)]
-        for thread in threads:
-            thread.start()
-        for thread in threads:
-            thread.join()
+        with ThreadPoolExecutor(4) as pool:
+            list(pool.map(work, range(4)))
         self.assertEqual([sum(range(2000))] * 4, found)
 
     def test_threads_that_meet_are_refused_and_break_nothing(self) -> None:
@@ -401,29 +383,16 @@ class ThreadTest(unittest.TestCase):
                     except WrongThread:
                         refused[thread] += 1
 
-            threads = [threading.Thread(target=deliver, args=(number,)) for number in range(4)]
-            for thread in threads:
-                thread.start()
-            for thread in threads:
-                thread.join()
+            with ThreadPoolExecutor(4) as pool:
+                list(pool.map(deliver, range(4)))
             self.assertEqual(sum(done), len(world.list(0)))
             self.assertEqual(800, sum(done) + sum(refused))
 
 
-def in_thread(function: object) -> object:
+def in_thread(function: Callable[[], object]) -> object:
     """What a function raises in a thread of its own, or None."""
-    met: list[BaseException] = []
-
-    def run() -> None:
-        try:
-            function()  # type: ignore[operator]
-        except BaseException as error:
-            met.append(error)
-
-    thread = threading.Thread(target=run)
-    thread.start()
-    thread.join()
-    return met[0] if met else None
+    with ThreadPoolExecutor(1) as pool:
+        return pool.submit(function).exception()
 
 
 class NumbersTest(unittest.TestCase):

@@ -59,9 +59,7 @@ def main(words: Optional[Sequence[str]] = None, limits: Limits = Limits()) -> in
     return Status.REFUSED
 
 
-def _import(
-    options: argparse.Namespace, limits: Limits, report: Report, interrupts: Interrupts
-) -> int:
+def _import(options: argparse.Namespace, limits: Limits, report: Report, interrupts: Interrupts) -> int:
     output = _output(options, interrupts)
     output.check()
     if options.dry_run:
@@ -82,9 +80,7 @@ def _output(options: argparse.Namespace, interrupts: Interrupts) -> Output[Any]:
     return ToStream(_STANDARD_OUTPUT, interrupts)
 
 
-def _export(
-    options: argparse.Namespace, limits: Limits, report: Report, interrupts: Interrupts
-) -> int:
+def _export(options: argparse.Namespace, limits: Limits, report: Report, interrupts: Interrupts) -> int:
     run = Export(report, interrupts, options.dry_run, limits)
     is_stopped = False
     try:
@@ -111,9 +107,7 @@ def _sum_up(is_dry: bool, total: str, report: Report) -> None:
 
 def _import_total(written: Written) -> str:
     scripts = f"{_counted(written.scripts, 'script')} of {_counted(written.script_bytes, 'byte')}"
-    return (
-        f"{_counted(written.folders, 'folder')} and {_counted(written.files, 'file')} in {scripts}"
-    )
+    return f"{_counted(written.folders, 'folder')} and {_counted(written.files, 'file')} in {scripts}"
 
 
 def _export_total(totals: Totals) -> str:

@@ -62,9 +62,7 @@ class Deliveries:
         self._count += 1
         fresh = b"%d.P%dQ%dR%b.export" % (time.time(), os.getpid(), self._count, self._run)
         tmp = self._maildir.descriptor(b"tmp")
-        descriptor = os.open(
-            fresh, os.O_WRONLY | os.O_CREAT | os.O_EXCL | os.O_CLOEXEC, 0o600, dir_fd=tmp
-        )
+        descriptor = os.open(fresh, os.O_WRONLY | os.O_CREAT | os.O_EXCL | os.O_CLOEXEC, 0o600, dir_fd=tmp)
         try:
             write_all(descriptor, file.body)
             keeps_time = _set_time(descriptor, file.stamp)
@@ -92,12 +90,8 @@ class Deliveries:
         try:
             os.close(written.descriptor)
             if failure is None:
-                place(
-                    written.fresh,
-                    file.name,
-                    self._maildir.descriptor(b"tmp"),
-                    self._maildir.descriptor(file.place),
-                )
+                tmp, directory = map(self._maildir.descriptor, (b"tmp", file.place))
+                place(written.fresh, file.name, tmp, directory)
                 return Delivery(file, None, written.keeps_time)
         except OSError as error:
             failure = failure or error

@@ -7,8 +7,8 @@ import tempfile
 from contextlib import suppress
 from typing import IO
 
-from .refused import Refused
-from .shown import because, shown
+from .refused import refusing
+from .shown import shown
 
 _BUFFER_BYTES = 1 << 20
 
@@ -43,44 +43,32 @@ class _KeptDraft(Draft):
     def __init__(self, file: IO[bytes], place: str) -> None:
         super().__init__()
         self.file = file
-        self._place = place
+        self.unwritten = f"{place}: can't be written"
 
     def write(self, data: bytes) -> None:
-        try:
+        with refusing(self.unwritten):
             self.file.write(data)
-        except OSError as error:
-            raise self.failed(error) from error
         self.size += len(data)
 
     def cut(self, size: int) -> None:
-        try:
+        with refusing(self.unwritten):
             self.file.seek(size)
             self.file.truncate()
-        except OSError as error:
-            raise self.failed(error) from error
         self.size = size
-
-    def failed(self, error: OSError) -> Refused:
-        """The refusal for a call that failed."""
-        return Refused(f"{self._place}: can't be written: {because(error)}")
 
 
 class SpooledDraft(_KeptDraft):
     """A draft without a name, which is copied to a stream in the end."""
 
     def __init__(self) -> None:
-        super().__init__(
-            tempfile.TemporaryFile(buffering=_BUFFER_BYTES),
-            f"a temporary file in {tempfile.gettempdir()}",
-        )
+        file = tempfile.TemporaryFile(buffering=_BUFFER_BYTES)
+        super().__init__(file, f"a temporary file in {tempfile.gettempdir()}")
 
     def seal(self, head: bytes) -> None:
-        try:
+        with refusing(self.unwritten):
             self.file.seek(0)
             self.file.write(head)
             self.file.seek(0)
-        except OSError as error:
-            raise self.failed(error) from error
 
     def discard(self) -> None:
         _close(self.file)
@@ -91,25 +79,18 @@ class NamedDraft(_KeptDraft):
 
     def __init__(self, path: bytes) -> None:
         self.path = path
-        try:
+        with refusing(f"{shown(path)}: can't be made"):
             descriptor = os.open(path, os.O_RDWR | os.O_CREAT | os.O_EXCL | os.O_CLOEXEC, 0o600)
-        except OSError as error:
-            raise Refused(f"{shown(path)}: can't be made: {because(error)}") from error
         super().__init__(open(descriptor, "w+b", buffering=_BUFFER_BYTES), shown(path))
 
     def set_aside(self) -> None:
-        try:
+        with refusing(self.unwritten):
             self.file.close()
-        except OSError as error:
-            raise self.failed(error) from error
 
     def seal(self, head: bytes) -> None:
-        try:
-            with open(self.path, "r+b", buffering=0) as file:
-                file.write(head)
-                os.fsync(file.fileno())
-        except OSError as error:
-            raise self.failed(error) from error
+        with refusing(self.unwritten), open(self.path, "r+b", buffering=0) as file:
+            file.write(head)
+            os.fsync(file.fileno())
 
     def discard(self) -> None:
         _close(self.file)

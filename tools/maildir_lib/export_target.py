@@ -152,9 +152,7 @@ class Target:
             self._report.add(self._path(self._steps), Reason.UNFLUSHED, because(error))
 
     def _tell(self, file: FileLine, reason: Reason, detail: str = "") -> None:
-        self._report.add(
-            os.path.join(self._path(file.steps), file.place, file.name), reason, detail
-        )
+        self._report.add(os.path.join(self._path(file.steps), file.place, file.name), reason, detail)
 
     def _path(self, steps: Steps) -> bytes:
         return os.path.join(self._tree, *steps)

@@ -13,8 +13,8 @@ from .descriptors import let_go, sync_directory, write_all
 from .drafts import Draft, NamedDraft, SpooledDraft
 from .interrupts import Interrupts, held
 from .placing import place
-from .refused import Refused
-from .shown import because, shown
+from .refused import Refused, refusing
+from .shown import shown
 
 D = TypeVar("D", bound=Draft)
 
@@ -77,20 +77,16 @@ class ToStream(_SingleOutput[SpooledDraft]):
         self._interrupts = interrupts
 
     def _new_draft(self) -> SpooledDraft:
-        try:
+        with refusing("no temporary file can be made"):
             return SpooledDraft()
-        except OSError as error:
-            raise Refused(f"no temporary file can be made: {because(error)}") from error
 
     def publish(self) -> None:
-        try:
+        with refusing("standard output: can't be written"):
             for draft in self.drafts:
                 while piece := draft.file.read(select.PIPE_BUF):
                     # So many bytes don't wait once there is room.
                     self._interrupts.wait_to_write(self._descriptor)
                     write_all(self._descriptor, piece)
-        except OSError as error:
-            raise Refused(f"standard output: can't be written: {because(error)}") from error
 
 
 class ToFile(_SingleOutput[NamedDraft]):
@@ -102,23 +98,15 @@ class ToFile(_SingleOutput[NamedDraft]):
 
     def check(self) -> None:
         if os.path.lexists(self._path) and not os.path.isfile(self._path):
-            raise Refused(
-                f"{shown(self._path)}: is no file; to write to a pipe or a device, leave -o out"
-            )
+            raise Refused(f"{shown(self._path)}: is no file; to write to a pipe or a device, leave -o out")
 
     def _new_draft(self) -> NamedDraft:
-        return NamedDraft(
-            _temporary_name(os.path.dirname(self._path), os.path.basename(self._path))
-        )
+        return NamedDraft(_temporary_name(os.path.dirname(self._path), os.path.basename(self._path)))
 
     def publish(self) -> None:
         for draft in self.drafts:
-            try:
+            with refusing(f"{shown(self._path)}: can't be put in place"):
                 os.rename(draft.path, self._path)
-            except OSError as error:
-                raise Refused(
-                    f"{shown(self._path)}: can't be put in place: {because(error)}"
-                ) from error
             # Where this fails, a crash may bring back the old file, which is whole too.
             with suppress(Refused):
                 _sync(os.path.dirname(self._path))
@@ -133,16 +121,12 @@ class IntoDirectory(Output[NamedDraft]):
         self._is_made = False
 
     def check(self) -> None:
-        try:
-            former = [
-                name
-                for name in os.listdir(self._directory)
-                if re.fullmatch(rb"[0-9]{3,}\.script", name)
-            ]
-        except FileNotFoundError:
-            return
-        except OSError as error:
-            raise Refused(f"{shown(self._directory)}: {because(error)}") from error
+        with refusing(shown(self._directory)):
+            try:
+                names = os.listdir(self._directory)
+            except FileNotFoundError:
+                return
+        former = [name for name in names if re.fullmatch(rb"[0-9]{3,}\.script", name)]
         if former:
             raise Refused(f"{shown(self._directory)}: has {shown(min(former))} already")
 
@@ -153,10 +137,8 @@ class IntoDirectory(Output[NamedDraft]):
     def _make_directory(self) -> None:
         if os.path.isdir(self._directory):
             return
-        try:
+        with refusing(f"{shown(self._directory)}: can't be made"):
             os.mkdir(self._directory, 0o700)
-        except OSError as error:
-            raise Refused(f"{shown(self._directory)}: can't be made: {because(error)}") from error
         self._is_made = True
 
     def publish(self) -> None:
@@ -176,10 +158,8 @@ class IntoDirectory(Output[NamedDraft]):
         digits = max(3, len(str(len(self.drafts))))
         for number, draft in enumerate(self.drafts, 1):
             path = os.path.join(self._directory, b"%0*d.script" % (digits, number))
-            try:
+            with refusing(f"{shown(path)}: can't be put in place"):
                 place(draft.path, path)
-            except OSError as error:
-                raise Refused(f"{shown(path)}: can't be put in place: {because(error)}") from error
             placed.append(path)
 
     def discard(self) -> None:
@@ -196,13 +176,9 @@ def _temporary_name(directory: bytes, name: bytes) -> bytes:
 
 
 def _sync(directory: bytes) -> None:
-    try:
+    with refusing(f"{shown(directory)}: can't be flushed to the disk"):
         descriptor = os.open(directory, os.O_RDONLY | os.O_DIRECTORY | os.O_CLOEXEC)
         try:
             sync_directory(descriptor)
         finally:
             let_go(descriptor)
-    except OSError as error:
-        raise Refused(
-            f"{shown(directory)}: can't be flushed to the disk: {because(error)}"
-        ) from error

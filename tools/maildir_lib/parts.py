@@ -42,14 +42,7 @@ class Part:
     Of a line that doesn't fit, or whose file can't be read to its end, nothing stays in it.
     """
 
-    def __init__(
-        self,
-        draft: Draft,
-        limits: Limits,
-        with_bodies: bool,
-        report: Report,
-        check: Callable[[], None],
-    ) -> None:
+    def __init__(self, draft: Draft, limits: Limits, with_bodies: bool, report: Report, check: Callable[[], None]) -> None:
         self._draft = draft
         self._limits = limits
         self._with_bodies = with_bodies
@@ -65,10 +58,10 @@ class Part:
     def take_folder(self, folder: Folder) -> Outcome:
         """Names a folder, which may be an empty one."""
         if not self._has_place_for(folder):
-            return self._full_of_folders()
+            return self._full_of("folders", self._limits.folders)
         line = _folder_line(folder)
         if self._draft.size + len(line) > self._limits.script_bytes:
-            return self._full_of_bytes()
+            return self._full_of("bytes", self._limits.script_bytes)
         self._draft.write(line)
         self.folders.add(folder.name)
         return Outcome.TAKEN
@@ -80,7 +73,7 @@ class Part:
             self.why_another = f"two messages have the unique name {shown(unique)}"
             return Outcome.LATER
         if not self._has_place_for(file.folder):
-            return self._full_of_folders()
+            return self._full_of("folders", self._limits.folders)
         start = self._draft.size
         try:
             with opened(file.path) as message:
@@ -93,12 +86,7 @@ class Part:
     def _take_message(self, file: File, message: Message) -> Outcome:
         start = self._draft.size
         folder_line = b"" if file.folder.name in self.folders else _folder_line(file.folder)
-        words = b"file %b %b %b %d " % (
-            file.folder.name,
-            file.place,
-            file.name,
-            max(message.seconds, 0),
-        )
+        words = b"file %b %b %b %d " % (file.folder.name, file.place, file.name, max(message.seconds, 0))
         length = self._write_line(folder_line + words, message)
         if start + length > self._limits.script_bytes:
             self._draft.cut(start)
@@ -135,7 +123,7 @@ class Part:
         if file.folder.name in self.folders:
             needed += len(_folder_line(file.folder))
         if needed <= self._limits.script_bytes:
-            return self._full_of_bytes()
+            return self._full_of("bytes", self._limits.script_bytes)
         self._report.add(file.path, Reason.LARGE)
         return Outcome.TAKEN
 
@@ -157,10 +145,6 @@ class Part:
     def _has_place_for(self, folder: Folder) -> bool:
         return folder.name in self.folders or len(self.folders) < self._limits.folders
 
-    def _full_of_folders(self) -> Outcome:
-        self.why_another = f"a script has at most {self._limits.folders} folders"
-        return Outcome.FULL
-
-    def _full_of_bytes(self) -> Outcome:
-        self.why_another = f"a script has at most {self._limits.script_bytes:,} bytes"
+    def _full_of(self, what: str, most: int) -> Outcome:
+        self.why_another = f"a script has at most {most:,} {what}"
         return Outcome.FULL

@@ -33,9 +33,7 @@ def place(
         os.unlink(old, dir_fd=old_directory)
 
 
-def _rename_without_replacing(
-    old: bytes, new: bytes, old_directory: Optional[int], new_directory: Optional[int]
-) -> None:
+def _rename_without_replacing(old: bytes, new: bytes, old_directory: Optional[int], new_directory: Optional[int]) -> None:
     """The same by renameat2, which only Linux has."""
     library = ctypes.CDLL(None, use_errno=True)
     rename = getattr(library, "renameat2", None)

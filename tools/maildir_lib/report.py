@@ -65,9 +65,7 @@ class Report:
     def add(self, path: bytes, reason: Reason, detail: str = "", files: int = 1) -> None:
         """Says what became of a path, which stands for so many files."""
         self._counts[reason] += files
-        self.say(
-            f"{reason.kind.value}: {shown(path)}: {reason.text}" + (f": {detail}" if detail else "")
-        )
+        self.say(f"{reason.kind.value}: {shown(path)}: {reason.text}" + (f": {detail}" if detail else ""))
 
     def pass_over(self, name: bytes) -> None:
         """Counts a file that is no mail: it is in none of tmp, new and cur."""

@@ -24,17 +24,7 @@ from .shown import shown
 # What follows a word, or None at the end of the line.
 Rest = Optional[bytes]
 
-_OTHER_COMMANDS = (
-    b"job",
-    b"step",
-    b"finish",
-    b"list",
-    b"first",
-    b"second",
-    b"read",
-    b"unique",
-    b"summary",
-)
+_OTHER_COMMANDS = b"job step finish list first second read unique summary".split()
 
 
 class Fault(Enum):
@@ -145,9 +135,7 @@ class ScriptReader:
         try:
             steps = directory_of(name)
         except NoDirectory as error:
-            raise BadLine(
-                Fault.BAD_FOLDER, f"{shown(name)} is no directory of a tree: {error}"
-            ) from error
+            raise BadLine(Fault.BAD_FOLDER, f"{shown(name)} is no directory of a tree: {error}") from error
         self._folders[name] = steps
         return FolderLine(name, steps)
 
@@ -167,9 +155,7 @@ class ScriptReader:
 
 def _without_end(raw: bytes) -> bytes:
     """The line without its LF and one CR right before that, which without LF is a byte of it."""
-    if not raw.endswith(b"\n"):
-        return raw
-    return raw[:-2] if raw.endswith(b"\r\n") else raw[:-1]
+    return raw[:-2] if raw.endswith(b"\r\n") else raw.removesuffix(b"\n")
 
 
 def _word(rest: Rest) -> Tuple[bytes, Rest]:

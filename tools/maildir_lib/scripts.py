@@ -9,9 +9,9 @@ from typing import IO, Iterator, Optional
 
 from .interrupts import Interrupts
 from .language import Limits
-from .refused import Refused
+from .refused import Refused, refusing
 from .script_lines import BadLine, Line, ScriptReader
-from .shown import because, shown
+from .shown import shown
 
 _PIECE_BYTES = 1 << 20
 _STANDARD_INPUT = b"-"
@@ -28,11 +28,8 @@ class Script:
 
     def lines(self) -> Iterator[Line]:
         """Its folder and file lines from the first on. The first bad one ends the run."""
-        try:
-            with self._opened() as file:
-                yield from self._read(file)
-        except OSError as error:
-            raise Refused(f"{shown(self._path)}: can't be read: {because(error)}") from error
+        with refusing(f"{shown(self._path)}: can't be read"), self._opened() as file:
+            yield from self._read(file)
 
     def close(self) -> None:
         """Lets what was kept go."""

@@ -90,9 +90,7 @@ def _take_maildir(directory: bytes, steps: Steps, found: list[Folder], report: R
     if is_reserved(steps):
         report.add(directory, Reason.RESERVED_FOLDER_NAME, files=_count_files(directory, PLACES))
     elif not is_folder_name(name):
-        report.add(
-            directory, Reason.LONG_FOLDER_NAME, shown(name), files=_count_files(directory, PLACES)
-        )
+        report.add(directory, Reason.LONG_FOLDER_NAME, shown(name), files=_count_files(directory, PLACES))
     else:
         found.append(Folder(name, directory))
 

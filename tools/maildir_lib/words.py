@@ -3,7 +3,7 @@
 from __future__ import annotations
 
 import argparse
-from typing import Optional, Sequence
+from typing import Any, Optional, Sequence
 
 _ABOUT = """\
 Turns a real maildir tree into scripts of folder and file lines, which
@@ -71,15 +71,13 @@ examples:
 """
 
 
+# What all parsers have in common.
+_HOW: dict[str, Any] = {"formatter_class": argparse.RawDescriptionHelpFormatter, "allow_abbrev": False}
+
+
 def read_words(words: Optional[Sequence[str]]) -> argparse.Namespace:
     """The command and its options. Wrong words end the program with status 2, and --help with 0."""
-    parser = argparse.ArgumentParser(
-        prog="maildir",
-        description=_ABOUT,
-        epilog=_STATUSES,
-        formatter_class=argparse.RawDescriptionHelpFormatter,
-        allow_abbrev=False,
-    )
+    parser = argparse.ArgumentParser(prog="maildir", description=_ABOUT, epilog=_STATUSES, **_HOW)
     commands = parser.add_subparsers(dest="command", required=True, metavar="COMMAND")
     _add_import(commands)
     _add_export(commands)
@@ -87,61 +85,26 @@ def read_words(words: Optional[Sequence[str]]) -> argparse.Namespace:
 
 
 def _add_import(commands: argparse._SubParsersAction[argparse.ArgumentParser]) -> None:
-    parser = _add_command(
-        commands, "import", "a tree as scripts", _ABOUT_IMPORT, _EXAMPLES_OF_IMPORT
-    )
+    epilog = f"{_EXAMPLES_OF_IMPORT}\n{_STATUSES}"
+    parser = commands.add_parser("import", help="a tree as scripts", description=_ABOUT_IMPORT, epilog=epilog, **_HOW)
     output = parser.add_mutually_exclusive_group()
-    output.add_argument(
-        "-o",
-        dest="file",
-        metavar="FILE",
-        help="write one script to FILE, and replace it only when all is written",
-    )
+    replaced = "write one script to FILE, and replace it only when all is written"
+    output.add_argument("-o", dest="file", metavar="FILE", help=replaced)
     output.add_argument("--into", metavar="DIR", help="write as many scripts as it takes into DIR")
-    parser.add_argument(
-        "--headers",
-        action="store_true",
-        help="write of each body only what comes up to its first empty line, and that line",
-    )
+    header = "write of each body only what comes up to its first empty line, and that line"
+    parser.add_argument("--headers", action="store_true", help=header)
     _add_dry_run(parser)
-    parser.add_argument(
-        "tree",
-        metavar="TREE",
-        help="the tree; without -o and --into the script goes to standard output",
-    )
+    parser.add_argument("tree", metavar="TREE", help="the tree; without -o and --into the script goes to standard output")
 
 
 def _add_export(commands: argparse._SubParsersAction[argparse.ArgumentParser]) -> None:
-    parser = _add_command(
-        commands, "export", "scripts as a tree", _ABOUT_EXPORT, _EXAMPLES_OF_EXPORT
-    )
+    epilog = f"{_EXAMPLES_OF_EXPORT}\n{_STATUSES}"
+    parser = commands.add_parser("export", help="scripts as a tree", description=_ABOUT_EXPORT, epilog=epilog, **_HOW)
     _add_dry_run(parser)
-    parser.add_argument(
-        "scripts", metavar="SCRIPT", nargs="+", help="a script, or - for standard input"
-    )
+    parser.add_argument("scripts", metavar="SCRIPT", nargs="+", help="a script, or - for standard input")
     parser.add_argument("tree", metavar="TREE", help="the tree")
 
 
-def _add_command(
-    commands: argparse._SubParsersAction[argparse.ArgumentParser],
-    name: str,
-    summary: str,
-    about: str,
-    examples: str,
-) -> argparse.ArgumentParser:
-    return commands.add_parser(
-        name,
-        help=summary,
-        description=about,
-        epilog=examples + "\n" + _STATUSES,
-        formatter_class=argparse.RawDescriptionHelpFormatter,
-        allow_abbrev=False,
-    )
-
-
 def _add_dry_run(parser: argparse.ArgumentParser) -> None:
-    parser.add_argument(
-        "--dry-run",
-        action="store_true",
-        help="say on standard output what would be written, and write nothing",
-    )
+    told = "say on standard output what would be written, and write nothing"
+    parser.add_argument("--dry-run", action="store_true", help=told)

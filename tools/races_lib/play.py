@@ -8,7 +8,7 @@ from dataclasses import dataclass, field
 from pathlib import Path
 
 from .refused import Refused
-from .scene import Actor, Scene, shown
+from .scene import Scene, shown
 
 # What a script only prints, and the halves of its listings.
 PASSED_OVER = (b"list ", b"read ", b"unique ", b"summary")

@@ -2,7 +2,6 @@
 
 from __future__ import annotations
 
-import base64
 import json
 import shutil
 import socket
@@ -89,15 +88,6 @@ class Browser:
     def size(self, width: int, height: int) -> None:
         """Gives the page this size, in pixels."""
         self.command("Emulation.setDeviceMetricsOverride", width=width, height=height, deviceScaleFactor=1, mobile=width < 600)
-
-    def scheme(self, name: str) -> None:
-        """Prefers light or dark."""
-        self.command("Emulation.setEmulatedMedia", features=[{"name": "prefers-color-scheme", "value": name}])
-
-    def picture(self, file: Path) -> None:
-        """Writes what the page looks like, whole."""
-        shot = self.command("Page.captureScreenshot", captureBeyondViewport=True)
-        file.write_bytes(base64.b64decode(shot["data"]))
 
     def close(self) -> None:
         """Ends the session and the driver."""

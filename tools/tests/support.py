@@ -6,6 +6,7 @@ import contextlib
 import errno
 import io
 import os
+import shutil
 import signal
 import subprocess
 import sys
@@ -106,6 +107,13 @@ class TreeTest(unittest.TestCase):
         run = self.call("import", *options, "--into", directory, self.tree, limits=limits)
         return run, [read(os.path.join(directory, name)) for name in sorted(os.listdir(directory))]
 
+    def through_script(self) -> bytes:
+        """Imports the tree into one script, and exports that: the tree that comes of it."""
+        script, back = self.path(b"script"), self.path(b"back")
+        self.assertEqual(self.call("import", "-o", script, self.tree).status, 0)
+        self.assertEqual(self.call("export", script, back).status, 0)
+        return back
+
 
 def read(path: bytes) -> bytes:
     """The bytes of a file."""
@@ -158,6 +166,17 @@ def in_child(task: Callable[[], Run]) -> Run:
     return Run(os.waitstatus_to_exitcode(os.waitpid(child, 0)[1]), b"", printed)
 
 
+def read_terminal(ours: int) -> bytes:
+    """What a program shows on a terminal, up to its end."""
+    shown = b""
+    # A terminal that nobody has open fails, and has no end.
+    with contextlib.suppress(OSError):
+        while piece := os.read(ours, 4096):
+            shown += piece
+    os.close(ours)
+    return shown
+
+
 def become_nobody() -> None:
     """Gives up the rights of root, who may read everything."""
     if os.geteuid() == 0:
@@ -167,10 +186,7 @@ def become_nobody() -> None:
 
 
 # The calls by which the tool reads and changes directories and files.
-CALLS = (
-    "open read write close dup fsync fstat stat utime link rename unlink mkdir rmdir listdir"
-    " scandir"
-).split()
+CALLS = "open read write close dup fsync fstat stat utime link rename unlink mkdir rmdir listdir scandir".split()
 
 
 class _WatchedFile:
@@ -225,8 +241,7 @@ def before_call(number: int, act: Callable[[str], None]) -> Iterator[list[str]]:
         stack.enter_context(mock.patch.object(command, "read_words", words_read))
         stack.enter_context(mock.patch("maildir_lib.drafts.open", opened, create=True))
         for name in CALLS:
-            patch = mock.patch.object(os, name, watched(name, getattr(os, name)))
-            stack.enter_context(patch)
+            stack.enter_context(mock.patch.object(os, name, watched(name, getattr(os, name))))
         yield made
 
 
@@ -236,13 +251,20 @@ def fail(name: str) -> None:
 
 
 class EachMoment:
-    """Tests of a run that is made anew with a fault or a signal before each of its calls. `run_again` makes it, and `check` asks for
-    what may be there then; `least_calls` is how many calls it makes at least."""
+    """Tests of a run that is made anew with a fault or a signal before each of its calls. `words` and `limits` are those of the run, and
+    `made` is the directory that it makes; `check` asks for what may be there then; `least_calls` is how many calls it makes at least."""
 
     least_calls: int
+    limits = Limits()
+    words: tuple[bytes | str, ...]
+    made: bytes
 
-    def run_again(self, number: int, act: Callable[[str], None]) -> tuple[Run, list[str]]:
-        raise NotImplementedError
+    def run_again(self: Any, number: int, act: Callable[[str], None]) -> tuple[Run, list[str]]:
+        """Runs it anew, and acts before a call. The run, and the calls that it made."""
+        shutil.rmtree(self.made, ignore_errors=True)
+        with before_call(number, act) as calls:
+            run = self.call(*self.words, limits=self.limits)
+        return run, calls
 
     def check(self, run: Run, at: object, may_leave_one: bool) -> None:
         raise NotImplementedError

@@ -36,11 +36,11 @@ SMALL_LINES = [
 
 
 class RoundTrips(TreeTest):
-    def come_back(self, limits: Limits = Limits()) -> list[bytes]:
+    def come_back(self, limits: Limits = Limits(), name: bytes = b"back") -> list[bytes]:
         """Imports and exports the tree, and checks that it came back. Its scripts."""
         run, scripts = self.import_into(limits)
         self.assertEqual(run.status, 0, run.err)
-        back = self.path(b"back")
+        back = self.path(name)
         words = [self.write(b"%d" % at, text) for at, text in enumerate(scripts)]
         run = self.call("export", *words, back)
         self.assertEqual(run.status, 0, run.err)
@@ -120,13 +120,7 @@ class RoundTrips(TreeTest):
             with self.subTest(seed=seed):
                 self.tree = self.path(b"tree%d" % seed)
                 RandomTree(self, random.Random(seed)).make()
-                run, scripts = self.import_into(Limits(40_000, 3))
-                self.assertEqual(run.status, 0, run.err)
-                back = self.path(b"back%d" % seed)
-                words = [self.write(b"%d" % at, text) for at, text in enumerate(scripts)]
-                self.assertEqual(self.call("export", *words, back).status, 0)
-                self.assertEqual(files_of(back), files_of(self.tree))
-                self.assertEqual(maildirs_of(back), maildirs_of(self.tree))
+                self.come_back(Limits(40_000, 3), b"back%d" % seed)
 
     def test_import_of_an_export_is_the_same_script(self) -> None:
         self.make_small()
@@ -158,10 +152,8 @@ class RoundTrips(TreeTest):
             self.put(b".Sent/cur/sent" + name, name)
         self.come_back()
         run, _ = self.import_into()
-        self.assertIn(
-            "\nmaildir: passed over 11 in none of tmp, new and cur: 2 dovecot-uidlist, 1 .mbsync",
-            run.err,
-        )
+        said = "\nmaildir: passed over 11 in none of tmp, new and cur: 2 dovecot-uidlist, 1 .mbsync"
+        self.assertIn(said, run.err)
 
 
 class RandomTree:
@@ -221,12 +213,7 @@ class ReadByPython(TreeTest):
         self.put(b"new/1000.M1P1Q1.a", b"Subject: new\n\nbody\n", 1000)
         self.put(b"cur/1001.M1P1Q1.a,S=9:2,FRS", b"Subject: seen\r\n\r\nbody\r\n", 1001)
         self.put(b".Sent/cur/1002.M1P1Q1.a:2,S", b"Subject: \xff\n\n\0", 1002)
-        script = self.path(b"script")
-        self.assertEqual(self.call("import", "-o", script, self.tree).status, 0)
-        back = self.path(b"back")
-        self.assertEqual(self.call("export", script, back).status, 0)
-
-        box = mailbox.Maildir(os.fsdecode(back), factory=None, create=False)
+        box = mailbox.Maildir(os.fsdecode(self.through_script()), factory=None, create=False)
         self.assertEqual(sorted(box.list_folders()), ["Entw&APw-rfe", "Lists.qmail", "Sent"])
         self.assertEqual(sorted(box.keys()), ["1000.M1P1Q1.a", "1001.M1P1Q1.a,S=9"])
         seen = box["1001.M1P1Q1.a,S=9"]
@@ -248,10 +235,7 @@ class ReadByPython(TreeTest):
             message.set_flags("".join(chance.sample("DFPRST", chance.randrange(4))))
             message.set_date(chance.randrange(2_000_000_000))
             chance.choice((box, box.get_folder("Sent"), box.get_folder("A.B"))).add(message)
-        script, back = self.path(b"script"), self.path(b"back")
-        self.assertEqual(self.call("import", "-o", script, self.tree).status, 0)
-        self.assertEqual(self.call("export", script, back).status, 0)
-        other = mailbox.Maildir(os.fsdecode(back), factory=None, create=False)
+        other = mailbox.Maildir(os.fsdecode(self.through_script()), factory=None, create=False)
         self.assertEqual(contents(other), contents(box))
         for name in ("Sent", "A.B"):
             self.assertEqual(contents(other.get_folder(name)), contents(box.get_folder(name)))

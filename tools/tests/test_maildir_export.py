@@ -11,23 +11,10 @@ import stat
 import subprocess
 import sys
 import unittest
-from typing import Callable
 from unittest import mock
 
-from support import (
-    TOOL,
-    EachMoment,
-    Limits,
-    Run,
-    TreeTest,
-    before_call,
-    become_nobody,
-    everything_in,
-    files_of,
-    in_child,
-    maildirs_of,
-    read,
-)
+from support import TOOL, EachMoment, Limits, Run, TreeTest
+from support import before_call, become_nobody, everything_in, files_of, in_child, maildirs_of, read
 
 from maildir_lib.language import BadEscape, escape, unescape
 
@@ -230,8 +217,7 @@ class Lines(TreeTest):
 
     def test_ctrl_c_while_a_pipe_is_silent(self) -> None:
         words = [sys.executable, TOOL, "export", "-", self.tree]
-        kinds = (signal.SIGINT, signal.SIGTERM, signal.SIGHUP)
-        for kind in kinds:
+        for kind in (signal.SIGINT, signal.SIGTERM, signal.SIGHUP):
             with subprocess.Popen(words, stdin=subprocess.PIPE, stderr=subprocess.PIPE) as process:
                 assert process.stdin is not None and process.stderr is not None
                 # The pipe is read once it has room again for more than it can hold.
@@ -258,9 +244,7 @@ def letter_by_letter(text: bytes) -> bytes | None:
 
 
 class Existing(TreeTest):
-    SCRIPT = (
-        b"folder INBOX\nfile INBOX new 1 5 one\nfile INBOX cur 2:2,S 6 two\nfile INBOX tmp 3 7 x\n"
-    )
+    SCRIPT = b"folder INBOX\nfile INBOX new 1 5 one\nfile INBOX cur 2:2,S 6 two\nfile INBOX tmp 3 7 x\n"
 
     def setUp(self) -> None:
         super().setUp()
@@ -392,13 +376,7 @@ class NothingHalfDone(EachMoment, TreeTest):
                 lines.append(b"file %b %b %b 77 %b" % (folder, place, name, body))
                 self.files[b"%b%b/%b" % (steps, place, name)] = body
         self.script = self.write(b"script", b"\n".join(lines))
-
-    def run_again(self, number: int, act: Callable[[str], None]) -> tuple[Run, list[str]]:
-        """Exports anew, and acts before a call. The run, and the calls that it made."""
-        shutil.rmtree(self.tree, ignore_errors=True)
-        with before_call(number, act) as made:
-            run = self.call("export", self.script, self.tree)
-        return run, made
+        self.words, self.made = ("export", self.script, self.tree), self.tree
 
     def check(self, run: Run, at: object, may_leave_one: bool) -> None:
         """Asks for whole files, and for a word on each that isn't there."""
@@ -443,14 +421,11 @@ class NothingHalfDone(EachMoment, TreeTest):
                 self.assertEqual(run.status, 1)
                 self.assertIn("maildir: stopped: No space left on device; ", run.err)
                 self.assertEqual(run.err.count("it can't be written"), 2)
-                found = files_of(self.tree)
-                for path, kept in found.items():
+                for path, kept in files_of(self.tree).items():
                     self.assertEqual(kept, (self.files[path], 77))
 
     def test_files_over_a_limit(self) -> None:
-        text = b"folder i\nfile i new 1 0 xx\nfile i new 2 0 %b\nfile i new 3 0 yy\n" % (
-            b"z" * 5000
-        )
+        text = b"folder i\nfile i new 1 0 xx\nfile i new 2 0 %b\nfile i new 3 0 yy\n" % (b"z" * 5000)
         script = self.write(b"script", text)
 
         def task() -> Run:

@@ -16,20 +16,8 @@ import unittest
 from typing import Callable
 from unittest import mock
 
-from support import (
-    TOOL,
-    EachMoment,
-    Limits,
-    Run,
-    TreeTest,
-    before_call,
-    become_nobody,
-    everything_in,
-    fail,
-    files_of,
-    in_child,
-    read,
-)
+from support import TOOL, EachMoment, Limits, Run, TreeTest
+from support import before_call, become_nobody, everything_in, fail, files_of, in_child, read, read_terminal
 
 from maildir_lib import message, tree
 from maildir_lib.report import Reason
@@ -81,22 +69,20 @@ class LeftOut(TreeTest):
         self.assertEqual(self.import_into()[0].status, 0)
 
     def test_what_is_no_file(self) -> None:
-        os.symlink("kept:2,S", os.path.join(self.tree, b"cur/link:2,S"))
-        self.check(b"cur/link:2,S", "it is a symbolic link")
-        os.unlink(os.path.join(self.tree, b"cur/link:2,S"))
-        os.mkdir(os.path.join(self.tree, b"new/directory"))
-        self.check(b"new/directory", "it is a directory")
-        os.rmdir(os.path.join(self.tree, b"new/directory"))
-        os.mkfifo(os.path.join(self.tree, b"new/fifo"))
-        self.check(b"new/fifo", "it is a fifo, a socket or a device")
-        os.unlink(os.path.join(self.tree, b"new/fifo"))
-        os.mknod(os.path.join(self.tree, b"tmp/socket"), stat.S_IFSOCK | 0o600)
-        self.check(b"tmp/socket", "it is a fifo, a socket or a device")
+        for name, make, reason in (
+            (b"cur/link:2,S", lambda path: os.symlink("kept:2,S", path), "it is a symbolic link"),
+            (b"new/directory", os.mkdir, "it is a directory"),
+            (b"new/fifo", os.mkfifo, "it is a fifo, a socket or a device"),
+            (b"tmp/socket", lambda path: os.mknod(path, stat.S_IFSOCK | 0o600), "it is a fifo, a socket or a device"),
+            (b".linked", lambda path: os.symlink("cur", path), "it is a symbolic link"),
+        ):
+            with self.subTest(name=name):
+                path = os.path.join(self.tree, name)
+                make(path)
+                self.check(name, reason)
+                os.rename(path, self.path(os.path.basename(name)))
 
     def test_folders(self) -> None:
-        os.symlink("cur", os.path.join(self.tree, b".linked"))
-        self.check(b".linked", "it is a symbolic link")
-        os.unlink(os.path.join(self.tree, b".linked"))
         for steps, reason in (
             ((b"." + b"x" * 101,), "its folder's name is over 100 bytes in a script"),
             ((b". " + b" " * 33,), "its folder's name is over 100 bytes in a script"),
@@ -175,16 +161,13 @@ class ChangesMeanwhile(TreeTest):
         self.assertIn("it was moved or removed meanwhile", run.err)
 
     def test_a_file_that_became_something_else(self) -> None:
-        def link(path: bytes) -> None:
-            os.symlink("1", path)
-
         def becomes(make: Callable[[bytes], None]) -> None:
             os.unlink(self.victim)
             make(self.victim)
 
         for make, says in (
             (os.mkfifo, "it can't be read: it is no file any more"),
-            (link, "it is a symbolic link"),
+            (lambda path: os.symlink("1", path), "it is a symbolic link"),
             (os.mkdir, "it can't be read: it is no file any more"),
         ):
             run = self.import_after(lambda: becomes(make))
@@ -511,9 +494,7 @@ class Outputs(TreeTest):
             done = subprocess.run([TOOL, "import", self.tree], stdout=full, stderr=subprocess.PIPE)
         self.assertEqual(done.returncode, 2)
         self.assertIn(b"standard output: can't be written: No space left on device", done.stderr)
-        closed = subprocess.run(
-            ["sh", "-c", '"$0" import "$1" >&-', TOOL, self.tree], stderr=subprocess.PIPE
-        )
+        closed = subprocess.run(["sh", "-c", '"$0" import "$1" >&-', TOOL, self.tree], stderr=subprocess.PIPE)
         self.assertEqual(closed.returncode, 2)
         self.assertIn(b"standard output: can't be written: Bad file", closed.stderr)
 
@@ -548,25 +529,22 @@ class NothingHalfDone(EachMoment, TreeTest):
         for at in range(12):
             self.put(b"cur/%d" % at, b"%d" % at * 400)
         self.put(b".Sent/cur/1", b"twice")
-        self.into = self.path(b"into")
-        run = self.call("import", "--into", self.into, self.tree, limits=self.limits)
-        self.assertEqual(run.status, 0)
-        self.whole = {name: read(self.path(b"into", name)) for name in os.listdir(self.into)}
+        self.made = self.path(b"into")
+        self.words = "import", "--into", self.made, self.tree
+        self.assertEqual(self.call(*self.words, limits=self.limits).status, 0)
+        self.whole = {name: read(self.path(b"into", name)) for name in os.listdir(self.made)}
         self.assertGreaterEqual(len(self.whole), 4)
 
-    def run_again(self, number: int, act: Callable[[str], None]) -> tuple[Run, list[str]]:
-        """Imports anew, and acts before a call. The run, and the calls that it made."""
-        shutil.rmtree(self.into, ignore_errors=True)
-        with before_call(number, act) as made:
-            run = self.call("import", "--into", self.into, self.tree, limits=self.limits)
-        return run, made
+    def names_made(self) -> tuple[set[bytes], set[bytes]]:
+        """The names of the scripts that are there, and those of drafts."""
+        names = set(os.listdir(self.made)) if os.path.isdir(self.made) else set()
+        drafts = {name for name in names if name.endswith(b".part")}
+        return names - drafts, drafts
 
     def check(self, run: Run, at: object, may_leave_one: bool) -> None:
         """Asks for all scripts where the run says so, and for none elsewhere."""
-        names = set(os.listdir(self.into)) if os.path.isdir(self.into) else set()
-        drafts = {name for name in names if name.endswith(b".part")}
+        names, drafts = self.names_made()
         self.assertLessEqual(len(drafts), 1 if may_leave_one else 0, at)
-        names -= drafts
         if run.status == 0:
             self.assertEqual({name: read(self.path(b"into", name)) for name in names}, self.whole)
         elif run.status == 1:
@@ -601,14 +579,12 @@ class NothingHalfDone(EachMoment, TreeTest):
 
     def check_ended(self, run: Run, at: object) -> None:
         self.assertIn(run.status, (0, 130), at)
-        names = set(os.listdir(self.into)) if os.path.isdir(self.into) else set()
-        scripts = {name for name in names if not name.endswith(b".part")}
-        self.assertIn(scripts, (set(), set(self.whole)), at)
+        self.assertIn(self.names_made()[0], (set(), set(self.whole)), at)
 
     def test_a_full_disk(self) -> None:
         size = max(map(len, self.whole.values()))
         for limit in (0, 1, HEAD, 500, size - 1):
-            for words in (("--into", self.into), ("-o", self.path(b"script"))):
+            for words in (("--into", self.made), ("-o", self.path(b"script"))):
 
                 def task() -> Run:
                     resource.setrlimit(resource.RLIMIT_FSIZE, (limit, limit))
@@ -618,13 +594,13 @@ class NothingHalfDone(EachMoment, TreeTest):
                 if words[0] == "-o":
                     self.write(b"script", b"old")
                     os.rename(os.path.join(self.tree, b".Sent"), self.path(b"Sent"))
-                shutil.rmtree(self.into)
-                os.mkdir(self.into)
+                shutil.rmtree(self.made)
+                os.mkdir(self.made)
                 run = in_child(task)
                 with self.subTest(limit=limit, words=words):
                     self.assertEqual(run.status, 2)
                     self.assertIn("can't be written: File too large", run.err)
-                    self.assertEqual(os.listdir(self.into), [])
+                    self.assertEqual(os.listdir(self.made), [])
                 if words[0] == "-o":
                     self.assertEqual(read(self.path(b"script")), b"old")
                     os.rename(self.path(b"Sent"), os.path.join(self.tree, b".Sent"))
@@ -680,11 +656,8 @@ class ProgressLine(TreeTest):
         self.assertNotIn("\r", plain.err)
         shown = self.on_terminal("import", "-o", script, self.tree)
         self.assertIn(b"\rread 0 of 51 lines\x1b[K", shown)
-        self.assertTrue(
-            shown.endswith(
-                b"\r\x1b[Kmaildir: " + plain.err[9:].encode("ascii").replace(b"\n", b"\r\n")
-            )
-        )
+        said = plain.err.removeprefix("maildir: ").encode("ascii").replace(b"\n", b"\r\n")
+        self.assertTrue(shown.endswith(b"\r\x1b[Kmaildir: " + said))
         shown = self.on_terminal("export", script, self.path(b"back"))
         self.assertIn(b"\rwrote 1 of 51 lines\x1b[K", shown)
 
@@ -693,14 +666,7 @@ class ProgressLine(TreeTest):
         ours, theirs = pty.openpty()
         with subprocess.Popen([sys.executable, TOOL, *words], stderr=theirs) as process:
             os.close(theirs)
-            shown = b""
-            while True:
-                try:
-                    piece = os.read(ours, 1000)
-                except OSError:
-                    break
-                shown += piece
-        os.close(ours)
+            shown = read_terminal(ours)
         self.assertEqual(process.returncode, 0)
         return shown
 

@@ -14,15 +14,13 @@ import subprocess
 import unittest
 from unittest import mock
 
-from support import NOBODY, Limits, TreeTest, maildirs_of
+from support import NOBODY, Limits, TreeTest, maildirs_of, read, read_terminal
 
 from maildir_lib.folder_names import folder_name
 from test_maildir_export import REFUSED
 
 CLI = os.environ.get("MAILDIR_CLI")
-MESSAGE = (
-    b"From: a@example.org\nSubject: number %d\nDate: Fri, 21 Nov 1997 09:55:06 -0600\n\nline\n"
-)
+MESSAGE = b"From: a@example.org\nSubject: number %d\nDate: Fri, 21 Nov 1997 09:55:06 -0600\n\nline\n"
 
 
 def listing(maildir: bytes) -> list[bytes]:
@@ -158,20 +156,14 @@ def random_script(chance: random.Random) -> bytes:
 
     lines = [b"folder i", b"folder j"]
     for _ in range(chance.randrange(6)):
-        name = one_of(
-            b"u", b"v", b"w:2,S", b"u:2,S", b".x", b":2,S", b"n" * 201, b"a/b", b"\xff", b"t"
-        )
+        name = one_of(b"u", b"v", b"w:2,S", b"u:2,S", b".x", b":2,S", b"n" * 201, b"a/b", b"\xff", b"t")
         folder, place = one_of(b"i", b"j", b"i", b"j", b"k"), one_of(b"new", b"cur", b"tmp")
         stamp = one_of(b"0", b"5", b"007", b"9", b"1", b"x")
         body = one_of(b"", b" ", b" x", b" \\n", b" a\\\\n", b" \r", b" \\x", b" # \t")
         lines.append(b" ".join((b"file", folder, place, name, stamp)) + body)
         if chance.random() < 0.15:
-            lines.append(
-                one_of(b"", b"#", b"\r", b" ", b"list i", b"folder i", b"folder l", b"x y")
-            )
-    return b"".join(line + one_of(b"\n", b"\n", b"\r\n") for line in lines) + one_of(
-        b"", b"#", b"\r\n"
-    )
+            lines.append(one_of(b"", b"#", b"\r", b" ", b"list i", b"folder i", b"folder l", b"x y"))
+    return b"".join(line + one_of(b"\n", b"\n", b"\r\n") for line in lines) + one_of(b"", b"#", b"\r\n")
 
 
 class Readers(TreeTest):
@@ -188,22 +180,12 @@ class Readers(TreeTest):
         sent = MESSAGE % 901
         self.put(b".Sent/cur/901.M1P1Q1.a,S=%d:2,RS" % len(sent), sent, 1_000_000_000)
         self.put(b".Lists.My Mail/new/902.M1P1Q1.a", MESSAGE % 902, 1_100_000_000)
-        self.back = self.path(b"back")
-
-    def export(self) -> None:
-        script = self.path(b"script")
-        self.assertIn(self.call("import", "-o", script, self.tree).status, (0,))
-        self.assertEqual(self.call("export", script, self.back).status, 0)
 
     @unittest.skipUnless(shutil.which("mutt"), "mutt is not installed")
     def test_mutt(self) -> None:
-        self.export()
-        for folder, numbers in (
-            (b"", (*range(12), 900)),
-            (b".Sent", [901]),
-            (b".Lists.My Mail", [902]),
-        ):
-            found = self.piped_by_mutt(os.path.join(self.back, folder))
+        back = self.through_script()
+        for folder, numbers in ((b"", (*range(12), 900)), (b".Sent", [901]), (b".Lists.My Mail", [902])):
+            found = self.piped_by_mutt(os.path.join(back, folder))
             self.assertEqual(found, sorted(MESSAGE % number for number in numbers))
 
     def piped_by_mutt(self, maildir: bytes) -> list[bytes]:
@@ -217,35 +199,24 @@ class Readers(TreeTest):
         if child == 0:
             os.environ.update(TERM="vt100", HOME=os.fsdecode(self.scratch))
             os.execvp("mutt", [*words, "-e", push])
-        self.read_all(terminal)
+        read_terminal(terminal)
         self.assertEqual(os.waitstatus_to_exitcode(os.waitpid(child, 0)[1]), 0)
-        with open(out, "rb") as file:
-            piped = file.read()
+        piped = read(os.fsencode(out))
         os.unlink(out)
         first = MESSAGE.split(b"\n")[0]
         return sorted(first + message for message in piped.split(first)[1:])
-
-    def read_all(self, terminal: int) -> None:
-        """Reads what a program shows, up to its end."""
-        try:
-            while os.read(terminal, 4096):
-                pass
-        except OSError:
-            pass
-        os.close(terminal)
 
     @unittest.skipUnless(shutil.which("doveadm"), "doveadm is not installed")
     def test_doveadm(self) -> None:
         self.told_by_doveadm(self.tree)
         self.assertIn(b"dovecot-uidlist", os.listdir(self.tree))
-        self.export()
-        self.assertEqual(self.told_by_doveadm(self.back), self.told_by_doveadm(self.tree))
+        self.assertEqual(self.told_by_doveadm(self.through_script()), self.told_by_doveadm(self.tree))
 
     def told_by_doveadm(self, tree: bytes) -> list[str]:
         """A line for each message: its folder, unique name, size, flags, time and bytes."""
-        owner = NOBODY if os.geteuid() == 0 else os.geteuid()
-        group = NOBODY if os.geteuid() == 0 else os.getegid()
-        if os.geteuid() == 0:
+        owner, group = os.geteuid(), os.getegid()
+        if owner == 0:
+            owner = group = NOBODY
             subprocess.run(["chown", "-R", f"{owner}:{group}", tree], check=True)
             os.chmod(self.scratch, 0o777)
         settings = f"""

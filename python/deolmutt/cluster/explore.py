@@ -87,10 +87,9 @@ def explore(
 
 def _run(asked: _Asked, prefix: str) -> Tuple[Dict[str, Any], bytes]:
     """A worker's part: a run, what the judge finds in it, and its log where that is anything."""
-    refused = module_of_clone(asked.clone, "tools", "judge_lib.refused")
-    exploring = module_of_clone(asked.clone, "tools", "judge_lib.exploring")
-    schedules = module_of_clone(asked.clone, "tools", "judge_lib.schedules")
-    trace_command = module_of_clone(asked.clone, "tools", "judge_lib.trace_command")
+    names = ("refused", "exploring", "schedules", "trace_command")
+    parts = (module_of_clone(asked.clone, "tools", f"judge_lib.{name}") for name in names)
+    refused, exploring, schedules, trace_command = parts
     try:
         claims = trace_command.read_claims(asked.claims)
         pairing = exploring.Pairing(asked.setup, asked.commands, claims, asked.folders)

@@ -5,7 +5,7 @@ from __future__ import annotations
 import io
 import os
 import re
-from typing import Any, BinaryIO, Callable, Dict, Iterable, Iterator, List, NamedTuple, Optional, Sequence, Tuple, Union
+from typing import Any, BinaryIO, Callable, Dict, Iterable, Iterator, List, NamedTuple, Optional, Sequence, Tuple, TypeVar, Union
 
 import dask.bag
 from dask.delayed import delayed
@@ -61,6 +61,7 @@ _TYPES = [(field, "Int64" if field == "seconds" else "object") for field in Row.
 _KEYS = ("subject", "from", "message-id", "date", "seconds")
 
 
+_Item = TypeVar("_Item")
 # Lines that go to the library together: where each run of them begins and ends.
 _Runs = List[Tuple[int, int]]
 
@@ -133,7 +134,7 @@ def _plan(source: Union[str, bytes], most: int) -> _Plan:
     folders, messages = _plain_store(source) or _checked_store(source)
     messages.sort()
     spans = ((begin, end) for _, _, begin, end in messages)
-    return _Plan(_lines_of(folders), list(_parted(_together(spans, most), most)))
+    return _Plan(_lines_of(folders), list(_parted(_together(spans, most), _bytes_of, most)))
 
 
 def _lines_of(folders: Iterable[bytes]) -> bytes:
@@ -157,9 +158,7 @@ def _plain_store(source: Union[str, bytes]) -> Optional[_Store]:
     return folders, messages
 
 
-def _take_plain(
-    begin: int, block: bytes, size: int, folders: Dict[bytes, int], messages: List[_Message]
-) -> bool:
+def _take_plain(begin: int, block: bytes, size: int, folders: Dict[bytes, int], messages: List[_Message]) -> bool:
     """Takes the lines in the first bytes of a block, and answers whether all are plain."""
     at = 0
     while at < size:
@@ -219,36 +218,35 @@ def _checked_store(source: Union[str, bytes]) -> _Store:
     return folders, messages
 
 
-def _together(spans: Iterable[Tuple[int, int]], most: int) -> Iterator[_Runs]:
-    """Lines that go to the library together. They come in the order of their source, which changes no index:
-    so the last line of the source, which may have no LF, is the last one."""
-    runs: _Runs = []
+def _parted(items: Iterable[_Item], size_of: Callable[[_Item], int], most: int) -> Iterator[List[_Item]]:
+    """Items in their order, parted where so many bytes have come."""
+    part: List[_Item] = []
     size = 0
-    for begin, end in spans:
-        if runs and runs[-1][1] == begin:
-            runs[-1] = runs[-1][0], end
-        else:
-            runs.append((begin, end))
-        size += end - begin
-        if size >= most or size >= _TOGETHER:
-            yield sorted(runs)
-            runs, size = [], 0
-    if runs:
-        yield sorted(runs)
-
-
-def _parted(together: Iterable[_Runs], most: int) -> Iterator[List[_Runs]]:
-    """What goes to the library together, parted where so many bytes have come."""
-    part: List[_Runs] = []
-    size = 0
-    for runs in together:
-        part.append(runs)
-        size += sum(end - begin for begin, end in runs)
+    for item in items:
+        part.append(item)
+        size += size_of(item)
         if size >= most:
             yield part
             part, size = [], 0
     if part:
         yield part
+
+
+def _together(spans: Iterable[Tuple[int, int]], most: int) -> Iterator[_Runs]:
+    """Lines that go to the library together. They come in the order of their source, which changes no index:
+    so the last line of the source, which may have no LF, is the last one."""
+    for part in _parted(spans, lambda span: span[1] - span[0], min(most, _TOGETHER)):
+        runs: _Runs = []
+        for begin, end in part:
+            if runs and runs[-1][1] == begin:
+                runs[-1] = runs[-1][0], end
+            else:
+                runs.append((begin, end))
+        yield sorted(runs)
+
+
+def _bytes_of(runs: _Runs) -> int:
+    return sum(end - begin for begin, end in runs)
 
 
 def _rows_of_lines(source: Union[str, bytes], folders: bytes, part: List[_Runs]) -> List[Row]:
@@ -304,15 +302,9 @@ def _parts_of_tree(tree: str, most: int) -> Iterator[Any]:
     path = os.path.abspath(tree)
     for trail in [TOP, *_disk.find_folders(path)]:
         directory = _disk.directory_of(path, trail)
-        part, size = [], 0
-        for file in sorted(_files(directory), key=lambda it: (encoded(it.unique), it.place != "new")):
-            part.append((file.place, file.name))
-            size += file.size
-            if size >= most:
-                yield delayed(_rows_of_files)(directory, part)
-                part, size = [], 0
-        if part:
-            yield delayed(_rows_of_files)(directory, part)
+        files = sorted(_files(directory), key=lambda it: (encoded(it.unique), it.place != "new"))
+        for part in _parted(files, lambda file: file.size, most):
+            yield delayed(_rows_of_files)(directory, [(file.place, file.name) for file in part])
 
 
 def _files(directory: str) -> Iterator[_File]:

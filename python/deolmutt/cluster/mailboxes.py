@@ -79,9 +79,7 @@ class Mailboxes(Closing):
 
     # A call to its answer.
 
-    def deliver(
-        self, user: User, body: bytes, unique: Optional[str] = None, folder: Optional[str] = None
-    ) -> str:
+    def deliver(self, user: User, body: bytes, unique: Optional[str] = None, folder: Optional[str] = None) -> str:
         """Delivers a message to new of a user's folder, and answers its unique name, a fresh one if none
         is given. Refused: as by `World.deliver`."""
         name = fresh_unique() if unique is None else unique
@@ -92,14 +90,7 @@ class Mailboxes(Closing):
         """Takes a message from new to cur, its flags joined by these, and answers its flags."""
         return self.call(user, Seen(self._number(folder), unique, flags)).flags
 
-    def flag(
-        self,
-        user: User,
-        unique: str,
-        add: str = "",
-        remove: str = "",
-        folder: Optional[str] = None,
-    ) -> str:
+    def flag(self, user: User, unique: str, add: str = "", remove: str = "", folder: Optional[str] = None) -> str:
         """Adds and removes flags of a message in cur, and answers its flags."""
         return self.call(user, Flag(self._number(folder), unique, add, remove)).flags
 

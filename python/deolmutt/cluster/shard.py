@@ -166,9 +166,7 @@ class Shard:
     def __init__(self, width: int, folder: str = "", parts: Iterable[Part] = ()) -> None:
         self._width = width
         self._born = uuid.uuid4().hex
-        self._stores = [
-            _Store(width, read_part(folder, part), map(bytes.fromhex, part.users)) for part in parts
-        ]
+        self._stores = [_Store(width, read_part(folder, part), map(bytes.fromhex, part.users)) for part in parts]
         self._homes = {user: store for store in self._stores for user in store.users}
 
     def born(self) -> str:
@@ -232,10 +230,7 @@ class Shard:
     def snapshot(self, shard: int, folder: str) -> ShardPart:
         """Writes the shard's stores into a folder, as they are now."""
         moment, name = int(time.time()), f"{PREFIX}{shard}-{uuid.uuid4().hex}"
-        parts = [
-            self._written(store, folder, f"{name}-{at}.lines")
-            for at, store in enumerate(self._stores)
-        ]
+        parts = [self._written(store, folder, f"{name}-{at}.lines") for at, store in enumerate(self._stores)]
         return ShardPart(shard, moment, parts)
 
     @staticmethod

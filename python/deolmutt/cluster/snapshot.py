@@ -11,6 +11,7 @@ import json
 import os
 from typing import Any, Dict, Iterable, List, NamedTuple, Tuple
 
+from .._running import flush_directory
 from .errors import BadSnapshot, MissingShard, NoSnapshot, OtherVersion, WrongChecksum
 
 VERSION = 1
@@ -124,7 +125,7 @@ def write_durably(folder: str, name: str, lines: Iterable[bytes]) -> Tuple[int, 
         out.flush()
         os.fsync(out.fileno())
     os.replace(fresh, path)
-    _flush_names(folder)
+    flush_directory(folder)
     return size, digest.hexdigest()
 
 
@@ -134,11 +135,3 @@ def remove_others(folder: str, manifest: Manifest) -> None:
     for name in os.listdir(folder):
         if name not in kept and name.startswith(PREFIX):
             os.unlink(os.path.join(folder, name))
-
-
-def _flush_names(folder: str) -> None:
-    descriptor = os.open(folder, os.O_RDONLY | os.O_DIRECTORY)
-    try:
-        os.fsync(descriptor)
-    finally:
-        os.close(descriptor)

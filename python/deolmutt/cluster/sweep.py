@@ -83,7 +83,5 @@ def _kept(folder: str, name: str, difference: Optional[Tuple[bytes, Came, Came]]
 
 
 def _finding(folder: str, said: Any) -> Finding:
-    ours, plain = (
-        (status, bytes.fromhex(out), bytes.fromhex(err)) for status, out, err in said["differ"]
-    )
+    ours, plain = ((status, bytes.fromhex(out), bytes.fromhex(err)) for status, out, err in said["differ"])
     return Finding(said["seed"], os.path.join(folder, said["script"]), ours, plain)
