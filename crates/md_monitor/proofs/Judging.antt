@@ -1,4 +1,4 @@
--- The monitor finds what the law has, of the clauses that go by files and paths.
+-- The monitor finds what the law has, and what each program owes the others.
 use Rattle.std.proofs.Common.{ℕ, ◌≡◌, List, Option, refl, sym, subst}
 use Rattle.std.specs.Bool.{Decides}
 use Rattle.std.proofs.lemmas.Bool.Decides.{Decides-and, Decides-not, Decides-like}
@@ -10,14 +10,20 @@ use Rattle.md_log.specs.declared.line.Call.TheVariants as call
 use Rattle.md_log.specs.declared.line.Reply.{Reply}
 use Rattle.md_log.specs.declared.line.Reply.TheVariants as reply
 use Rattle.md_log.specs.declared.line.Step.{Step}
-use Rattle.md_law.specs.History.{History, next, at, now}
+use Rattle.md_law.specs.History.{History, next, at, now, IsBy, IsCall}
 use Rattle.md_law.specs.Clauses.{reply_by, IsWrongReply, IsWrongCall, NotADirectory}
 use Rattle.md_law.specs.Law.{Breaks}
-use Rattle.md_monitor.specs.Judged.{kept_of, is_reply, is_wrong_reply, is_wrong_ask, breaks_by_paths, GoesByPaths}
+use Rattle.md_monitor.specs.Judged.{kept_of, is_reply, is_wrong_reply, is_wrong_call, finds}
+use Rattle.md_monitor.specs.Readings.{readings_kept}
+use Rattle.md_monitor.specs.Finds.{OwedClause, two_names, mixed, named_by_another, cleaned_early, rewritten, moved_back, in_two_folders, used_again, made_again, written_late, BreaksOwed, finds_owed}
 use Rattle.md_monitor.proofs.Tests.{fault-is}
 use Rattle.md_monitor.proofs.Stepping.{is-call, is-by}
 use Rattle.md_monitor.proofs.Finding as files
+use Rattle.md_monitor.proofs.Owing as owing
 use Rattle.md_monitor.proofs.Noticing as messages
+use Rattle.md_monitor.proofs.Answering as answers
+use Rattle.md_monitor.proofs.Reading.{wrong_reading}
+use Rattle.md_monitor.proofs.Listing.{unlisted}
 
 reply-is : (r q : Reply) → Decides (is_reply r q) (r ≡ q)
 reply-is reply.Ok reply.Ok = (λ t. refl, λ e. refl)
@@ -34,32 +40,46 @@ module _ (past : History) (x : Step) where
   abbrev h : History
   h = next past x
 
-  wrong-ask : (c : Call) (actor : List ℕ) → GoesByPaths c clause.NotADirectory
-      → Decides (is_wrong_ask (at past) (now h) c) (IsWrongCall h actor c)
-  wrong-ask (call.At d p r) actor on = wrong-is r _
-  wrong-ask (call.Between n old new r) actor on = wrong-is r _
-  wrong-ask (call.List folder place r shown) actor on = absurd on
-  wrong-ask (call.Answer said folder unique) actor on = (λ t. absurd (cc), λ wrong. absurd wrong)
+  wrong-call : (c : Call) (actor : List ℕ) → IsBy h actor → IsCall h c
+      → Decides (is_wrong_call (at past) (now h) (readings_kept past) actor c) (IsWrongCall h actor c)
+  wrong-call (call.At d p r) actor by is = wrong-is r _
+  wrong-call (call.Between n old new r) actor by is = wrong-is r _
+  wrong-call (call.List folder place r shown) actor by is =
+      wrong_reading past x (record { actor = actor; folder = folder; place = place }) r shown (by, is)
+  wrong-call (call.Answer said folder unique) actor by is = (λ t. absurd (cc), λ wrong. absurd wrong)
 
-  not_a_directory : GoesByPaths x.call clause.NotADirectory → Decides (is_wrong_ask (at past) (now h) x.call) (NotADirectory h)
-  not_a_directory on = Decides-like _
+  not_a_directory : Decides (is_wrong_call (at past) (now h) (readings_kept past) x.actor x.call) (NotADirectory h)
+  not_a_directory = Decides-like _
       (λ wrong. (x.actor, x.call, (is-by past x x.actor).1 refl, (is-call past x x.call).1 refl, wrong))
       (λ (actor, c, by, is, wrong). subst (λ a. IsWrongCall h a x.call) (sym ((is-by past x actor).0 by))
       (subst (IsWrongCall h actor) (sym ((is-call past x c).0 is)) wrong))
-      (wrong-ask x.call x.actor on)
+      (wrong-call x.call x.actor ((is-by past x x.actor).1 refl) ((is-call past x x.call).1 refl))
 
   -- what is found is what the law has
-  pub breaks-is : (c : Clause) → GoesByPaths x.call c → Decides (breaks_by_paths (at past) (now h) (kept_of past) x c) (Breaks c h)
-  breaks-is clause.NotADirectory on = not_a_directory on
-  breaks-is clause.Overwritten on = files.overwritten past x
-  breaks-is clause.SeenBeforeWhole on = files.seen_before_whole past x
-  breaks-is clause.Mixed on = files.mixed past x
-  breaks-is clause.NotFlushed on = files.not_flushed past x
-  breaks-is clause.TwoNames on = messages.two_names past x
-  breaks-is clause.Gone on = messages.gone past x
-  breaks-is clause.UsedAgain on = messages.used_again past x
-  breaks-is clause.MovedBack on = files.moved_back past x
-  breaks-is clause.CleanedEarly on = files.cleaned_early past x
-  breaks-is clause.Unlisted on = absurd on
-  breaks-is clause.GaveUp on = absurd on
-  breaks-is clause.AnsweredFalsely on = absurd on
+  pub breaks-is : (c : Clause) → Decides (finds (at past) (now h) (kept_of past) x c) (Breaks c h)
+  breaks-is clause.NotADirectory = not_a_directory
+  breaks-is clause.Overwritten = files.overwritten past x
+  breaks-is clause.SeenBeforeWhole = files.seen_before_whole past x
+  breaks-is clause.Mixed = files.mixed past x
+  breaks-is clause.NotFlushed = files.not_flushed past x
+  breaks-is clause.TwoNames = messages.two_names past x
+  breaks-is clause.Gone = messages.gone past x
+  breaks-is clause.UsedAgain = messages.used_again past x
+  breaks-is clause.MovedBack = files.moved_back past x
+  breaks-is clause.CleanedEarly = files.cleaned_early past x
+  breaks-is clause.Unlisted = unlisted past x
+  breaks-is clause.GaveUp = answers.gave_up past x
+  breaks-is clause.AnsweredFalsely = answers.answered_falsely past x
+
+  -- what is found of what is owed is what is owed
+  pub owed-is : (c : OwedClause) → Decides (finds_owed (at past) (now h) (kept_of past) x c) (BreaksOwed c h)
+  owed-is two_names = messages.two_names past x
+  owed-is mixed = owing.mixed past x
+  owed-is named_by_another = owing.named_by_another past x
+  owed-is cleaned_early = files.cleaned_early past x
+  owed-is rewritten = owing.rewritten past x
+  owed-is moved_back = owing.moved_back past x
+  owed-is in_two_folders = messages.in_two_folders past x
+  owed-is used_again = messages.used_by_another past x
+  owed-is made_again = messages.made_again past x
+  owed-is written_late = owing.written_late past x

@@ -1,4 +1,5 @@
 pub mod Tests
+pub mod Moments
 pub mod Changing
 pub mod Seeing
 pub mod Stepping
@@ -12,5 +13,11 @@ pub mod Pairs
 pub mod Remembering
 pub mod Noticing
 pub mod Recounting
+pub mod Claiming
+pub mod Answering
+pub mod Parts
+pub mod Reading
+pub mod Wholes
+pub mod Listing
 pub mod Judging
 pub mod Touching

@@ -31,7 +31,7 @@ use Rattle.md_monitor.proofs.Once.{once-map, named-is}
 use Rattle.md_monitor.proofs.Remembering.{IsOfAny, IsAnywhere, of-is, of_any-is, there-is, messages-kept}
 
 -- the message is in the folder
-is-there : (m : History) (folder : ℕ) (unique : List ℕ) → Decides (is_there (at m) folder unique) (IsThere (at m) folder unique)
+pub is-there : (m : History) (folder : ℕ) (unique : List ℕ) → Decides (is_there (at m) folder unique) (IsThere (at m) folder unique)
 is-there m folder unique = Decides-like _ (there-is m folder unique).0 (there-is m folder unique).1
     (some-where _ (λ p n. IsOf p folder unique) (λ e. of-is folder unique e.0) (at m))
 

@@ -1,5 +1,5 @@
--- The monitor of the clauses that go by files and paths: what it keeps, and what it finds.
-use Rattle.std.specs.Prelude.{ℕ, Option, Bool, true, false, not, ◌&&◌}
+-- The monitor: what it keeps, and what it finds.
+use Rattle.std.specs.Prelude.{ℕ, List, Option, Bool, true, false, not, ◌&&◌}
 use Rattle.std.specs.Option.{option_map, option_or}
 use Rattle.md_dirs.specs.State.{State}
 use Rattle.md_dirs.specs.declared.calls.DirError.{DirError}
@@ -12,11 +12,16 @@ use Rattle.md_log.specs.declared.line.Reply.{Reply}
 use Rattle.md_log.specs.declared.line.Reply.TheVariants as reply
 use Rattle.md_log.specs.declared.line.Step.{Step}
 use Rattle.md_law.specs.History.{History, ask_at, ask_between}
+use Rattle.md_law.specs.Answers.{Claim}
+use Rattle.md_law.specs.Readings.{Looker}
 use Rattle.md_law.specs.Clauses.{reply_by}
 use Rattle.md_monitor.specs.Changes.{change_of}
 use Rattle.md_monitor.specs.Files.{FileKept, is_fault, written_by, flushed_by, made_by, files_kept, kept_after}
 use Rattle.md_monitor.specs.Messages.{MessagesKept, messages_kept, messages_after, breaks_two_names, breaks_gone, breaks_used_again}
 use Rattle.md_monitor.specs.Found.{breaks_by_files}
+use Rattle.md_monitor.specs.Answers.{ClaimKept, claims_kept, claim_after, breaks_gave_up, breaks_answered_falsely}
+use Rattle.md_monitor.specs.Readings.{ReadingKept, readings_kept, reading_after, is_wrong_reading}
+use Rattle.md_monitor.specs.Listings.{ListingKept, listings_kept, listing_after, breaks_unlisted}
 
 -- ---- what is kept
 
@@ -24,12 +29,28 @@ use Rattle.md_monitor.specs.Found.{breaks_by_files}
 pub record Kept : Type 0 where
   pub files : ℕ → FileKept
   pub messages : MessagesKept
+  pub claims : Claim → ClaimKept
+  pub readings : Looker → ReadingKept
+  pub listings : List ℕ → ℕ → ListingKept
 
 abbrev pub kept_of : History → Kept
-kept_of h = record { files = files_kept h; messages = messages_kept h }
+kept_of h = record {
+  files = files_kept h;
+  messages = messages_kept h;
+  claims = claims_kept h;
+  readings = readings_kept h;
+  listings = listings_kept h;
+}
 
-abbrev pub kept_next : State → Step → Kept → Kept
-kept_next s x kept = record { files = kept_after s x kept.files; messages = messages_after s x kept.messages }
+-- what it keeps after a step, by the directories before the step, the clock after it, and what was kept
+abbrev pub kept_next : State → ℕ → Step → Kept → Kept
+kept_next s now x kept = record {
+  files = kept_after s x kept.files;
+  messages = messages_after s x kept.messages;
+  claims = λ c. claim_after s now x c (kept.claims c);
+  readings = λ d. reading_after s now x d (kept.readings d);
+  listings = λ actor folder. listing_after x kept.readings actor folder (kept.listings actor folder);
+}
 
 -- the one file of which a call changes what is kept
 abbrev pub touched_by : State → Call → Option ℕ
@@ -51,25 +72,21 @@ is_reply r q = false
 abbrev pub is_wrong_reply : Reply → Option DirError → Bool
 is_wrong_reply r refusal = not (is_fault r) && not (is_reply r (reply_by refusal))
 
--- a call on paths is answered as the directories never answer it, at a clock
-abbrev pub is_wrong_ask : State → ℕ → Call → Bool
-is_wrong_ask s now (call.At d p r) = is_wrong_reply r ((ask_at d p now).refusal s)
-is_wrong_ask s now (call.Between n old new r) = is_wrong_reply r ((ask_between n old new).refusal s)
-is_wrong_ask s now c = false
+-- a call by an actor is answered as the directories never answer it, at a clock
+abbrev pub is_wrong_call : State → ℕ → (Looker → ReadingKept) → List ℕ → Call → Bool
+is_wrong_call s now readings actor (call.At d p r) = is_wrong_reply r ((ask_at d p now).refusal s)
+is_wrong_call s now readings actor (call.Between n old new r) = is_wrong_reply r ((ask_between n old new).refusal s)
+is_wrong_call s now readings actor (call.List folder place r shown) =
+    let d : Looker = record { actor = actor; folder = folder; place = place } in is_wrong_reading s d (readings d) r shown
+is_wrong_call s now readings actor (call.Answer said folder unique) = false
 
--- the step breaks the clause, by the directories before it, the clock after it, and what was kept: one that goes by files and paths. Of
--- NotADirectory this has calls on paths alone
-abbrev pub breaks_by_paths : State → ℕ → Kept → Step → Clause → Bool
-breaks_by_paths s now kept x clause.NotADirectory = is_wrong_ask s now x.call
-breaks_by_paths s now kept x clause.TwoNames = breaks_two_names s now kept.messages x
-breaks_by_paths s now kept x clause.Gone = breaks_gone s now kept.messages x
-breaks_by_paths s now kept x clause.UsedAgain = breaks_used_again s now kept.messages x
-breaks_by_paths s now kept x c = breaks_by_files s now kept.files x c
-
--- the clause goes by files and paths, at a call that reads no directory
-abbrev pub GoesByPaths : Call → Clause → Type 0
-GoesByPaths c clause.Unlisted = ⊥
-GoesByPaths c clause.GaveUp = ⊥
-GoesByPaths c clause.AnsweredFalsely = ⊥
-GoesByPaths (call.List folder place r shown) clause.NotADirectory = ⊥
-GoesByPaths c b = Unit {0}
+-- the step breaks the clause, by the directories before it, the clock after it, and what was kept
+abbrev pub finds : State → ℕ → Kept → Step → Clause → Bool
+finds s now kept x clause.NotADirectory = is_wrong_call s now kept.readings x.actor x.call
+finds s now kept x clause.TwoNames = breaks_two_names s now kept.messages x
+finds s now kept x clause.Gone = breaks_gone s now kept.messages x
+finds s now kept x clause.UsedAgain = breaks_used_again s now kept.messages x
+finds s now kept x clause.Unlisted = breaks_unlisted s kept.readings kept.listings x
+finds s now kept x clause.GaveUp = breaks_gave_up s kept.claims x
+finds s now kept x clause.AnsweredFalsely = breaks_answered_falsely s kept.claims x
+finds s now kept x c = breaks_by_files s now kept.files x c

@@ -2,5 +2,8 @@ pub mod Changes
 pub mod Files
 pub mod Found
 pub mod Messages
+pub mod Answers
+pub mod Readings
+pub mod Listings
 pub mod Judged
 pub mod Finds
