@@ -1,14 +1,12 @@
--- Deliveries beside one another, and beside other programs that do what they owe: at its effect the mailbox becomes what the call alone
--- makes of it, and at no other step of its own does the mailbox change.
-use Rattle.std.proofs.Common.{ℕ, zero, suc, ◌≡◌, ◌≢◌, ◌<◌, ◌≤◌, ◌+◌, inl, inr, List, [], ◌∷◌, Option, Some, None, MatchBool, Bool, true, false, cond, nat_eq, refl, sym, ap, subst, ◌∙◌, arith, length, take, slice_get}
+-- Deliveries and changes beside one another, and beside other programs that do what they owe: at its effect the mailbox becomes what the
+-- call alone makes of it, and at no other step of its own does the mailbox change.
+use Rattle.std.proofs.Common.{ℕ, zero, suc, ◌≡◌, ◌≢◌, ◌<◌, ◌≤◌, ◌+◌, ◌⊎◌, inl, inr, List, [], Option, Some, None, refl, sym, ap, subst, ◌∙◌, arith, length, take, slice_get}
 use Rattle.std.proofs.lemmas.Bool.{cases_lt}
-use Rattle.std.proofs.lemmas.Bool.Decides.{nat_tests}
 use Rattle.std.proofs.lemmas.List.{take_all}
 use Rattle.std.proofs.lemmas.Option.{slice_get_within}
 use Rattle.std.specs.FinMap.{get}
-use Rattle.std.specs.Option.{MatchOption, option_map_or, option_or}
 use Rattle.md_dirs.proofs.Sound.{by_number}
-use Rattle.md_dirs.specs.State.{State, IsSound}
+use Rattle.md_dirs.specs.State.{IsSound}
 use Rattle.md_dirs.specs.declared.rows.Row.{Row}
 use Rattle.md_jobs.specs.Turn.{After, rows_for}
 use Rattle.md_jobs.specs.Tasks.Delivery.{Delivery}
@@ -17,63 +15,43 @@ use Rattle.md_jobs.specs.declared.answer.Answer.{Answer}
 use Rattle.md_jobs.specs.declared.answer.Answer.TheVariants as answer
 use Rattle.md_jobs.specs.declared.call.Call.{Call}
 use Rattle.md_jobs.specs.declared.call.Call.TheVariants as call
-use Rattle.md_jobs.specs.declared.effect.Effect.{Effect}
 use Rattle.md_core.specs.Accepting.{MakesMessage}
-use Rattle.md_core.specs.Alone.{alone}
 use Rattle.md_core.specs.Interleaving.{IsDelivery, IsDeliveryOf, is_success}
 use Rattle.md_core.specs.Machine.{Standing, working, answered, turn_of, standing_of, new_job}
 use Rattle.md_core.specs.Mailbox.{Entry, HasOnePath, mailbox_of}
 use Rattle.md_core.specs.Stepping.{AsAlone}
 use Rattle.md_core.specs.Tasks.Task.{Task, Deliver}
 use Rattle.md_core.proofs.Directories.Frames.{makes-delivery}
-use Rattle.md_core.proofs.Induction.Good.{Does, TaskFits, DeliveryFits, Found, HasSize, Settles, own_effect}
+use Rattle.md_core.proofs.Induction.Good.{Does, TaskFits, DeliveryFits, Found, HasSize}
 use Rattle.md_core.proofs.Lists.Places.{at_place, get-take}
 use Rattle.md_core.proofs.Worlds.UniqueNames.{unique_name}
 use Rattle.md_log.specs.declared.clause.Clause.{Clause}
 use Rattle.md_log.specs.declared.clause.Clause.TheVariants as clause
 use Rattle.md_law.specs.Clauses.{CleanedEarly}
 use Rattle.md_law.specs.Law.{Breaks}
-use Rattle.md_beside.specs.Story.{Story, Step, Who, asked, ours, another, step_at, step_seen, actor_seen, after_did, state, state_after, box, history, standing, standing_from, standing_after, is_by, IsTurn}
-use Rattle.md_beside.specs.Beside.{IsStory, AreOurs, IsStepOf, IsAnswered, IsWholeOf, TakesEffect, Acts, AreApart, Owes}
-use Rattle.md_beside.specs.Delivery.{AreLawfulToDeliveries, AreSparing, AreDeliveries, KeepsPromise, DeliversBeside}
+use Rattle.md_beside.specs.Story.{Story, Step, Who, asked, ours, another, step_at, step_seen, actor_seen, state, state_after, box, history, standing, standing_from, standing_after, IsTurn}
+use Rattle.md_beside.specs.Beside.{IsStory, AreOurs, IsAnswered, IsWholeOf, AreApart, Owes}
+use Rattle.md_beside.specs.Changing.{IsChange, AreDeliveriesOrChanges, KeepsChange, BothBeside}
+use Rattle.md_beside.specs.Delivery.{AreLawfulToDeliveries, AreSparing, KeepsPromise, DeliversBeside}
+use Rattle.md_beside.proofs.Acting.{Had, had-beside, had-own, stands-own, stands-beside, not-its, acts}
+use Rattle.md_beside.proofs.ChangeKeeps.{keeps as change-keeps}
+use Rattle.md_beside.proofs.ChangeSteps.{FitsChange, fits-first, fits-step, step-does, rearranges-here}
 use Rattle.md_beside.proofs.OwnPath.{goes_on}
 use Rattle.md_beside.proofs.Fresh.{StageFresh, unused-none, never-first, unused-first, whole-first}
 use Rattle.md_beside.proofs.Histories.{next_at, history-next}
 use Rattle.md_beside.proofs.KeepsPaths.{KeepsPaths, breaks-none, no_two_names, not_in_two_folders}
-use Rattle.md_beside.proofs.OneEffect.{HasHad, had-nothing, had-still, had-next}
-use Rattle.md_beside.proofs.OnePath.{one_path-stays}
+use Rattle.md_beside.proofs.OneEffect.{had-nothing}
+use Rattle.md_beside.proofs.OnePath.{one_path-stays, one-always}
 use Rattle.md_beside.proofs.Others.{IsOther, program-owes, by-program}
 use Rattle.md_beside.proofs.OwnTurns.{own-does, as_alone}
 use Rattle.md_beside.proofs.OwnSteps.{plain, keeps-paths, fresh-next}
+use Rattle.md_beside.proofs.Rearranges.{Rearranges, keeps-paths as rearranged, brings-nothing}
 use Rattle.md_beside.proofs.StaysBeside.{StageMine, sound-stays, delivery-stays, mine-stays, fresh-stays}
 use Rattle.md_beside.proofs.StaysThere.{StageThere, there-stays, there-goes, never-gone, never-late}
 use Rattle.md_beside.proofs.WholeBytes.{StageBody, Ended, stage_body-stays, ended-stays, body-next, ends-next, stage-whole, ended-whole}
 
--- how far a job is after one step more
-pub standing-more : (job : ℕ) (s : State) (steps : List Step) (st : Standing) (k : ℕ) (x : Step) → slice_get steps k ≡ Some x →
-    standing_from job s (take (suc k) steps) st
-    ≡ cond (is_by job x.who) (standing_after job (state_after s (take k steps)) x (standing_from job s (take k steps) st))
-    (standing_from job s (take k steps) st)
-unfolding standing_from state_after
-standing-more job s [] st k x is = cc
-standing-more job s (y ∷ steps) st zero x is =
-    ap (λ (o : Option Step). option_map_or (λ (z : Step). cond (is_by job z.who) (standing_after job s z st) st) o st) is
-standing-more job s (y ∷ steps) st (suc k) x is =
-    standing-more job (after_did y.did y.at.clock y.reply s) steps (cond (is_by job y.who) (standing_after job s y st) st) k x is
-
-pub itself : (n : ℕ) → nat_eq n n ≡ true
-itself n = grind (arith, nat_tests)
-
--- who is not the job
-pub not-by : (job : ℕ) (w : Who) → (w ≡ ours job → ⊥) → is_by job w ≡ false
-not-by job (another actor) not = refl
-not-by job (ours n) not = by (nat_eq n job) refl
-  where
-    by : (b : Bool) → nat_eq n job ≡ b → b ≡ false
-    by false same = refl
-    by true same = let one : n ≡ job = grind (arith, nat_tests, same) in absurd (not (ap ours one))
-
-module _ (t : Story) (story : IsStory t) (names : AreOurs t) (lawful : AreLawfulToDeliveries t) (deliveries : AreDeliveries t) where
+module _ (t : Story) (story : IsStory t) (names : AreOurs t) (lawful : AreLawfulToDeliveries t)
+    (kinds : AreDeliveriesOrChanges t) where
   -- ---- what is so at each moment
 
   -- of a delivery
@@ -82,19 +60,15 @@ module _ (t : Story) (story : IsStory t) (names : AreOurs t) (lawful : AreLawful
       × StageFresh t k job d.tmp d.stage × StageBody t k d.tmp.name d.body d.stage
   Fits k job c (answered a) = Ended t k job c a
 
-  -- the effect that the job has had is that of its task, or of its answer
-  abbrev Had : ℕ → ℕ → Standing → Type 0
-  Had k job (working task) = HasHad t job k (own_effect job task)
-  Had k job (answered a) = (had : Option Effect) × HasHad t job k had × Settles had a
-
   record HoldsOf (k job : ℕ) (c : Call) : Type 0 where
     fits : Fits k job c (standing t job c k)
-    had : Had k job (standing t job c k)
+    had : Had t k job (standing t job c k)
 
   record Holds (k : ℕ) : Type 0 where
     sound : IsSound (state t k)
     one : HasOnePath (state t k)
     each : (i : ℕ) (c : Call) → slice_get t.calls i ≡ Some c → IsDelivery c → HoldsOf k (suc i) c
+    changes : (i : ℕ) (c : Call) → slice_get t.calls i ≡ Some c → IsChange c → FitsChange t k c (standing t (suc i) c k)
 
   -- ---- at the beginning
 
@@ -133,7 +107,12 @@ module _ (t : Story) (story : IsStory t) (names : AreOurs t) (lawful : AreLawful
 
   start : Holds zero
   unfolding state_after
-  start = record { sound = story.sound; one = story.one_path; each = start-of }
+  start = record {
+    sound = story.sound;
+    one = story.one_path;
+    each = start-of;
+    changes = λ i c of change. fits-first t story i c of change;
+  }
 
   -- ---- two deliveries make two names
 
@@ -166,9 +145,7 @@ module _ (t : Story) (story : IsStory t) (names : AreOurs t) (lawful : AreLawful
     module _ (i : ℕ) (c : Call) (of : slice_get t.calls i ≡ Some c) (delivery : IsDelivery c) (not-own : x.who ≡ ours (suc i) → ⊥)
         (other : (u : List ℕ) → MakesMessage c u → IsOther t k x (suc i) u) where
       same : standing t (suc i) c (suc k) ≡ standing t (suc i) c k
-      same = standing-more (suc i) t.image t.steps (new_job c) k x is
-          ∙ ap (λ (b : Bool). cond b (standing_after (suc i) (state t k) x (standing t (suc i) c k)) (standing t (suc i) c k))
-          (not-by (suc i) x.who not-own)
+      same = stands-beside t (suc i) c k x is not-own
 
       fits-beside : (st : Standing) → Fits k (suc i) c st → Fits (suc k) (suc i) c st
       fits-beside (working task) f =
@@ -182,35 +159,32 @@ module _ (t : Story) (story : IsStory t) (names : AreOurs t) (lawful : AreLawful
           )
       fits-beside (answered a) f = ended-stays t story k x is (suc i) c a other h.sound f
 
-      not-its : IsStepOf t (suc i) k → ⊥
-      not-its own =
-          let e : Some own.step ≡ Some x = sym own.at ∙ is in
-          let one : own.step ≡ x = cc in not-own (ap (λ (y : Step). y.who) (sym one) ∙ own.own)
-
-      had-beside : (st : Standing) → Had k (suc i) st → Had (suc k) (suc i) st
-      had-beside (working task) had = had-still t (suc i) k not-its (own_effect (suc i) task) had
-      had-beside (answered a) had = (had.0, had-still t (suc i) k not-its had.0 had.1, had.2)
-
       beside : HoldsOf (suc k) (suc i) c
       beside =
           let before = h.each i c of delivery in
           record {
             fits = subst (Fits (suc k) (suc i) c) (sym same) (fits-beside (standing t (suc i) c k) before.fits);
-            had = subst (Had (suc k) (suc i)) (sym same) (had-beside (standing t (suc i) c k) before.had);
+            had = subst (Had t (suc k) (suc i)) (sym same)
+                (had-beside t (suc i) k (not-its t (suc i) c k x is not-own) (standing t (suc i) c k) before.had);
           }
+
+    changes-next : (i : ℕ) (c : Call) → slice_get t.calls i ≡ Some c → IsChange c → FitsChange t (suc k) c (standing t (suc i) c (suc k))
+    changes-next i c of change = fits-step t story k x is h.sound h.one i c of change (h.changes i c of change)
 
     by-another : (actor : List ℕ) → x.who ≡ another actor → Holds (suc k)
     by-another actor who = record {
       sound = sound-stays t story k x is h.sound;
-      one = one_path-stays t story k x is (program-owes t story lawful names k x actor is who) h.one;
+      one = one_path-stays t story k x is (program-owes t story lawful names k x actor is who).one_name
+          (program-owes t story lawful names k x actor is who).one_folder h.one;
       each = λ i c of delivery. beside i c of delivery
           (λ own. let both : another actor ≡ ours (suc i) = sym who ∙ own in cc)
           (λ u makes. by-program t story lawful names k x actor is who (suc i) i c u of makes);
+      changes = changes-next;
     }
 
     -- ---- a step of a delivery's own
 
-    module _ (i : ℕ) (who : x.who ≡ ours (suc i)) where
+    module _ (i : ℕ) (who : x.who ≡ ours (suc i)) (is-delivery : IsDelivery (story.turns k (suc i) x is who).call) where
       abbrev job : ℕ
       job = suc i
 
@@ -219,9 +193,6 @@ module _ (t : Story) (story : IsStory t) (names : AreOurs t) (lawful : AreLawful
 
       abbrev c : Call
       c = turned.call
-
-      is-delivery : IsDelivery c
-      is-delivery = deliveries k job x c is who turned.of
 
       here : HoldsOf k job c
       here = h.each i c turned.of is-delivery
@@ -249,10 +220,7 @@ module _ (t : Story) (story : IsStory t) (names : AreOurs t) (lawful : AreLawful
       does = own-does t story k job x is who h.sound h.one task-fits known
 
       stands : standing t job c (suc k) ≡ standing_of after.task after.answer
-      stands = standing-more job t.image t.steps (new_job c) k x is
-          ∙ ap (λ (w : Who). cond (is_by job w) (standing_after job (state t k) x (standing t job c k)) (standing t job c k)) who
-          ∙ ap (λ (b : Bool). cond b (standing_after job (state t k) x (standing t job c k)) (standing t job c k)) (itself job)
-          ∙ ap (standing_after job (state t k) x) turned.works
+      stands = stands-own t job c k x is who ∙ ap (standing_after job (state t k) x) turned.works
 
       -- the step is that of its stage
       made-here : x.did ≡ asked (delivery_turn job fit.0 x.at).asked
@@ -280,22 +248,12 @@ module _ (t : Story) (story : IsStory t) (names : AreOurs t) (lawful : AreLawful
           (ends-next t story k job x is who h.sound fit.0 fit.2.in_tmp fit.2.name rows fit.0.stage fit.2.stage fit.3 fit.4 fit.5
           x.reply refl made-here a gave)
 
-      -- with its effect the job has had that, and else what it had before
-      abbrev now : Option Effect
-      now = option_or after.effect (own_effect job turned.task)
-
-      had-after : (o : Option Answer) → HasHad t job (suc k) now → MatchOption o (own_effect job after.task ≡ now) (Settles now) →
-          Had (suc k) job (standing_of after.task o)
-      had-after None had settles = subst (HasHad t job (suc k)) (sym settles) had
-      had-after (Some a) had settles = (now, had, settles)
-
       own : HoldsOf (suc k) job c
       own = record {
         fits = subst (Fits (suc k) job c) (sym stands) (fits-next after.answer refl);
-        had = subst (Had (suc k) job) (sym stands) (had-after after.answer
-            (had-next t job k x is who after.effect (own_effect job turned.task) (sym turned.affects) does.first
-            (subst (Had k job) turned.works here.had))
-            does.settles);
+        had = subst (Had t (suc k) job) (sym stands)
+            (had-own t job k x is who turned.task after (sym turned.affects) does.first does.settles
+            (subst (Had t k job) turned.works here.had));
       }
 
       keeps-here : KeepsPaths t k x fit.0.tmp.name
@@ -309,9 +267,9 @@ module _ (t : Story) (story : IsStory t) (names : AreOurs t) (lawful : AreLawful
           keeps-here does.none_overwritten does.one_path b but (subst (Breaks b) (history-next t k x is) broken)
 
       -- another delivery takes it as a step of another
-      for-others : (j : ℕ) (c' : Call) (v : List ℕ) → slice_get t.calls j ≡ Some c' → IsDelivery c' → i ≢ j → MakesMessage c' v →
+      delivery-others : (j : ℕ) (c' : Call) (v : List ℕ) → slice_get t.calls j ≡ Some c' → IsDelivery c' → i ≢ j → MakesMessage c' v →
           IsOther t k x (suc j) v
-      for-others j c' v of' delivery' differ makes' = record {
+      delivery-others j c' v of' delivery' differ makes' = record {
         actor = t.actor job;
         by = (step_seen t.actor (state t k) x, refl, ap (actor_seen t.actor) who);
         differs = λ one. let both : suc i ≡ suc j = story.apart job (suc j) one in differ (omega (arith, both));
@@ -325,23 +283,81 @@ module _ (t : Story) (story : IsStory t) (names : AreOurs t) (lawful : AreLawful
             (subst (MakesMessage c) (sym one) (makes-delivery (state t k) c fit.0 fit.2)) makes');
       }
 
+      -- the job has the answer of a step that gave one
+      answered-here : (a : Answer) → x.answer ≡ Some a → standing t job c (suc k) ≡ answered a
+      answered-here a gave = stands ∙ ap (standing_of after.task) (turned.answers ∙ gave)
+
+    -- ---- a step of a change's own
+
+    module _ (i : ℕ) (who : x.who ≡ ours (suc i)) (is-change : IsChange (story.turns k (suc i) x is who).call) where
+      change-fits : FitsChange t k (story.turns k (suc i) x is who).call (standing t (suc i) (story.turns k (suc i) x is who).call k)
+      change-fits = h.changes i (story.turns k (suc i) x is who).call (story.turns k (suc i) x is who).of is-change
+
+      change-one : HasOnePath (state t (suc k))
+      change-one = (step-does t story k (suc i) x is who h.sound h.one is-change change-fits).one_path
+
+      moves : Rearranges t k x
+      moves = rearranges-here t story k (suc i) x is who h.sound h.one is-change change-fits
+
+      keeps-change : KeepsPaths t k x []
+      keeps-change = rearranged t story k x is moves []
+
+      -- a delivery takes it as a step of another
+      change-others : (j : ℕ) (v : List ℕ) → i ≢ j → IsOther t k x (suc j) v
+      change-others j v differ = record {
+        actor = t.actor (suc i);
+        by = (step_seen t.actor (state t k) x, refl, ap (actor_seen t.actor) who);
+        differs = λ one. let both : suc i ≡ suc j = story.apart (suc i) (suc j) one in differ (omega (arith, both));
+        owes = record {
+          one_name = no_two_names t story k x is change-one;
+          one_folder = not_in_two_folders t story k x is change-one;
+          unmixed = keeps-change.unmixed;
+          unnamed = keeps-change.unnamed;
+        };
+        brings = brings-nothing t story k x is moves v;
+      }
+
+    -- ---- a step of one of our jobs
+
+    module _ (i : ℕ) (who : x.who ≡ ours (suc i)) where
+      kind : IsDelivery (story.turns k (suc i) x is who).call ⊎ IsChange (story.turns k (suc i) x is who).call
+      kind = kinds k (suc i) x (story.turns k (suc i) x is who).call is who (story.turns k (suc i) x is who).of
+
+      for-others : (j : ℕ) (c' : Call) (v : List ℕ) → slice_get t.calls j ≡ Some c' → IsDelivery c' → i ≢ j → MakesMessage c' v →
+          IsOther t k x (suc j) v
+      for-others j c' v of' delivery' differ makes' = elim kind [
+        | inl delivery ↦ delivery-others i who delivery j c' v of' delivery' differ makes'
+        | inr change ↦ change-others i who change j v differ
+      ]
+
+      not-early : CleanedEarly (next_at t k x) → ⊥
+      not-early = elim kind [
+        | inl delivery ↦ (keeps-here i who delivery).not_early
+        | inr change ↦ (keeps-change i who change).not_early
+      ]
+
+      one-next : HasOnePath (state t (suc k))
+      one-next = elim kind [
+        | inl delivery ↦ (does i who delivery).one_path
+        | inr change ↦ change-one i who change
+      ]
+
+      own-next : (c' : Call) → slice_get t.calls i ≡ Some c' → IsDelivery c' → HoldsOf (suc k) (suc i) c'
+      own-next c' of' delivery' =
+          let e : Some (story.turns k (suc i) x is who).call ≡ Some c' = sym (story.turns k (suc i) x is who).of ∙ of' in
+          let its : (story.turns k (suc i) x is who).call ≡ c' = cc in
+          subst (HoldsOf (suc k) (suc i)) its (own i who (subst IsDelivery (sym its) delivery'))
+
       each-next : (j : ℕ) (c' : Call) → slice_get t.calls j ≡ Some c' → IsDelivery c' → HoldsOf (suc k) (suc j) c'
       each-next j c' of' delivery' = by_number i j
-          (λ one.
-          let e : Some c ≡ Some c' = sym turned.of ∙ ap (slice_get t.calls) one ∙ of' in
-          let call-is : c ≡ c' = cc in
-          subst (λ (n : ℕ). HoldsOf (suc k) (suc n) c') one (subst (HoldsOf (suc k) job) call-is own))
+          (λ one. subst (λ (n : ℕ). HoldsOf (suc k) (suc n) c') one (own-next c' (ap (slice_get t.calls) one ∙ of') delivery'))
           (λ differ. beside j c' of' delivery'
-          (λ its. let both : ours job ≡ ours (suc j) = sym who ∙ its in let same-job : suc i ≡ suc j = cc in
+          (λ its. let both : ours (suc i) ≡ ours (suc j) = sym who ∙ its in let same-job : suc i ≡ suc j = cc in
           differ (omega (arith, same-job)))
           (λ v makes'. for-others j c' v of' delivery' differ makes'))
 
       by-us : Holds (suc k)
-      by-us = record { sound = does.sound; one = does.one_path; each = each-next }
-
-      -- the job has the answer of a step that gave one
-      answered-here : (a : Answer) → x.answer ≡ Some a → standing t job c (suc k) ≡ answered a
-      answered-here a gave = stands ∙ ap (standing_of after.task) (turned.answers ∙ gave)
+      by-us = record { sound = sound-stays t story k x is h.sound; one = one-next; each = each-next; changes = changes-next }
 
     next : Holds (suc k)
     next = by x.who refl
@@ -358,13 +374,7 @@ module _ (t : Story) (story : IsStory t) (names : AreOurs t) (lawful : AreLawful
 
   -- each message has one path, whoever took the steps
   one_path-at : (k : ℕ) → HasOnePath (state t k)
-  one_path-at k = elim (cases_lt k (length t.steps)) [
-    | inl within ↦ (holds-at k (omega (arith, within))).one
-    | inr past ↦
-        let all : take k t.steps ≡ take (length t.steps) t.steps =
-        take_all k t.steps (omega (arith, past)) ∙ sym (take_all (length t.steps) t.steps (omega arith)) in
-        subst (λ (steps : List Step). HasOnePath (state_after t.image steps)) (sym all) (holds-at (length t.steps) (omega arith)).one
-  ]
+  one_path-at = one-always t (λ k low. (holds-at k low).one)
 
   -- ---- of one delivery
 
@@ -373,83 +383,28 @@ module _ (t : Story) (story : IsStory t) (names : AreOurs t) (lawful : AreLawful
     its-call k x is who =
         let e : Some (story.turns k (suc i) x is who).call ≡ Some c = sym (story.turns k (suc i) x is who).of ∙ of in cc
 
+    is-its : (k : ℕ) (x : Step) (is : step_at t k ≡ Some x) (who : x.who ≡ ours (suc i)) → IsDelivery (story.turns k (suc i) x is who).call
+    is-its k x is who = subst IsDelivery (sym (its-call k x is who)) delivery
+
     holds-before : (k : ℕ) (x : Step) → step_at t k ≡ Some x → Holds k
     holds-before k x is = let within = slice_get_within t.steps k x is in holds-at k (omega (arith, within))
 
     -- each step of its own is its call's effect, alone on the mailbox as others left it, or leaves the mailbox as it was
     alone-at : (k : ℕ) (x : Step) → step_at t k ≡ Some x → x.who ≡ ours (suc i) → AsAlone c x.effect (box t k) (box t (suc k))
     alone-at k x is who = subst (λ (c' : Call). AsAlone c' x.effect (box t k) (box t (suc k))) (its-call k x is who)
-        (alone-here k x is (holds-before k x is) i who)
+        (alone-here k x is (holds-before k x is) i who (is-its k x is who))
 
     lawful-at : (k : ℕ) (x : Step) (b : Clause) → step_at t k ≡ Some x → x.who ≡ ours (suc i) → b ≢ clause.NotFlushed →
         Breaks b (history t (suc k)) → ⊥
-    lawful-at k x b is who = lawful-here k x is (holds-before k x is) i who b
+    lawful-at k x b is who = lawful-here k x is (holds-before k x is) i who (is-its k x is who) b
 
-    -- an answer stays to the end
-    stays-answered : (k : ℕ) (x : Step) → step_at t k ≡ Some x → (a : Answer) → standing t (suc i) c k ≡ answered a →
+    answered-at : (k : ℕ) (x : Step) → step_at t k ≡ Some x → x.who ≡ ours (suc i) → (a : Answer) → x.answer ≡ Some a →
         standing t (suc i) c (suc k) ≡ answered a
-    stays-answered k x is a was =
-        standing-more (suc i) t.image t.steps (new_job c) k x is
-        ∙ ap (λ (st : Standing). cond (is_by (suc i) x.who) (standing_after (suc i) (state t k) x st) st) was
-        ∙ same_either (is_by (suc i) x.who)
-      where
-        same_either : (b : Bool) → cond b (answered a) (answered a) ≡ answered a
-        same_either true = refl
-        same_either false = refl
+    answered-at k x is who a gave = subst (λ (c' : Call). standing t (suc i) c' (suc k) ≡ answered a) (its-call k x is who)
+        (answered-here k x is (holds-before k x is) i who (is-its k x is who) a gave)
 
-    answered-at : (a : Answer) (k : ℕ) → standing t (suc i) c k ≡ answered a → (n : ℕ) → k ≤ n → n ≤ length t.steps →
-        standing t (suc i) c n ≡ answered a
-    answered-at a k was zero above low =
-        let first : k ≡ 0 = omega (arith, above) in subst (λ (m : ℕ). standing t (suc i) c m ≡ answered a) first was
-    answered-at a k was (suc n) above low = elim (cases_lt n k) [
-      | inl last ↦ let end : k ≡ suc n = omega (arith, above, last) in subst (λ (m : ℕ). standing t (suc i) c m ≡ answered a) end was
-      | inr before ↦ at_place t.steps n
-          (λ x is. stays-answered n x is a (answered-at a k was n (omega (arith, before)) (omega (arith, low))))
-          (λ past. absurd (omega (arith, low, past)))
-    ]
-
-    -- what the job has had by the end
-    had-all : (a : Answer) → IsAnswered t (suc i) a → (had : Option Effect) × HasHad t (suc i) (length t.steps) had × Settles had a
-    had-all a gave =
-        let x = gave.last.step in
-        let within = slice_get_within t.steps gave.k x gave.last.at in
-        let here = answered-here gave.k x gave.last.at (holds-before gave.k x gave.last.at) i gave.last.own a gave.answer in
-        let then = subst (λ (c' : Call). standing t (suc i) c' (suc gave.k) ≡ answered a)
-        (its-call gave.k x gave.last.at gave.last.own) here in
-        let end = answered-at a (suc gave.k) then (length t.steps) (omega (arith, within)) (omega arith) in
-        subst (Had (length t.steps) (suc i)) end ((holds-at (length t.steps) (omega arith)).each i c of delivery).had
-
-    within-all : (k : ℕ) (own : IsStepOf t (suc i) k) → k < length t.steps
-    within-all k own = slice_get_within t.steps k own.step own.at
-
-    effect-at : (a : Answer) (e : Effect) → e.answer ≡ a → HasHad t (suc i) (length t.steps) (Some e) → TakesEffect t (suc i) c a
-    effect-at a e says had = record {
-      k = had.0;
-      effect = record {
-        own = had.1;
-        effect = e;
-        is = had.3;
-        answers = says;
-        as_alone =
-            let there : alone c (box t had.0) ≡ record { answer = e.answer; after = box t (suc had.0) } =
-            subst (λ (o : Option Effect). AsAlone c o (box t had.0) (box t (suc had.0))) had.3
-            (alone-at had.0 had.1.step had.1.at had.1.own) in
-            there ∙ ap (λ (b : Answer). record { answer = b; after = box t (suc had.0) }) says;
-      };
-      only = λ k own some. had.4 k own (within-all k own) some;
-    }
-
-    acts-by : (a : Answer) → (had : Option Effect) × HasHad t (suc i) (length t.steps) had × Settles had a → Acts t (suc i) c a
-    acts-by a (had, has, settles) = record {
-      done = λ success.
-          let found : (e : Effect) × (had ≡ Some e) × (e.answer ≡ a) =
-          subst (λ (b : Bool). MatchBool b ((e : Effect) × (had ≡ Some e) × (e.answer ≡ a)) (had ≡ None)) success settles in
-          effect-at a found.0 found.2 (subst (HasHad t (suc i) (length t.steps)) found.1 has);
-      undone = λ failed k own.
-          let none : had ≡ None =
-          subst (λ (b : Bool). MatchBool b ((e : Effect) × (had ≡ Some e) × (e.answer ≡ a)) (had ≡ None)) failed settles in
-          subst (HasHad t (suc i) (length t.steps)) none has k own (within-all k own);
-    }
+    had-at : (k : ℕ) → k ≤ length t.steps → Had t k (suc i) (standing t (suc i) c k)
+    had-at k low = ((holds-at k low).each i c of delivery).had
 
     -- its message has the bytes of its body
     whole-by : (k : ℕ) (c' : Call) (st : Standing) → Fits k (suc i) c' st → IsDelivery c' → IsWholeOf t k c'
@@ -514,54 +469,57 @@ module _ (t : Story) (story : IsStory t) (names : AreOurs t) (lawful : AreLawful
           by (answered a) f was = tt
 
       module _ (who : x.who ≡ ours (suc i)) (apart : (x.at.own ≤ x.at.clock + 14400) × (x.at.clock ≤ x.at.own + 14400)) where
+        abbrev its : IsDelivery (story.turns k (suc i) x is who).call
+        its = is-its k x is who
+
         abbrev d : Delivery
-        d = (fit k x is h i who).0
+        d = (fit k x is h i who its).0
 
         fits : DeliveryFits (state t k) (story.turns k (suc i) x is who).call d
-        fits = (fit k x is h i who).2
+        fits = (fit k x is h i who its).2
 
         stage-there : StageThere t k d.tmp d.stage
-        stage-there = subst (ThereTask k) (fit k x is h i who).1 (subst (There k) (story.turns k (suc i) x is who).works
+        stage-there = subst (ThereTask k) (fit k x is h i who its).1 (subst (There k) (story.turns k (suc i) x is who).works
             (subst (λ (c' : Call). There k (standing t (suc i) c' k)) (sym (its-call k x is who)) there))
 
         there-own : There (suc k) (standing t (suc i) c (suc k))
         there-own = subst (λ (c' : Call). There (suc k) (standing t (suc i) c' (suc k))) (its-call k x is who)
-            (subst (There (suc k)) (sym (stands k x is h i who)) (by (after k x is h i who).answer refl))
+            (subst (There (suc k)) (sym (stands k x is h i who its)) (by (after k x is h i who its).answer refl))
           where
-            by : (o : Option Answer) → (after k x is h i who).answer ≡ o → There (suc k) (standing_of (after k x is h i who).task o)
+            by : (o : Option Answer) → (after k x is h i who its).answer ≡ o → There (suc k) (standing_of (after k x is h i who its).task o)
             by None on =
-                let task-is = ap (λ (task : Task). ((turn_of (suc i) task x.at).follows x.reply (rows k x is h i who)).task)
-                (fit k x is h i who).1 in
-                let unanswered = sym (ap (λ (task : Task). ((turn_of (suc i) task x.at).follows x.reply (rows k x is h i who)).answer)
-                (fit k x is h i who).1) ∙ on in
+                let task-is = ap (λ (task : Task). ((turn_of (suc i) task x.at).follows x.reply (rows k x is h i who its)).task)
+                (fit k x is h i who its).1 in
+                let unanswered = sym (ap (λ (task : Task). ((turn_of (suc i) task x.at).follows x.reply (rows k x is h i who its)).answer)
+                (fit k x is h i who its).1) ∙ on in
                 subst (ThereTask (suc k)) (sym task-is) (there-goes t story k x is
                 (suc i) who h.sound d fits.in_tmp fits.name fits.in_folder
-                (rows k x is h i who) apart d.stage
-                stage-there x.reply refl (made-here k x is h i who) unanswered)
+                (rows k x is h i who its) apart d.stage
+                stage-there x.reply refl (made-here k x is h i who its) unanswered)
             by (Some a) on = tt
 
         not-gone : x.answer ≡ Some answer.TmpGone → ⊥
         not-gone gave =
-            let gone = sym (ap (λ (task : Task). ((turn_of (suc i) task x.at).follows x.reply (rows k x is h i who)).answer)
-            (fit k x is h i who).1)
+            let gone = sym (ap (λ (task : Task). ((turn_of (suc i) task x.at).follows x.reply (rows k x is h i who its)).answer)
+            (fit k x is h i who its).1)
             ∙ (story.turns k (suc i) x is who).answers ∙ gave in
-            never-gone t story k x is (suc i) who h.sound d fits.in_tmp fits.name fits.in_folder (rows k x is h i who) apart d.stage
-            stage-there x.reply refl (made-here k x is h i who) gone
+            never-gone t story k x is (suc i) who h.sound d fits.in_tmp fits.name fits.in_folder (rows k x is h i who its) apart d.stage
+            stage-there x.reply refl (made-here k x is h i who its) gone
 
         -- it does what it is owed
         owes-here : Owes (history t (suc k))
         owes-here = subst Owes (sym (history-next t k x is)) (record {
-          one_name = no_two_names t story k x is (does k x is h i who).one_path;
-          unmixed = (keeps-here k x is h i who).unmixed;
-          unnamed = (keeps-here k x is h i who).unnamed;
-          uncleaned = (keeps-here k x is h i who).not_early;
-          unwritten = (keeps-here k x is h i who).unwritten;
-          not_back = λ back. (keeps-here k x is h i who).not_back (back.0, back.1, back.2, back.3, back.4, back.5);
-          one_folder = not_in_two_folders t story k x is (does k x is h i who).one_path;
-          unused = (keeps-here k x is h i who).one_file;
-          unmade = (keeps-here k x is h i who).unmade;
-          in_time = never-late t story k x is (suc i) who h.sound d fits.in_tmp fits.name fits.in_folder (rows k x is h i who) apart d.stage
-              stage-there (made-here k x is h i who);
+          one_name = no_two_names t story k x is (does k x is h i who its).one_path;
+          unmixed = (keeps-here k x is h i who its).unmixed;
+          unnamed = (keeps-here k x is h i who its).unnamed;
+          uncleaned = (keeps-here k x is h i who its).not_early;
+          unwritten = (keeps-here k x is h i who its).unwritten;
+          not_back = λ back. (keeps-here k x is h i who its).not_back (back.0, back.1, back.2, back.3, back.4, back.5);
+          one_folder = not_in_two_folders t story k x is (does k x is h i who its).one_path;
+          unused = (keeps-here k x is h i who its).one_file;
+          unmade = (keeps-here k x is h i who its).unmade;
+          in_time = never-late t story k x is (suc i) who h.sound d fits.in_tmp fits.name fits.in_folder (rows k x is h i who its) apart
+              d.stage stage-there (made-here k x is h i who its);
         })
 
     module _ (apart : AreApart t 14400) (spare : AreSparing t) where
@@ -581,7 +539,7 @@ module _ (t : Story) (story : IsStory t) (names : AreOurs t) (lawful : AreLawful
               (λ own. let both : ours (suc j) ≡ ours (suc i) = sym who ∙ own in let same-job : suc j ≡ suc i = cc in
               differ (omega (arith, same-job)))
               (λ u makes. for-others k x is h j who i c u of delivery differ makes)
-              (keeps-here k x is h j who).not_early)
+              (not-early k x is h j who))
 
       there-at : (k : ℕ) → k ≤ length t.steps → There k (standing t (suc i) c k)
       unfolding standing_from
@@ -605,15 +563,28 @@ module _ (t : Story) (story : IsStory t) (names : AreOurs t) (lawful : AreLawful
     keeps : KeepsPromise t (suc i) c
     keeps = record {
       as_alone = alone-at;
-      acts = λ a gave. acts-by a (had-all a gave);
+      acts = acts t (suc i) c alone-at had-at answered-at;
       one_path = one_path-at;
       whole = whole-at;
       never_gone = never-gone-at;
       owes = owes-at;
       lawful = lawful-at;
     }
+    -- ---- a change beside them
 
--- the law
+  pub changes-keep : (i : ℕ) (c : Call) → slice_get t.calls i ≡ Some c → IsChange c → KeepsChange t (suc i) c
+  changes-keep i c of change = change-keeps t story i c of change (λ k low. (holds-at k low).sound) one_path-at
+      (λ k low. (holds-at k low).changes i c of change)
+
+-- the law of both
+pub keep-promises : BothBeside
+keep-promises t story names lawful kinds zero c of = (λ delivery. (cc), λ change. (cc))
+keep-promises t story names lawful kinds (suc i) c of = (
+  λ delivery. keeps t story names lawful kinds i c of delivery,
+  λ change. changes-keep t story names lawful kinds i c of change,
+)
+
+-- the law of deliveries
 pub keeps-promise : DeliversBeside
-keeps-promise t story names lawful deliveries zero c of delivery = cc
-keeps-promise t story names lawful deliveries (suc i) c of delivery = keeps t story names lawful deliveries i c of delivery
+keeps-promise t story names lawful deliveries job c of delivery =
+    (keep-promises t story names lawful (λ k j x c' is who of'. inl (deliveries k j x c' is who of')) job c of).0 delivery

@@ -33,8 +33,8 @@ use Rattle.md_beside.proofs.Histories.{next_at, path-history, path-next}
 use Rattle.md_beside.proofs.OneMaker.{maker-still}
 use Rattle.md_beside.proofs.Replies.{IsNoReading, call-made, is-directory, lists-nothing, gives-up-nothing, answers-nothing}
 
--- What a step of a delivery of a name keeps, by what it does to paths: clauses of the law, what deliveries owe one another, and the names
--- of others.
+-- What a step of ours keeps that may bring this name about and no other, by what it does to paths: clauses of the law, what is owed, and
+-- the names of others.
 pub record KeepsPaths (t : Story) (k : ℕ) (x : Step) (u : List ℕ) : Type 0 where
   pub whole : SeenBeforeWhole (next_at t k x) → ⊥
   pub unmixed : owed.Mixed (next_at t k x) → ⊥
@@ -49,13 +49,13 @@ pub record KeepsPaths (t : Story) (k : ℕ) (x : Step) (u : List ℕ) : Type 0 w
   pub brings : (v : List ℕ) → v ≢ u → BringsAbout t k v → ⊥
 
 -- what was so once of one thing was so of what follows from it
-once-map : (P Q : History → Type 0) → ((m : History) → P m → Q m) → (h : History) → Once P h → Once Q h
+pub once-map : (P Q : History → Type 0) → ((m : History) → P m → Q m) → (h : History) → Once P h → Once Q h
 unfolding Once
 once-map P Q follows (opening m) is = follows (opening m) is
 once-map P Q follows (next past x) (inl now) = inl (follows (next past x) now)
 once-map P Q follows (next past x) (inr earlier) = inr (once-map P Q follows past earlier)
 
-once-now : (P : History → Type 0) (h : History) → P h → Once P h
+pub once-now : (P : History → Type 0) (h : History) → P h → Once P h
 unfolding Once
 once-now P (opening m) is = is
 once-now P (next past x) is = inl is
@@ -81,7 +81,7 @@ once-of : (h : History) (u v : List ℕ) (n : ℕ) → u ≡ v → owed.WasOf h 
 once-of h u v n same = once-map (λ m. (p : Path) × IsMessageAt (at m) p.folder u p n) (λ m. (f : ℕ) × IsThere (at m) f v)
     (λ m is. (is.0.folder, subst (IsThere (at m) is.0.folder) same (is.0, n, is.1))) h
 
-whole-by : (h : History) → (MakesMessage h → ⊥) → (WritesSeen h → ⊥) → (ShowsCut h → ⊥) → SeenBeforeWhole h → ⊥
+pub whole-by : (h : History) → (MakesMessage h → ⊥) → (WritesSeen h → ⊥) → (ShowsCut h → ⊥) → SeenBeforeWhole h → ⊥
 whole-by h makes writes shows (inl broken) = makes broken
 whole-by h makes writes shows (inr (inl broken)) = writes broken
 whole-by h makes writes shows (inr (inr broken)) = shows broken
@@ -101,7 +101,7 @@ WritesOwn t k x job = (n : ℕ) (r : Reply) → Writes (next_at t k x) n r
     → (Once (λ m. IsSeen (at m) n) (history t k) → ⊥) × IsMaker (history t k) (t.actor job) n
 
 -- who writes to no file but its own mixes nothing
-mixed-done : (h : History) → (owed.Mixed h → ⊥) → Mixed h → ⊥
+pub mixed-done : (h : History) → (owed.Mixed h → ⊥) → Mixed h → ⊥
 mixed-done h not (actor, n, by, writes, made) = not (actor, n, by, (said.Ok, (λ e. cc), writes), made)
 
 module _ (t : Story) (story : IsStory t) (k : ℕ) (x : Step) (is : step_at t k ≡ Some x) where

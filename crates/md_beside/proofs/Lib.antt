@@ -16,5 +16,16 @@ pub mod KeepsPaths
 pub mod OwnSteps
 pub mod WholeBytes
 pub mod StaysThere
+pub mod Acting
+pub mod Renames
+pub mod Rearranges
+pub mod Readings
+pub mod ChangeTurns
+pub mod ChangePaths
+pub mod ChangeClauses
+pub mod ChangeSteps
+pub mod ChangeTries
+pub mod ChangeKeeps
+pub mod Changes
 pub mod Deliveries
 pub mod RunStories

@@ -64,7 +64,7 @@ right-call h s actor (list folder place) clock r plain same due y wrong = absurd
 
 -- ---- listings
 
-up_to-itself : (h : History) → IsUpTo h h
+pub up_to-itself : (h : History) → IsUpTo h h
 unfolding Once
 up_to-itself (opening m) = refl
 up_to-itself (next past x) = inl refl

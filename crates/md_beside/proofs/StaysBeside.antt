@@ -79,7 +79,7 @@ module _ (t : Story) (story : IsStory t) (k : ℕ) (x : Step) (is : step_at t k 
   pub sound-stays : IsSound (state t k) → IsSound (state t (suc k))
   sound-stays sound = subst IsSound (sym more) (sound-did (state t k) sound x.did x.at.clock x.reply (story.replied k x is))
 
-  folders-stay : (state t (suc k)).folders ≡ (state t k).folders
+  pub folders-stay : (state t (suc k)).folders ≡ (state t k).folders
   folders-stay = ap (λ (s : State). s.folders) more ∙ folders-did x.did x.at.clock x.reply (state t k)
 
   module _ (job : ℕ) (tmp : Path) (other : IsOther t k x job tmp.name) where

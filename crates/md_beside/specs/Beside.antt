@@ -1,5 +1,5 @@
 -- What our jobs are to promise beside other programs, whatever these are, as long as the others do what they owe: the aim. It is proved of
--- deliveries (Delivery).
+-- deliveries (Delivery), and of jobs that change a message where it is (Changing).
 use Rattle.std.specs.Prelude.{ℕ, suc, ◌+◌, ◌≡◌, ◌≢◌, ◌≤◌, ◌⊎◌, List, Some, None, true, false, take, slice_get, is_some, if◌then◌else◌}
 use Rattle.md_dirs.specs.State.{State, IsSound, file_at, file_by}
 use Rattle.md_dirs.specs.declared.paths.Path.{Path}

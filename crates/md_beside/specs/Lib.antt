@@ -1,4 +1,5 @@
 pub mod Story
 pub mod Beside
 pub mod Delivery
+pub mod Changing
 pub mod Runs

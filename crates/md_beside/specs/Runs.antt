@@ -1,5 +1,5 @@
 -- Runs of our jobs alone, as stories: no other program takes a step.
-use Rattle.std.specs.Prelude.{ℕ, suc, ◌≡◌, ◌≢◌, List, Some, map, slice_get}
+use Rattle.std.specs.Prelude.{ℕ, suc, ◌≡◌, ◌≢◌, ◌⊎◌, List, Some, map, slice_get}
 use Rattle.md_jobs.specs.declared.call.Call.{Call}
 use Rattle.md_core.specs.Interleaving.{IsDelivery}
 use Rattle.md_core.specs.Runs.{Run}
@@ -11,6 +11,7 @@ use Rattle.md_log.specs.declared.clause.Clause.TheVariants as clause
 use Rattle.md_law.specs.Law.{Breaks}
 use Rattle.md_beside.specs.Story.{Story, Step, ours, asked, step_at, history}
 use Rattle.md_beside.specs.Beside.{IsStory}
+use Rattle.md_beside.specs.Changing.{IsChange}
 
 -- a step of a run, as a story tells it
 abbrev pub step_told : Taken → Step
@@ -32,5 +33,12 @@ RunsAreStories = (r : Run) (actor : ℕ → List ℕ) → IsRun r → AreNames a
 abbrev pub DeliveriesAreLawful : Type 0
 DeliveriesAreLawful = (r : Run) (actor : ℕ → List ℕ) → IsRun r → AreNames actor
     → ((i : ℕ) (c : Call) → slice_get r.calls i ≡ Some c → IsDelivery c)
+    → (k : ℕ) (x : Step) (b : Clause) → step_at (story_of actor r) k ≡ Some x → b ≢ clause.NotFlushed
+    → Breaks b (history (story_of actor r) (suc k)) → ⊥
+
+-- A run of deliveries and changes breaks no clause of the law, but that its deliveries don't flush what they deliver.
+abbrev pub BothAreLawful : Type 0
+BothAreLawful = (r : Run) (actor : ℕ → List ℕ) → IsRun r → AreNames actor
+    → ((i : ℕ) (c : Call) → slice_get r.calls i ≡ Some c → IsDelivery c ⊎ IsChange c)
     → (k : ℕ) (x : Step) (b : Clause) → step_at (story_of actor r) k ≡ Some x → b ≢ clause.NotFlushed
     → Breaks b (history (story_of actor r) (suc k)) → ⊥
