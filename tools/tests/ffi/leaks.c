@@ -1,5 +1,6 @@
-/* So many calls, given as the argument: 1,000 in a world of their own, which is freed, and 1,000 in one world that is kept to the end and
-   settles now and then, in turn. Prints the peak of the memory in KiB, which is to be much the same for any number of calls. */
+/* A number of calls, the first argument: of worlds, 1,000 in a world of their own, which is freed, and 1,000 in one world that is kept to
+   the end and settles now and then, in turn; or, where the second argument is driven, jobs that are driven. Prints the peak of the memory
+   in KiB, which is to be the same for any number of calls. */
 #include "deolmutt.h"
 
 #include <stdio.h>
@@ -88,19 +89,27 @@ static void driven_jobs(void) {
     }
 }
 
-int main(int count, char **words) {
-    long left = count > 1 ? atol(words[1]) : 2 * EACH, from;
-    struct rusage used;
+static void calls_of_worlds(long left) {
     deolmutt_world *kept = NULL;
     uint64_t line = 0;
+    long from;
     must(deolmutt_load((const uint8_t *)"folder a\n", 9, &kept, &line) == DEOLMUTT_OK, "load");
     for (from = 0; left > 0; from += EACH / 4) {
         calls_of_a_world();
         calls_of_the_kept_world(kept, from);
-        driven_jobs();
         left -= 2 * EACH;
     }
     must(deolmutt_free(kept) == DEOLMUTT_OK, "free");
+}
+
+int main(int count, char **words) {
+    long left = count > 1 ? atol(words[1]) : 2 * EACH;
+    struct rusage used;
+    if (count > 2 && strcmp(words[2], "driven") == 0)
+        for (; left > 0; left -= EACH)
+            driven_jobs();
+    else
+        calls_of_worlds(left);
     getrusage(RUSAGE_SELF, &used);
     printf("%ld\n", used.ru_maxrss);
     return 0;
