@@ -1,4 +1,4 @@
-# Proving and building a program: crate by crate, each after those that it uses, so that it is known which one is at work.
+# Proving and building the program: crate by crate, each after those that it uses, so that it is known which one is at work.
 
 # Minutes and seconds.
 clock() {
@@ -17,14 +17,13 @@ refuse_unbuilt() {
   refuse 70 "$current was not built: rt ended with status $joined"
 }
 
-# Proves one crate and builds it. A program is run once: over an empty script, or for its version.
+# Proves one crate and builds it. The program is run once, for its version.
 build_crate() {
   current=$1
   crate_number=$((crate_number + 1))
   say "crate $crate_number of $crates, $current"
   case $1 in
-    maildir_cli) start_rt "$1" /dev/null "$work/log" run -- play ;;
-    maildir_judge | deolmutt) start_rt "$1" /dev/null "$work/log" run -- --version ;;
+    deolmutt) start_rt "$1" /dev/null "$work/log" run -- --version ;;
     *) start_rt "$1" /dev/null "$work/log" lib ;;
   esac
   join_job
@@ -42,7 +41,7 @@ build_crates() {
 # Proves the program with all that it is made of, and builds it, unless its build is up to date.
 build_program() {
   if [ -z "$(why_stale)" ]; then
-    say "$called is built, and nothing that it is made of has changed since"
+    say "deolmutt is built, and nothing that it is made of has changed since"
     return
   fi
   require_rt

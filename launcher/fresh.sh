@@ -3,9 +3,6 @@
 # When the build began that made the program, as the file's own time, and which toolchain made it.
 stamp=$program.built
 
-# What the launcher calls the program: the one of scripts, unless the mail program or the judge is taken.
-called="the script program"
-
 made_of=
 
 # Adds a crate to those that the program is made of, after the crates that it uses: the order in which rt proves them.
@@ -21,7 +18,7 @@ add_crate() {
 list_crates() {
   made_of=
   above=
-  add_crate "${runs:-maildir_cli}"
+  add_crate deolmutt
 }
 
 count_words() {
@@ -33,7 +30,8 @@ version_of_toolchain() {
   cat "$kit/KIT-ID" 2>/dev/null || rt version
 }
 
-# A file that the program is made of and that is newer than its build, if there is one. A folder is newer where a file of it went.
+# A file that the program is made of and that is newer than its build, if there is one. A folder is newer where a file of it went. The gate
+# leaves a build without a stamp, which goes by its own time.
 find_newer() {
   list_crates
   set -- "$top/crates.txt"
@@ -42,27 +40,23 @@ find_newer() {
       [ ! -d "$top/crates/$name/$part" ] || set -- "$@" "$top/crates/$name/$part"
     done
   done
+  [ -f "$stamp" ] || stamp=$program
   find "$@" -newer "$stamp" -print | head -n 1
-}
-
-# That something is newer than the build, where it is.
-why_older() {
-  newer=$(find_newer)
-  [ -z "$newer" ] || echo "$called's build is older than ${newer#"$top/"}"
 }
 
 # Why the program has to be built, and nothing where its build is there and up to date. With no rt on the path there is no other
 # toolchain that could have made it.
 why_stale() {
-  if [ ! -x "$program" ] || [ ! -f "$stamp" ]; then
-    echo "$called is not built"
+  if [ ! -x "$program" ]; then
+    echo "deolmutt is not built"
     return
   fi
-  if command -v rt >/dev/null && [ "$(version_of_toolchain)" != "$(cat "$stamp")" ]; then
-    echo "$called's build is by another toolchain"
+  if [ -f "$stamp" ] && command -v rt >/dev/null && [ "$(version_of_toolchain)" != "$(cat "$stamp")" ]; then
+    echo "deolmutt's build is by another toolchain"
     return
   fi
-  why_older
+  newer=$(find_newer)
+  [ -z "$newer" ] || echo "deolmutt's build is older than ${newer#"$top/"}"
 }
 
 require_rt() {

@@ -1,31 +1,13 @@
-# Installing the programs that are built, with their manual pages and completions: all of it, or nothing.
+# Installing the program, with its manual page and completions: all of it, or nothing.
 
+# The mode of each file, where it is in this tree, and where it goes below the prefix.
 files=$parts/files.txt
-
-# Takes the files of a program where it is built: take_files PROGRAM WHY_NOT COMMAND. What an earlier install has put here is not taken away
-# for want of a build: mail may be delivered by it.
-take_files() {
-  if [ -z "$2" ]; then
-    sed -n "s/^$1 //p" "$files" >>"$work/files_to_install"
-  elif recorded_files "$work/record" | grep -qxF -- "$prefix/bin/$1"; then
-    refuse 70 "$prefix/bin/$1 can't be replaced, since $2: '$0 $3' proves and builds it; or uninstall first"
-  else
-    say "$1 is left out, since $2: '$0 $3' proves and builds it"
-  fi
-}
-
-list_files() {
-  take_files deolmutt "$(why_no_mail)" "build mail"
-  take_files maildir_cli "$(why_stale)" build
-  take_files maildir_judge "$(why_no_judge)" "build judge"
-  [ -s "$work/files_to_install" ] || refuse 70 "nothing is installed, since no program is built"
-}
 
 # Calls a function with the mode, the source and the target of each file.
 each_file() {
   while read -r mode from to; do
     "$1" "$mode" "$top/$from" "$prefix/$to"
-  done <"$work/files_to_install"
+  done <"$files"
 }
 
 # Refuses where a file to install is missing, or where one has its place that no install has put there as it is now.
@@ -94,7 +76,7 @@ open_install() {
   is_installed=
   open_work
   trap close_install EXIT
-  for name in record folders files placed files_to_install; do : >"$work/$name"; done
+  for name in record folders files placed; do : >"$work/$name"; done
   [ ! -e "$manifest" ] || { check_record "$manifest" && cp "$manifest" "$work/record"; }
   umask 022
 }
@@ -109,10 +91,11 @@ bring_record() {
   } >"$manifest.new.$$" || refuse 73 "$manifest: can't be written: nothing is installed"
 }
 
-install_programs() {
+install_program() {
+  why=$(why_stale)
+  [ -z "$why" ] || refuse 70 "nothing is installed, since $why: '$0 build' proves and builds it"
   set_manifest
   open_install
-  list_files
   each_file check_file
   each_file bring_file
   bring_record

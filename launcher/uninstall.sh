@@ -11,7 +11,7 @@ remove_file() {
   fi
 }
 
-uninstall_programs() {
+uninstall_program() {
   set_manifest
   [ -e "$manifest" ] || refuse 66 "$manifest: is not there, so nothing is installed below $prefix"
   check_record "$manifest"

@@ -1,21 +1,21 @@
-# Playing a script by a program that is compiled for this one run, with no proof.
+# Running the program while it has no build that is up to date.
 
 # A longer script is refused by the program. rt would cut it at this length, and would take a pause of standard input for its end, so the
-# script is copied first.
+# input is copied first.
 most_bytes=67108864
 
-copy_script() {
-  head -c $((most_bytes + 1)) >"$work/script"
+copy_input() {
+  head -c $((most_bytes + 1)) >"$work/input"
 }
 
-take_script() {
+take_input() {
   if [ -n "$file" ]; then
-    copy_script <"$file" || refuse 74 "$file: can't be copied"
+    copy_input <"$file" || refuse 74 "$file: can't be copied"
   else
-    [ ! -t 0 ] || say "the script is read from the terminal, up to Ctrl-D"
-    copy_script || refuse 74 "standard input can't be copied"
+    [ ! -t 0 ] || say "standard input is read from the terminal, up to Ctrl-D"
+    copy_input || refuse 74 "standard input can't be copied"
   fi
-  [ "$(wc -c <"$work/script")" -le "$most_bytes" ] || refuse 65 "the script is longer than $most_bytes bytes"
+  [ "$(wc -c <"$work/input")" -le "$most_bytes" ] || refuse 65 "the input is longer than $most_bytes bytes"
 }
 
 # What the program printed, and what it said on standard error: all but the lines of rt around it.
@@ -28,18 +28,16 @@ print_run() {
 refuse_unanswered() {
   reason=$(sed -n 's/^checked: no-answer: //p' "$work/log")
   [ -n "$reason" ] || cat "$work/log" >&2
-  refuse 70 "the unproved run gave no answer${reason:+: $reason}; '$0 build' builds the script program"
+  refuse 70 "the unproved run gave no answer${reason:+: $reason}; '$0 build' builds deolmutt"
 }
 
-# Plays the script by the words of a command, after why the build isn't used.
-play_unproved() {
-  why=$1
-  shift
+# Runs a program that is compiled for this one run, with no proof. It is in a folder of its own, and has but its standard input.
+run_unproved() {
   require_rt
-  say "this run is not proved yet, since $why: ${remedy:-'$0 build' proves and builds the script program}"
+  say "this run is not proved yet, since $why: $remedy"
   open_work
-  take_script
-  start_rt "${runs:-maildir_cli}" "$work/script" "$work/out" try -- "$@"
+  take_input
+  start_rt deolmutt "$work/input" "$work/out" try -- "$@"
   join_job
   last=$(tail -n 1 "$work/log")
   case $last in
@@ -48,4 +46,19 @@ play_unproved() {
   esac
   print_run
   exit "$joined"
+}
+
+# Shows help and the version, and runs scripts and logs: run_unbuilt WHY WORD.. Nothing is done with mail.
+run_unbuilt() {
+  why=$1
+  shift
+  remedy="'$0 build' proves and builds it"
+  show_help "$@"
+  case $1 in
+    help) print_help ;;
+    -V | --version) echo "deolmutt $(version_of_words)" ;;
+    play | threads | index | log | judge) run_unproved "$@" ;;
+    *) refuse 70 "$1 can't be run, since $why: $remedy" ;;
+  esac
+  exit
 }

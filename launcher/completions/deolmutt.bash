@@ -4,7 +4,7 @@ _deolmutt() {
     local word=${COMP_WORDS[COMP_CWORD]} before=${COMP_WORDS[COMP_CWORD - 1]} command=${COMP_WORDS[1]-} choices=''
     COMPREPLY=()
     if ((COMP_CWORD == 1)); then
-        choices='make deliver list read seen flag move copy expunge clean check play threads index help -h --help -V --version'
+        choices='make deliver list read seen flag move copy expunge clean check play threads index log judge help -h --help -V --version'
     elif [[ $before == [\<\>]* ]]; then
         compopt -o default 2>/dev/null
     elif [[ $word == -* ]]; then
@@ -12,13 +12,15 @@ _deolmutt() {
             deliver) choices='--folder --from --no-sync --many --print -h --help' ;;
             list) choices='--json --headers -h --help' ;;
             flag) choices='--add --remove -h --help' ;;
+            log) choices='--states -h --help' ;;
+            judge) choices='--lines --json --allow -h --help' ;;
             *) choices='-h --help' ;;
         esac
     elif [[ $command == help ]]; then
-        ((COMP_CWORD == 2)) && choices='make deliver list read seen flag move copy expunge clean check play threads index'
+        ((COMP_CWORD == 2)) && choices='make deliver list read seen flag move copy expunge clean check play threads index log judge'
     else
         case $before in
-            --folder | --from | --add | --remove | =) return 0 ;;
+            --folder | --from | --add | --remove | --allow | =) return 0 ;;
         esac
         case $COMP_CWORD/$command in
             2/read | 2/seen | 2/flag | 2/move | 2/copy | 2/expunge | 3/move | 3/copy | */make | */deliver | */list | */clean | */check) compopt -o dirnames 2>/dev/null ;;

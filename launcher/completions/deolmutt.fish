@@ -15,6 +15,8 @@ complete -c deolmutt -n 'test (count (commandline -opc)) -eq 1' -a check -d 'Pri
 complete -c deolmutt -n 'test (count (commandline -opc)) -eq 1' -a play -d 'Plays the script on standard input'
 complete -c deolmutt -n 'test (count (commandline -opc)) -eq 1' -a threads -d 'Runs the script\'s jobs by N threads, 1 to 16, and prints their answers and the folders'
 complete -c deolmutt -n 'test (count (commandline -opc)) -eq 1' -a index -d 'Prints the header summaries of the script\'s files that are messages, made by N workers, 1 to 64'
+complete -c deolmutt -n 'test (count (commandline -opc)) -eq 1' -a log -d 'Plays the script on standard input, and prints the log of its directory calls'
+complete -c deolmutt -n 'test (count (commandline -opc)) -eq 1' -a judge -d 'Prints which steps of a log of directory calls break the law of a maildir'
 complete -c deolmutt -n 'test (count (commandline -opc)) -eq 1' -a help -d 'Print this message or the help of the given subcommand(s)'
 complete -c deolmutt -s h -l help -d 'Print help'
 complete -c deolmutt -n 'test (count (commandline -opc)) -eq 1' -s V -l version -d 'Print version'
@@ -27,11 +29,16 @@ complete -c deolmutt -n 'contains -- (commandline -opc)[2] list' -l json -d 'Pri
 complete -c deolmutt -n 'contains -- (commandline -opc)[2] list' -l headers -d 'Adds its size, the second of its date, its sender and its subject'
 complete -c deolmutt -n 'contains -- (commandline -opc)[2] flag' -l add -x -d 'The flags that are added, in place of CHANGE'
 complete -c deolmutt -n 'contains -- (commandline -opc)[2] flag' -l remove -x -d 'The flags that are removed, in place of CHANGE'
+complete -c deolmutt -n 'contains -- (commandline -opc)[2] log' -l states -d 'Adds comments that show each name of each directory after each step'
+complete -c deolmutt -n 'contains -- (commandline -opc)[2] judge' -l lines -d 'Prints LINE CLAUSE for each finding'
+complete -c deolmutt -n 'contains -- (commandline -opc)[2] judge' -l json -d 'Prints an object of JSON for each finding'
+complete -c deolmutt -n 'contains -- (commandline -opc)[2] judge' -l allow -x -d 'Leaves this clause out, as a line `allow CLAUSE` of the log; may be repeated'
 complete -c deolmutt -n 'test (count (commandline -opc)) -eq 2; and contains -- (commandline -opc)[2] make deliver list read seen flag move copy expunge clean check' -a '(__fish_complete_directories (commandline -ct))'
 complete -c deolmutt -n 'test (count (commandline -opc)) -ge 3; and contains -- (commandline -opc)[2] make deliver list clean check' -a '(__fish_complete_directories (commandline -ct))'
 complete -c deolmutt -n 'test (count (commandline -opc)) -eq 3; and contains -- (commandline -opc)[2] move copy' -a '(__fish_complete_directories (commandline -ct))'
 complete -c deolmutt -n 'test (count (commandline -opc)) -ge 3; and contains -- (commandline -opc)[2] read seen flag expunge' -F
 complete -c deolmutt -n 'test (count (commandline -opc)) -ge 4; and contains -- (commandline -opc)[2] move copy' -F
+complete -c deolmutt -n 'test (count (commandline -opc)) -ge 2; and contains -- (commandline -opc)[2] judge' -F
 complete -c deolmutt -n 'test (count (commandline -opc)) -eq 2; and contains -- (commandline -opc)[2] threads' -k -a '(seq 1 16)'
 complete -c deolmutt -n 'test (count (commandline -opc)) -eq 2; and contains -- (commandline -opc)[2] index' -k -a '(seq 1 64)'
-complete -c deolmutt -n 'test (count (commandline -opc)) -eq 2; and contains -- (commandline -opc)[2] help' -k -a 'make deliver list read seen flag move copy expunge clean check play threads index'
+complete -c deolmutt -n 'test (count (commandline -opc)) -eq 2; and contains -- (commandline -opc)[2] help' -k -a 'make deliver list read seen flag move copy expunge clean check play threads index log judge'

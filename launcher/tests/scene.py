@@ -17,10 +17,10 @@ TOP = os.path.dirname(os.path.dirname(HERE))
 TOOLS = '''basename cat chmod cp cut date dirname find grep head mkdir mktemp mv printf readlink rm rmdir sed setsid sha256sum sh sleep sort
 tail touch wc'''.split()
 
-PROGRAM = 'crates/maildir_cli/out/maildir_cli'
-MAIL_PROGRAM = 'crates/deolmutt/out/deolmutt'
+PROGRAM = 'crates/deolmutt/out/deolmutt'
 TOOLCHAIN = 'the toolchain of a test\n'
 SCRIPT = 'folder inbox\nlist inbox\n'
+PLAYED = f'[play]\n{SCRIPT}'
 
 # A crate for each line, as crates.txt has them: fewer than there are, so that a build is quick.
 CRATES = """md_name: thiserror
@@ -31,7 +31,7 @@ maildir_cli: md_core clap
 deolmutt: md_name md_disk clap
 md_disk: md_dirs
 """
-MADE_OF = ['md_name', 'md_dirs', 'md_core', 'maildir_cli']
+MADE_OF = ['md_name', 'md_dirs', 'md_disk', 'deolmutt']
 
 
 def without_rights():
@@ -75,7 +75,7 @@ class Scene(unittest.TestCase):
         self.copy_tree()
         for tool in TOOLS:
             os.symlink(shutil.which(tool), self.path('tools', tool))
-        for fake in ('rt', 'maildir_cli', 'mail'):
+        for fake in ('rt', 'deolmutt'):
             shutil.copy(os.path.join(HERE, 'fake', fake), os.path.join(self.bin, fake))
         self.environment = {
             'PATH': f"{self.bin}:{self.path('tools')}",
@@ -97,7 +97,7 @@ class Scene(unittest.TestCase):
         without_tests = shutil.ignore_patterns('tests', '__pycache__')
         shutil.copytree(os.path.join(TOP, 'launcher'), os.path.join(self.top, 'launcher'), ignore=without_tests)
         os.makedirs(os.path.join(self.top, 'docs'))
-        for file in ('deolmutt', 'docs/maildir_cli.1', 'docs/deolmutt.1'):
+        for file in ('deolmutt', 'docs/deolmutt.1'):
             shutil.copy(os.path.join(TOP, file), os.path.join(self.top, file))
         # A launcher that looks at its job more often makes the tests quicker.
         work = os.path.join(self.top, 'launcher', 'work.sh')
@@ -156,16 +156,9 @@ class Scene(unittest.TestCase):
 
     def build(self):
         """Leaves what `deolmutt build` leaves, which a test of that compares with this."""
-        return self.leave_build(PROGRAM, 'maildir_cli')
-
-    def build_mail(self):
-        """Leaves what `deolmutt build mail` leaves."""
-        return self.leave_build(MAIL_PROGRAM, 'mail')
-
-    def leave_build(self, program, fake):
-        program = os.path.join(self.top, program)
+        program = os.path.join(self.top, PROGRAM)
         os.makedirs(os.path.dirname(program))
-        shutil.copy(os.path.join(self.bin, fake), program)
+        shutil.copy(os.path.join(self.bin, 'deolmutt'), program)
         self.write(f'{program}.built', TOOLCHAIN)
         return program
 

@@ -6,7 +6,8 @@ import subprocess
 import time
 import unittest
 
-from scene import MADE_OF, PROGRAM, SCRIPT, TOOLCHAIN, TOP, Scene, Watch
+from scene import MADE_OF, PLAYED, PROGRAM, TOOLCHAIN, TOP, Scene, Watch
+
 
 class Feed:
     """A pipe by which a test gives the fake toolchain what it prints for a crate."""
@@ -58,7 +59,7 @@ class Build(Scene):
         proved = [name for name, *_ in calls]
         for at, name in enumerate(proved):
             self.assertTrue({it for it in uses[name] if it in uses} <= {*proved[:at]}, name)
-        self.assertEqual(calls[-1], ['maildir_cli', 'run', '--', 'play'])
+        self.assertEqual(calls[-1], ['deolmutt', 'run', '--', '--version'])
         self.assertTrue(all(words == ['lib'] for _, *words in calls[:-1]))
         self.assertEqual(len(proved), len({*proved}))
 
@@ -76,18 +77,18 @@ class Build(Scene):
         self.assertFalse([call for call in self.calls() if ' lib' in call])
 
     def test_a_crate_that_is_not_proved_is_named_with_what_rt_says(self):
-        self.tell('md_core.printed', 'fn md_core::a: proved\nerror: the goal stays open\nfn md_core::b: not proved\nlogic=not-proved\n')
-        self.tell('md_core.status', '1')
+        self.tell('md_disk.printed', 'fn md_disk::a: proved\nerror: the goal stays open\nfn md_disk::b: not proved\nlogic=not-proved\n')
+        self.tell('md_disk.status', '1')
         ran = self.run_launcher('build')
         self.assertEqual((ran.returncode, ran.stdout), (70, ''))
-        self.assertIn('error: the goal stays open\nfn md_core::b: not proved\n', ran.stderr)
-        self.assertNotIn('fn md_core::a: proved', ran.stderr)
-        self.assertTrue(ran.stderr.endswith('deolmutt: md_core was not built: rt ended with status 1\n'))
+        self.assertIn('error: the goal stays open\nfn md_disk::b: not proved\n', ran.stderr)
+        self.assertNotIn('fn md_disk::a: proved', ran.stderr)
+        self.assertTrue(ran.stderr.endswith('deolmutt: md_disk was not built: rt ended with status 1\n'))
         log = os.path.join(self.top, os.path.dirname(PROGRAM), 'build.log')
-        self.assertIn('fn md_core::a: proved', self.read(log))
+        self.assertIn('fn md_disk::a: proved', self.read(log))
         self.assertIn(log, ran.stderr)
         self.assertFalse(os.path.exists(os.path.join(self.top, PROGRAM)))
-        self.assertFalse([call for call in self.calls() if call.startswith('maildir_cli')])
+        self.assertFalse([call for call in self.calls() if call.startswith('deolmutt')])
 
     def test_a_crate_that_was_killed_is_named_with_the_likely_cause(self):
         self.tell('md_dirs.status', '247')
@@ -109,10 +110,18 @@ class Build(Scene):
         running = subprocess.run(['ps', '-eo', 'args'], capture_output=True, text=True, check=True).stdout
         self.assertNotIn(self.bin, running)
 
+    def test_a_change_while_it_is_proved_is_newer(self):
+        self.tell('seconds', '1')
+        building = Watch(self, 'build')
+        self.assertTrue(building.wait_for('crate 2 of'))
+        self.change('md_name')
+        self.assertEqual(building.end(60)[1], 0)
+        self.refused(70, 'older than crates/md_name/src/lib.rt', 'list', 'Mail')
+
     def test_it_needs_no_setsid(self):
         os.remove(self.path('tools', 'setsid'))
         self.assertEqual(self.run_launcher('build').returncode, 0)
-        self.assertEqual(self.run_launcher(self.script()).stdout, f'words: play\n{SCRIPT}')
+        self.assertEqual(self.run_launcher(self.script()).stdout, PLAYED)
 
     def test_a_reader_that_goes_away_ends_it(self):
         self.tell('seconds', '3')

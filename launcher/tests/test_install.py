@@ -1,6 +1,5 @@
 """Installing below a prefix, and taking back exactly that."""
 
-import functools
 import hashlib
 import os
 import shutil
@@ -8,23 +7,19 @@ import stat
 import subprocess
 import unittest
 
-from scene import MAIL_PROGRAM, PROGRAM, Scene, without_rights
+from scene import PLAYED, PROGRAM, SCRIPT, Scene, without_rights
 
 MANIFEST = 'share/deolmutt/manifest'
 
 
-def files_of(name, program):
-    """What is installed of a program, as users expect it below a prefix, and where each file comes from."""
-    return {
-        f'bin/{name}': program,
-        f'share/man/man1/{name}.1': f'docs/{name}.1',
-        f'share/bash-completion/completions/{name}': f'launcher/completions/{name}.bash',
-        f'share/zsh/site-functions/_{name}': f'launcher/completions/_{name}',
-        f'share/fish/vendor_completions.d/{name}.fish': f'launcher/completions/{name}.fish',
-    }
-
-
-INSTALLED, MAIL = files_of('maildir_cli', PROGRAM), files_of('deolmutt', MAIL_PROGRAM)
+# What is installed, as users expect it below a prefix, and where each file comes from.
+INSTALLED = {
+    'bin/deolmutt': PROGRAM,
+    'share/man/man1/deolmutt.1': 'docs/deolmutt.1',
+    'share/bash-completion/completions/deolmutt': 'launcher/completions/deolmutt.bash',
+    'share/zsh/site-functions/_deolmutt': 'launcher/completions/_deolmutt',
+    'share/fish/vendor_completions.d/deolmutt.fish': 'launcher/completions/deolmutt.fish',
+}
 
 
 class Prefixed(Scene):
@@ -66,11 +61,10 @@ class Prefixed(Scene):
         self.assertIn(text, ran.stderr.splitlines()[-1])
         self.assertEqual(self.tree() if os.path.isdir(self.prefix) else None, before)
 
-    def assert_installed(self, expected=None):
-        expected = expected or INSTALLED
+    def assert_installed(self):
         files = {path: text for path, text in self.tree().items() if text is not None}
-        self.assertEqual({*files}, {*expected, MANIFEST})
-        for path, source in expected.items():
+        self.assertEqual({*files}, {*INSTALLED, MANIFEST})
+        for path, source in INSTALLED.items():
             self.assertEqual(files[path], self.read(os.path.join(self.top, source)))
             mode = 0o755 if path.startswith('bin/') else 0o644
             self.assertEqual(stat.S_IMODE(os.stat(self.below(path)).st_mode), mode, path)
@@ -87,8 +81,8 @@ class Install(Prefixed):
         said = self.install().stdout.splitlines()
         self.assert_installed()
         self.assertEqual(said, [f'installed {self.below(path)}' for path in (*INSTALLED, MANIFEST)])
-        ran = subprocess.run([self.below('bin', 'maildir_cli'), 'play'], input='list\n', capture_output=True, text=True, check=True)
-        self.assertEqual(ran.stdout, 'words: play\nlist\n')
+        ran = subprocess.run([self.below('bin', 'deolmutt'), 'play'], input=SCRIPT, capture_output=True, text=True, env=self.environment, check=True)
+        self.assertEqual(ran.stdout, PLAYED)
         said = self.uninstall().stdout.splitlines()
         self.assertEqual(said, [f'removed {self.below(path)}' for path in (*INSTALLED, MANIFEST)])
         self.assertEqual(self.tree(), {})
@@ -152,7 +146,7 @@ class Install(Prefixed):
         self.install()
         self.install()
         self.assert_installed()
-        page = os.path.join(self.top, 'docs', 'maildir_cli.1')
+        page = os.path.join(self.top, 'docs', 'deolmutt.1')
         self.write(page, self.read(page) + '.\\" newer\n')
         self.install()
         self.assert_installed()
@@ -165,14 +159,14 @@ class Install(Prefixed):
         table = os.path.join(self.top, 'launcher', 'files.txt')
         self.write(table, ''.join(line for line in self.read(table).splitlines(True) if 'fish' not in line))
         self.install()
-        self.assertNotIn('share/fish/vendor_completions.d/maildir_cli.fish', self.tree())
+        self.assertNotIn('share/fish/vendor_completions.d/deolmutt.fish', self.tree())
         self.uninstall()
         self.assertEqual(self.tree(), {})
 
     def test_a_changed_file_is_left(self):
         os.mkdir(self.prefix)
         self.install()
-        changed = 'share/zsh/site-functions/_maildir_cli'
+        changed = 'share/zsh/site-functions/_deolmutt'
         self.write(self.below(changed), 'mine\n')
         self.assert_refused(73, f'{self.below(changed)}: is not from an install, or was changed since', 'install')
         ran = self.uninstall()
@@ -183,16 +177,16 @@ class Install(Prefixed):
     def test_a_file_that_is_gone_is_said(self):
         os.mkdir(self.prefix)
         self.install()
-        os.remove(self.below('bin', 'maildir_cli'))
-        self.assertIn('bin/maildir_cli: is gone already', self.uninstall().stderr)
+        os.remove(self.below('bin', 'deolmutt'))
+        self.assertIn('bin/deolmutt: is gone already', self.uninstall().stderr)
         self.assertEqual(self.tree(), {})
 
     def test_a_link_in_the_place_of_a_file_is_left(self):
         os.mkdir(self.prefix)
         self.install()
-        shutil.move(self.below('bin', 'maildir_cli'), self.path('moved'))
-        os.symlink(self.path('moved'), self.below('bin', 'maildir_cli'))
-        self.assertIn('bin/maildir_cli: was changed since, and is left', self.uninstall().stderr)
+        shutil.move(self.below('bin', 'deolmutt'), self.path('moved'))
+        os.symlink(self.path('moved'), self.below('bin', 'deolmutt'))
+        self.assertIn('bin/deolmutt: was changed since, and is left', self.uninstall().stderr)
         self.assertTrue(os.path.exists(self.path('moved')))
 
     def test_a_foreign_file_is_never_overwritten(self):
@@ -202,7 +196,7 @@ class Install(Prefixed):
                 self.write(self.below(path), 'foreign\n')
                 self.assert_refused(73, f'{self.below(path)}: is not from an install', 'install')
                 shutil.rmtree(self.prefix)
-        program = self.below('bin', 'maildir_cli')
+        program = self.below('bin', 'deolmutt')
         os.makedirs(program)
         self.assert_refused(73, f'{program}: is not from an install', 'install')
         os.rmdir(program)
@@ -236,9 +230,9 @@ class Install(Prefixed):
     def test_a_second_install_that_fails_leaves_the_first(self):
         os.mkdir(self.prefix)
         self.install()
-        self.write(os.path.join(self.top, 'docs', 'maildir_cli.1'), 'newer\n')
+        self.write(os.path.join(self.top, 'docs', 'deolmutt.1'), 'newer\n')
         self.replace_third_move('exit 1')
-        self.assert_refused(73, "share/bash-completion/completions/maildir_cli: can't be written", 'install')
+        self.assert_refused(73, "share/bash-completion/completions/deolmutt: can't be written", 'install')
 
     def test_an_install_that_a_signal_ends_is_taken_back(self):
         os.mkdir(self.prefix)
@@ -259,17 +253,15 @@ class Install(Prefixed):
         os.mkdir(self.prefix)
         self.install()
         os.chmod(self.below('bin'), 0o555)
-        self.assert_refused_without_rights("bin/maildir_cli: can't be taken away", 'uninstall')
+        self.assert_refused_without_rights("bin/deolmutt: can't be taken away", 'uninstall')
 
     def test_a_program_that_is_not_built_is_refused(self):
-        shutil.rmtree(os.path.join(self.top, 'crates', 'maildir_cli', 'out'))
-        self.assert_refused(70, 'nothing is installed, since no program is built', 'install')
-        for command in ('build', 'build mail', 'build judge'):
-            self.assertIn(f"'{self.top}/deolmutt {command}'", self.run_launcher('install').stderr)
+        shutil.rmtree(os.path.join(self.top, 'crates', 'deolmutt', 'out'))
+        self.assert_refused(70, f"nothing is installed, since deolmutt is not built: '{self.top}/deolmutt build'", 'install')
 
     def test_a_file_that_is_missing_here_is_named(self):
-        os.remove(os.path.join(self.top, 'docs', 'maildir_cli.1'))
-        self.assert_refused(66, "docs/maildir_cli.1: can't be read", 'install')
+        os.remove(os.path.join(self.top, 'docs', 'deolmutt.1'))
+        self.assert_refused(66, "docs/deolmutt.1: can't be read", 'install')
 
     def test_where_nothing_is_installed_nothing_is_taken_back(self):
         os.mkdir(self.prefix)
@@ -288,7 +280,7 @@ class Install(Prefixed):
             f'file {total} {self.prefix}/bin/../../victim',
             f'folder {self.scene}',
             f'folder {self.prefix}/../scene',
-            f'file x {self.prefix}/bin/maildir_cli',
+            f'file x {self.prefix}/bin/deolmutt',
             'folder bin',
             'something else',
             '',
@@ -315,79 +307,19 @@ class Install(Prefixed):
         self.assertNotIn('is not on the path', self.install(env=environment).stderr)
 
 
-class Programs(Prefixed):
-    """Which programs are installed: those that are built."""
-
-    def setUp(self):
-        super().setUp()
-        os.mkdir(self.prefix)
-
-    def build_all(self):
-        self.build()
-        self.build_mail()
-
-    def assert_left_out(self, *names):
-        """A line for each program that is left out, with what would build it."""
-        commands = {'deolmutt': 'build mail', 'maildir_cli': 'build', 'maildir_judge': 'build judge'}
-        said = [line for line in self.install().stderr.splitlines() if 'left out' in line]
-        self.assertEqual(len(said), len(names), said)
-        for line, name in zip(said, names):
-            self.assertRegex(line, f'^deolmutt: {name} is left out, since ')
-            self.assertIn(f"'{self.top}/deolmutt {commands[name]}' proves and builds it", line)
-
-    def test_mail_alone(self):
-        self.build_mail()
-        self.assert_left_out('maildir_cli', 'maildir_judge')
-        self.assert_installed(MAIL)
-        run = functools.partial(subprocess.run, input='a message\n', capture_output=True, text=True, env=self.environment, check=True)
-        self.assertEqual(run([self.below('bin', 'deolmutt'), 'deliver', 'Mail']).stdout, '[deliver][Mail]\na message\n')
-        self.uninstall()
-        self.assertEqual(self.tree(), {})
-
-    def test_the_player_alone(self):
-        self.build()
-        self.assert_left_out('deolmutt', 'maildir_judge')
-        self.assert_installed()
-
-    def test_all(self):
-        self.build_all()
-        self.leave_build('crates/maildir_judge/out/maildir_judge', 'maildir_cli')
-        self.assert_left_out()
-        self.assert_installed({**MAIL, **INSTALLED, 'bin/maildir_judge': PROGRAM})
-        self.uninstall()
-        self.assertEqual(self.tree(), {})
-
-    def test_a_program_that_is_built_later_is_added(self):
-        self.build()
-        self.install()
-        self.build_mail()
-        self.install()
-        self.assert_installed({**MAIL, **INSTALLED})
-
-    def test_a_build_that_is_too_old_is_left_out(self):
-        self.build_all()
-        source = os.path.join(self.top, 'crates', 'md_disk', 'src', 'lib.rt')
-        os.utime(source, (2_000_000_000, 2_000_000_000))
-        self.assert_left_out('deolmutt', 'maildir_judge')
-        self.assertIn("the mail program's build is older than crates/md_disk/src/lib.rt", self.install().stderr)
-        self.assert_installed()
+    def test_a_build_that_is_too_old_is_refused(self):
+        self.change('md_disk')
+        why = "deolmutt's build is older than crates/md_disk/src/lib.rt"
+        self.assert_refused(70, f"nothing is installed, since {why}: '{self.top}/deolmutt build' proves and builds it", 'install')
 
     def test_what_is_installed_does_not_go_for_want_of_a_build(self):
-        self.build_all()
         self.install()
         shutil.rmtree(os.path.join(self.top, 'crates', 'deolmutt', 'out'))
-        self.assert_refused(70, f"{self.below('bin', 'deolmutt')} can't be replaced, since the mail program is not built", 'install')
-        self.assert_refused(70, f"'{self.top}/deolmutt build mail' proves and builds it", 'install')
-        self.build_mail()
-        shutil.rmtree(os.path.join(self.top, 'crates', 'maildir_cli', 'out'))
-        self.assert_refused(70, f"{self.below('bin', 'maildir_cli')} can't be replaced, since the script program is not built", 'install')
-        self.uninstall()
-        self.install()
-        self.assert_installed(MAIL)
+        self.assert_refused(70, 'nothing is installed, since deolmutt is not built', 'install')
+        self.assertEqual(self.read(self.below('bin', 'deolmutt')), self.read(os.path.join(self.bin, 'deolmutt')))
 
-    def test_a_foreign_deolmutt_is_never_overwritten(self):
-        self.build_all()
-        os.mkdir(self.below('bin'))
+    def test_a_link_to_the_launcher_is_never_overwritten(self):
+        os.makedirs(self.below('bin'))
         os.symlink(os.path.join(self.top, 'deolmutt'), self.below('bin', 'deolmutt'))
         self.assert_refused(73, f"{self.below('bin', 'deolmutt')}: is not from an install", 'install')
 

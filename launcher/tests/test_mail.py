@@ -4,7 +4,7 @@ import os
 import subprocess
 import unittest
 
-from scene import MAIL_PROGRAM, SCRIPT, TOP, TOOLCHAIN, Scene, Watch, posix_shells
+from scene import SCRIPT, TOP, Scene, posix_shells
 
 COMMANDS = ('make', 'deliver', 'list', 'read', 'seen', 'flag', 'move', 'copy', 'expunge', 'clean', 'check')
 
@@ -13,7 +13,7 @@ class Unbuilt(Scene):
 
     def test_nothing_is_run_and_the_remedy_is_named(self):
         for command in COMMANDS:
-            text = f"{command} can't be run, since the mail program is not built: '{self.top}/deolmutt build mail' proves and builds it"
+            text = f"{command} can't be run, since deolmutt is not built: '{self.top}/deolmutt build' proves and builds it"
             self.refused(70, text, command, 'Mail')
         self.assertEqual(self.calls(), [])
 
@@ -26,7 +26,7 @@ class Unbuilt(Scene):
 
     def test_a_missing_toolchain_is_not_asked_for(self):
         os.remove(os.path.join(self.bin, 'rt'))
-        self.refused(70, 'the mail program is not built', 'list', 'Mail')
+        self.refused(70, 'deolmutt is not built', 'list', 'Mail')
 
     def test_help_is_the_launcher_s(self):
         expected = self.run_launcher('--help').stdout
@@ -40,14 +40,14 @@ class Built(Scene):
 
     def setUp(self):
         super().setUp()
-        self.program = self.build_mail()
+        self.program = self.build()
 
     def assert_runs(self, *words, **how):
         ran = self.run_launcher(*words, input=SCRIPT, **how)
         self.assertEqual((ran.returncode, ran.stdout, ran.stderr), (0, ''.join(f'[{word}]' for word in words) + '\n' + SCRIPT, ''))
 
     def assert_stale(self, why):
-        self.refused(70, f"list can't be run, since the mail program's build is {why}: '{self.top}/deolmutt build mail'", 'list', 'Mail')
+        self.refused(70, f"list can't be run, since deolmutt's build is {why}: '{self.top}/deolmutt build'", 'list', 'Mail')
         self.assertFalse([call for call in self.calls() if ' try ' in call])
 
     def test_words_pass_as_they_are(self):
@@ -67,27 +67,19 @@ class Built(Scene):
 
     def test_the_status_is_that_of_the_program(self):
         for status in (64, 65, 75):
-            self.tell('mail-status', str(status))
+            self.tell('program-status', str(status))
             self.assertEqual(self.run_launcher('read', 'Mail', 'x').returncode, status)
 
-    def test_help_is_the_program_s(self):
-        ran = self.run_launcher('help', 'flag')
-        self.assertEqual((ran.returncode, ran.stdout, ran.stderr), (0, '[help][flag]\n', ''))
-        self.assertIn('threads N [FILE]', self.run_launcher('help', 'threads').stdout)
-        self.assertIn('threads N [FILE]', self.run_launcher('help').stdout)
-
-    def test_it_is_found_from_anywhere(self):
-        link = self.path('a link')
-        os.symlink('a tree/deolmutt', link)
-        self.assert_runs('list', 'Mail', launcher=link)
-        self.assert_runs('list', 'Mail', launcher='../../deolmutt', cwd=os.path.join(self.top, 'crates', 'md_core'))
+    def test_help_and_the_version_are_the_program_s(self):
+        for words in (('help', 'flag'), ('help',), ('--help',), ('-h',), ('-V',), ('--version',), ('play', '--help'), ('nonsense',)):
+            self.assert_runs(*words) if words[0] != 'play' else self.assertEqual(self.run_launcher(*words).stdout, '[play][--help]\n')
 
     def test_a_file_may_have_the_name_of_a_command(self):
-        self.build()
         for name in COMMANDS:
             self.script(name)
-            for words in (('play', name), (f'./{name}',), ('--', name)):
-                self.assertEqual(self.run_launcher(*words).stdout, f'words: play\n{SCRIPT}')
+            self.assert_runs(name)
+            for words in (('play', name), (f'./{name}',)):
+                self.assertEqual(self.run_launcher(*words).stdout, f'[play]\n{SCRIPT}')
 
     def test_it_is_not_used_after_a_change(self):
         self.change('md_core')
@@ -101,12 +93,6 @@ class Built(Scene):
         os.remove(os.path.join(self.bin, 'rt'))
         self.assert_runs('list', 'Mail')
 
-    def test_a_build_of_the_gate_goes_by_its_own_time(self):
-        os.remove(f'{self.program}.built')
-        self.assert_runs('list', 'Mail')
-        self.change('md_disk')
-        self.assert_stale('older than crates/md_disk/src/lib.rt')
-
     def test_any_posix_shell_will_do(self):
         for shell, flags in posix_shells():
             with self.subTest(shell=shell):
@@ -114,43 +100,14 @@ class Built(Scene):
                 self.assertEqual((ran.returncode, ran.stdout, ran.stderr), (0, '[list][a b]\n', ''))
 
 
-class Build(Scene):
-
-    def test_it_is_built_crate_by_crate(self):
-        ran = self.run_launcher('build', 'mail')
-        self.assertEqual(self.calls(), ['md_name lib', 'md_dirs lib', 'md_disk lib', 'deolmutt run -- --version'], ran.stderr)
-        self.assertIn('proved and built 4 crates', ran.stderr)
-        self.assertEqual(self.read(os.path.join(self.top, f'{MAIL_PROGRAM}.built')), TOOLCHAIN)
-        self.assertEqual(self.run_launcher('list', 'Mail').stdout, '[list][Mail]\n')
-        again = self.run_launcher('build', 'mail')
-        self.assertIn('the mail program is built, and nothing that it is made of has changed since', again.stderr)
-        self.assertEqual(len(self.calls()), 4)
-
-    def test_the_player_is_another_build(self):
-        self.run_launcher('build')
-        self.refused(70, 'the mail program is not built', 'list', 'Mail')
-        self.assertFalse([call for call in self.calls() if call.startswith('deolmutt ')])
-
-    def test_one_program_at_a_time(self):
-        self.refused(64, 'judge is a word too many', 'build', 'mail', 'judge')
-
-    def test_a_change_while_it_is_proved_is_newer(self):
-        self.tell('seconds', '1')
-        building = Watch(self, 'build', 'mail')
-        self.assertTrue(building.wait_for('crate 2 of'))
-        self.change('md_name')
-        self.assertEqual(building.end(60)[1], 0)
-        self.refused(70, 'older than crates/md_name/src/lib.rt', 'list', 'Mail')
-
-
 class Table(unittest.TestCase):
 
     def test_no_word_is_two_commands(self):
         with open(os.path.join(TOP, 'launcher', 'words.txt'), encoding='utf-8') as file:
-            rows = [line.split(':') for line in file if line.startswith(('command:', 'mail:'))]
+            rows = [line.split(':') for line in file if line.startswith(('command:', 'mail:', 'log:'))]
         words = [row[1] for row in rows]
         self.assertEqual([row[1] for row in rows if row[0] == 'mail'], [*COMMANDS])
-        taken = [*words, 'help', 'judge', 'build', 'install', 'uninstall']
+        taken = [*words, 'help', 'build', 'install', 'uninstall']
         self.assertEqual(len(taken), len({*taken}))
 
 

@@ -19,29 +19,24 @@ MAIL_MANUAL = os.path.join(TOP, 'docs', 'deolmutt.1')
 PROGRAM = os.path.join(TOP, 'crates', 'maildir_cli', 'out', 'maildir_cli')
 MAIL_PROGRAM = os.path.join(TOP, 'crates', 'deolmutt', 'out', 'deolmutt')
 
-MAIL = ['make', 'deliver', 'list', 'read', 'seen', 'flag', 'move', 'copy', 'expunge', 'clean', 'check', 'play', 'threads', 'index']
+COMMANDS = 'make deliver list read seen flag move copy expunge clean check play threads index log judge'.split()
 
 # What a user may type, and what completes it. A folder has the folder `box` and the file `a file` in it.
 COMPLETED = (
-    ('maildir_cli ', ['play', 'threads', 'index', 'help']),
-    ('maildir_cli th', ['threads']),
-    ('maildir_cli --', ['--help', '--version']),
-    ('maildir_cli threads ', [str(number) for number in range(1, 17)]),
-    ('maildir_cli threads 1', ['1', '10', '11', '12', '13', '14', '15', '16']),
-    ('maildir_cli index 6', ['6', '60', '61', '62', '63', '64']),
-    ('maildir_cli help ', ['play', 'threads', 'index']),
-    ('maildir_cli play --', ['--help']),
-    ('maildir_cli threads 2 ', []),
-    ('maildir_cli play ', []),
-    ('deolmutt ', [*MAIL, 'help']),
+    ('deolmutt ', [*COMMANDS, 'help']),
     ('deolmutt cl', ['clean']),
+    ('deolmutt threads ', [str(number) for number in range(1, 17)]),
+    ('deolmutt index 6', ['6', '60', '61', '62', '63', '64']),
     ('deolmutt threads 1', ['1', '10', '11', '12', '13', '14', '15', '16']),
     ('deolmutt --', ['--help', '--version']),
-    ('deolmutt help ', MAIL),
+    ('deolmutt help ', COMMANDS),
     ('deolmutt deliver --', ['--folder', '--from', '--no-sync', '--many', '--print', '--help']),
     ('deolmutt list box --', ['--json', '--headers', '--help']),
     ('deolmutt flag --r', ['--remove']),
     ('deolmutt clean --', ['--help']),
+    ('deolmutt judge --', ['--lines', '--json', '--allow', '--help']),
+    ('deolmutt log --', ['--states', '--help']),
+    ('deolmutt judge --allow ', []),
     ('deolmutt help list ', []),
     ('deolmutt deliver box --folder ', []),
 )
@@ -51,6 +46,7 @@ PLACES = (
     ('deolmutt move box ', 'dirnames', ['box/']),
     ('deolmutt read ', 'dirnames', ['box/']),
     ('deolmutt read box ', 'default', ['a file', 'box/']),
+    ('deolmutt judge ', 'default', ['a file', 'box/']),
     ('deolmutt move box box ', 'default', ['a file', 'box/']),
 )
 
@@ -114,9 +110,9 @@ class Made(unittest.TestCase):
 
     def test_a_page_that_was_edited_is_named(self):
         self.change('docs/maildir_cli.1', 'Print version.', 'Prints it.')
-        self.change('launcher/completions/maildir_cli.bash', '{1..16}', '{1..17}')
+        self.change('launcher/completions/deolmutt.bash', '{1..16}', '{1..17}')
         self.change('launcher/completions/_deolmutt', 'Changes the flags', 'Turns the flags')
-        edited = ('launcher/completions/maildir_cli.bash', 'launcher/completions/_deolmutt', 'docs/maildir_cli.1')
+        edited = ('launcher/completions/deolmutt.bash', 'launcher/completions/_deolmutt', 'docs/maildir_cli.1')
         self.assertEqual(self.check(), (1, [f'{path}: not as launcher/make-pages makes it' for path in edited]))
 
     def test_a_word_that_the_program_does_not_say_is_named(self):
@@ -126,13 +122,13 @@ class Made(unittest.TestCase):
         self.assertIn('words.txt: the source of maildir_cli does not say "Runs the script on standard input"', faults)
 
     def test_a_word_that_the_mail_program_does_not_say_is_named(self):
-        changes = {'Prints the bytes': 'Shows the bytes', 'list --json': 'list --jsn', 'add:LETTERS': 'add:FLAGS', 'mail:seen': 'mail:see'}
+        changes = {'Prints the bytes': 'Shows the bytes', 'list --headers': 'list --hders', 'add:LETTERS': 'add:FLAGS', 'mail:seen': 'mail:see'}
         for old, new in changes.items():
             self.change('launcher/words.txt', old, new)
         faults = self.check()[1]
-        for word in ('Shows the bytes of a message', 'jsn', 'FLAGS', 'see'):
+        for word in ('Shows the bytes of a message', 'hders', 'FLAGS', 'see'):
             self.assertIn(f'words.txt: the source of deolmutt does not say "{word}"', faults)
-        for word in ('json', 'seen'):
+        for word in ('headers', 'seen'):
             self.assertIn(f'words.txt: the command or option "{word}" of the source is missing', faults)
 
     def test_a_range_that_the_program_does_not_say_is_named(self):
@@ -157,15 +153,15 @@ class Made(unittest.TestCase):
     def test_the_mail_program_s_help_has_the_same_words(self):
         said = printed_by(MAIL_PROGRAM, '--help').partition('Commands:')[2].partition('\n\nBOX ')[0]
         shown = re.findall(r'^  (-\w, --\w+|[a-z]+)  +(\S.*)$', said, re.M)
-        rows = [*rows_of('mail'), *rows_of('command'), *rows_of('clap')]
+        rows = [row for kind in ('mail', 'command', 'log', 'clap') for row in rows_of(kind)]
         self.assertEqual([(row[1], row[4]) for row in rows], shown)
 
     @unittest.skipUnless(os.access(MAIL_PROGRAM, os.X_OK), 'the mail program is not built')
     def test_the_help_of_each_mail_command_has_its_options(self):
-        for command in MAIL:
+        for command in COMMANDS:
             said = printed_by(MAIL_PROGRAM, 'help', command).partition('\nOptions:\n')[2]
             shown = re.findall(r'^ +(?:-\w, )?(--[a-z-]+) ?(?:<(\w+)>)? +(\S.*)$', said, re.M)
-            expected = [(row[1].split()[1], row[2], row[4]) for row in rows_of('mail-option') if row[1].split()[0] == command]
+            expected = [(row[1].split()[1], row[2], row[4]) for row in rows_of('option') if row[1].split()[0] == command]
             self.assertEqual([row for row in shown if row[0] != '--help'], expected, command)
 
 
@@ -192,9 +188,11 @@ class Manual(unittest.TestCase):
         shown = self.shown(MAIL_MANUAL)
         self.assertIn(f'Deolmutt {rows_of("version")[0][1]}', shown)
         commands = shown.partition('\nCOMMANDS\n')[2].partition('\nEXIT STATUS\n')[0]
-        for row in rows_of('mail'):
-            self.assertRegex(commands, rf'(?m)^ +{re.escape(f"{row[1]} {row[2]}".replace("...", " ..."))}( |$)')
-        for row in rows_of('mail-option'):
+        for row in (*rows_of('mail'), *rows_of('command')):
+            self.assertRegex(commands, rf'(?m)^ +{re.escape(f"{row[1]} {row[2]}".replace("...", " ...").strip())}( |$)')
+        for row in rows_of('log'):
+            self.assertRegex(commands, rf'(?m)^ +{row[1]}( |$)')
+        for row in rows_of('option'):
             self.assertRegex(' '.join(commands.split()), rf' {row[1].split()[1]} {row[2]}\b')
 
 
@@ -235,7 +233,7 @@ class Bash(unittest.TestCase):
 
     def test_after_a_redirection_a_file_is_meant(self):
         need('bash')
-        for line in ('maildir_cli play < ', 'deolmutt deliver box < '):
+        for line in ('deolmutt play < ', 'deolmutt deliver box < '):
             ran = self.complete(line)
             self.assertEqual((ran.stdout.split(), ran.stderr.split()), ([], ['default']))
 
@@ -273,7 +271,7 @@ class Zsh(unittest.TestCase):
         furnish(room)
         # Each shell writes its completions' names here.
         begin = f"fpath=({COMPLETIONS!r} $fpath); autoload -Uz compinit; compinit -u -d '{room}/dump'; "
-        begin += "unsetopt prompt_sp; LISTMAX=1000; maildir_cli deolmutt() print -r -- \"RAN: $* .\"; PS1='READY> '"
+        begin += "unsetopt prompt_sp; LISTMAX=1000; deolmutt() print -r -- \"RAN: $* .\"; PS1='READY> '"
         self.ours, theirs = pty.openpty()
         environment = {**os.environ, 'TERM': 'dumb', 'ZDOTDIR': room}
         how = {'stdin': theirs, 'stdout': theirs, 'stderr': theirs, 'start_new_session': True, 'cwd': room}
@@ -301,10 +299,8 @@ class Zsh(unittest.TestCase):
     def test_words_are_completed(self):
         # The slash that ends the name of a folder goes again where the line ends after it.
         for keys, words in (
-            ('maildir_cli th\t', 'threads'),
-            ('maildir_cli --v\t', '--version'),
-            ('maildir_cli help in\t', 'help index'),
-            ('maildir_cli threads --h\t', 'threads --help'),
+            ('deolmutt help in\t', 'help index'),
+            ('deolmutt threads --h\t', 'threads --help'),
             ('deolmutt cl\t', 'clean'),
             ('deolmutt --v\t', '--version'),
             ('deolmutt help de\t', 'help deliver'),
@@ -314,16 +310,17 @@ class Zsh(unittest.TestCase):
             ('deolmutt copy box b\t', 'copy box box'),
             ('deolmutt flag --rem\tS box a\t', 'flag --remove=S box a file'),
             ('deolmutt deliver --m\tb\t', 'deliver --many box'),
+            ('deolmutt judge --l\ta\t', 'judge --lines a file'),
         ):
             with self.subTest(keys=keys):
                 self.assertIn(f'RAN: {words} .', self.type(f'{keys}\n', f'RAN: {words} .'))
 
     def test_numbers_are_listed(self):
         # A tab lists what is possible where that is not one word, and Control-U takes the line away.
-        said = self.type('maildir_cli index 6\t', '64')
+        said = self.type('deolmutt index 6\t', '64')
         self.assertRegex(said, r'\b6 +60 +61 +62 +63 +64\b')
         self.type('\x15\n', 'READY> ')
-        said = self.type('maildir_cli threads \t', '16')
+        said = self.type('deolmutt threads \t', '16')
         self.assertEqual(re.findall(r'\b\d+\b', said.partition('threads')[2]), [str(number) for number in range(1, 17)])
 
 

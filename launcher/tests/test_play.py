@@ -1,4 +1,4 @@
-"""Playing scripts: unproved while there is no build, and by the build from then on."""
+"""Scripts and logs: unproved while there is no build, and by the build from then on."""
 
 import os
 import pty
@@ -7,27 +7,34 @@ import subprocess
 import time
 import unittest
 
-from scene import SCRIPT, Scene, Watch, posix_shells, without_rights
+from scene import PLAYED, SCRIPT, Scene, Watch, posix_shells, without_rights
 
 NOT_PROVED = 'this run is not proved yet'
 NAMES = ('a b', '-odd', '--help', '*', "it's", 'two\nlines', '$HOME', 'ü', 'play', 'build', '(')
+COMMANDS = (('play',), ('threads', '2'), ('index', '64'), ('log',), ('log', '--states'), ('judge',), ('judge', '--lines', '--allow', 'Gone'))
+
+
+def shown(words):
+    """What the fake program prints of a script."""
+    return ''.join(f'[{word}]' for word in words) + f'\n{SCRIPT}'
 
 
 class Unproved(Scene):
 
     def test_it_says_so_and_what_proves_it(self):
         ran = self.run_launcher(self.script())
-        self.assertEqual((ran.returncode, ran.stdout), (0, f'words: play\n{SCRIPT}'))
+        self.assertEqual((ran.returncode, ran.stdout), (0, PLAYED))
         self.assertEqual(ran.stderr.count('\n'), 1)
         self.assertIn(NOT_PROVED, ran.stderr)
         self.assertIn(f"'{self.top}/deolmutt build'", ran.stderr)
-        self.assertEqual(self.calls(), ['maildir_cli try -- play'])
+        self.assertEqual(self.calls(), ['deolmutt try -- play'])
 
     def test_commands_have_their_words(self):
         script = self.script()
-        for words in (('threads', '2'), ('index', '64'), ('play',)):
-            self.assertEqual(self.run_launcher(*words, script).stdout, f"words: {' '.join(words)}\n{SCRIPT}")
-        self.assertEqual(self.calls(), [f'maildir_cli try -- {words}' for words in ('threads 2', 'index 64', 'play')])
+        for words in COMMANDS:
+            self.assertEqual(self.run_launcher(*words, script).stdout, shown(words))
+        self.assertEqual(self.run_launcher('judge', '--allow', 'Gone', input=SCRIPT).stdout, shown(('judge', '--allow', 'Gone')))
+        self.assertEqual(self.calls(), [f"deolmutt try -- {' '.join(words)}" for words in (*COMMANDS, ('judge', '--allow', 'Gone'))])
 
     def test_a_tree_that_cannot_be_written_will_do(self):
         os.chmod(self.scene, 0o777)
@@ -35,7 +42,7 @@ class Unproved(Scene):
             os.chmod(folder, 0o555)
         words = [*without_rights(), os.path.join(self.top, 'deolmutt'), self.script()]
         ran = subprocess.run(words, capture_output=True, text=True, env=self.environment, cwd='/', check=False)
-        self.assertEqual((ran.returncode, ran.stdout, ran.stderr.count('\n')), (0, f'words: play\n{SCRIPT}', 1), ran.stderr)
+        self.assertEqual((ran.returncode, ran.stdout, ran.stderr.count('\n')), (0, PLAYED, 1), ran.stderr)
 
     def test_a_missing_temporary_folder_is_named(self):
         ran = self.run_launcher(self.script(), env={**self.environment, 'TMPDIR': self.path('not there')})
@@ -44,7 +51,7 @@ class Unproved(Scene):
 
     def test_it_ends_with_the_status_of_the_program(self):
         ran = self.run_launcher(self.script(text='folder i\nrefused\nlist i\n'))
-        self.assertEqual((ran.returncode, ran.stdout), (1, 'words: play\nfolder i\n'))
+        self.assertEqual((ran.returncode, ran.stdout), (1, '[play]\nfolder i\n'))
         self.assertEqual(ran.stderr.splitlines()[1:], ['line 2: bad command'])
 
     def test_where_rt_has_no_answer_it_is_not_the_program_that_refused(self):
@@ -62,7 +69,7 @@ class Unproved(Scene):
             os.write(theirs, part.encode())
             time.sleep(0.2)
         os.close(theirs)
-        self.assertEqual(watch.end(), ('words: play\nfolder inbox\n', 0))
+        self.assertEqual(watch.end(), ('[play]\nfolder inbox\n', 0))
         self.assertEqual(self.read(os.path.join(self.scene, 'input')), 'folder inbox\nlist inbox')
 
     def test_a_script_may_be_typed(self):
@@ -70,7 +77,7 @@ class Unproved(Scene):
         watch = Watch(self, 'play', stdin=theirs)
         self.assertTrue(watch.wait_for('read from the terminal, up to Ctrl-D'))
         os.write(ours, b'list inbox\n\x04')
-        self.assertEqual(watch.end(), ('words: play\nlist inbox\n', 0))
+        self.assertEqual(watch.end(), ('[play]\nlist inbox\n', 0))
         os.close(ours)
         os.close(theirs)
 
@@ -100,37 +107,32 @@ class Built(Scene):
         super().setUp()
         self.program = self.build()
 
-    def assert_plays(self, *words, expected='words: play\n' + SCRIPT, **how):
+    def assert_plays(self, *words, expected=PLAYED, **how):
         ran = self.run_launcher(*words, **how)
         self.assertEqual((ran.returncode, ran.stdout, ran.stderr), (0, expected, ''))
 
     def assert_stale(self, why):
         ran = self.run_launcher(self.script())
-        self.assertEqual((ran.returncode, ran.stdout), (0, f'words: play\n{SCRIPT}'))
+        self.assertEqual((ran.returncode, ran.stdout), (0, PLAYED))
         self.assertIn(NOT_PROVED, ran.stderr)
         self.assertIn(why, ran.stderr)
 
     def test_commands_have_their_words(self):
         script = self.script()
         self.assert_plays(script)
-        self.assert_plays('play', script)
-        self.assert_plays('threads', '16', script, expected='words: threads 16\n' + SCRIPT)
-        self.assert_plays('threads', '+02', script, expected='words: threads +02\n' + SCRIPT)
-        self.assert_plays('index', '64', script, expected='words: index 64\n' + SCRIPT)
-        for words in (('play',), ('play', '-'), ('-',), ('play', '--')):
-            self.assert_plays(*words, input=SCRIPT)
-        self.assert_plays('index', '1', input=SCRIPT, expected='words: index 1\n' + SCRIPT)
+        for words in COMMANDS:
+            self.assert_plays(*words, script, expected=shown(words))
+            self.assert_plays(*words, input=SCRIPT, expected=shown(words))
+        for words in (('threads', script), ('threads', '+02', '--'), ('play', '-'), ('judge', script, '--lines'), ('judge', '--allow', script)):
+            self.assert_plays(*words, input=SCRIPT, expected=shown(words))
         self.assertFalse([call for call in self.calls() if ' try ' in call])
 
     def test_files_may_have_any_name(self):
         for name in NAMES:
             with self.subTest(name=name):
                 self.script(name)
-                self.assert_plays('--', name)
-                self.assert_plays('play', '--', name)
+                self.assert_plays('play', f'./{name}')
                 self.assert_plays(f'./{name}')
-        self.script('-')
-        self.assert_plays('--', '-')
 
     def test_it_is_found_from_anywhere(self):
         script = self.script()
@@ -140,9 +142,9 @@ class Built(Scene):
         link = self.path('a link')
         os.symlink('a tree/deolmutt', link)
         self.assert_plays('a script', launcher=link)
-        os.symlink(link, os.path.join(self.bin, 'deolmutt'))
-        self.assert_plays('a script', launcher=os.path.join(self.bin, 'deolmutt'))
-        self.assert_plays('-c', 'deolmutt "a script"', launcher='/bin/sh')
+        os.symlink(link, os.path.join(self.bin, 'front'))
+        self.assert_plays('a script', launcher=os.path.join(self.bin, 'front'))
+        self.assert_plays('-c', 'front "a script"', launcher='/bin/sh')
 
     def test_any_posix_shell_will_do(self):
         for shell, flags in posix_shells():
@@ -159,8 +161,8 @@ class Built(Scene):
         self.assertEqual((ran.returncode, ran.stderr), (1, 'line 1: bad command\n'))
 
     def test_it_is_not_used_after_a_change(self):
-        self.change('md_core')
-        self.assert_stale('older than crates/md_core/src/lib.rt')
+        self.change('md_disk')
+        self.assert_stale('older than crates/md_disk/src/lib.rt')
 
     def test_it_is_not_used_after_a_file_went(self):
         time.sleep(0.01)
@@ -172,22 +174,19 @@ class Built(Scene):
         self.assert_stale("by another toolchain")
 
     def test_it_is_used_after_a_change_that_it_is_not_made_of(self):
-        self.change('md_name_tests')
+        for crate in ('md_name_tests', 'md_core', 'maildir_cli'):
+            self.change(crate)
         self.assert_plays(self.script())
 
     def test_it_is_used_without_a_toolchain(self):
         os.remove(os.path.join(self.bin, 'rt'))
         self.assert_plays(self.script())
 
-    def test_a_change_while_it_is_proved_is_newer(self):
-        os.remove(self.program)
-        self.tell('seconds', '1')
-        building = Watch(self, 'build')
-        self.assertTrue(building.wait_for('crate 2 of'))
-        self.change('md_name')
-        self.assertEqual(building.end(60)[1], 0)
-        self.tell('seconds', '0')
-        self.assert_stale('older than crates/md_name/src/lib.rt')
+    def test_a_build_of_the_gate_goes_by_its_own_time(self):
+        os.remove(f'{self.program}.built')
+        self.assert_plays(self.script())
+        self.change('md_disk')
+        self.assert_stale('older than crates/md_disk/src/lib.rt')
 
     def test_output_that_cannot_be_written_is_the_program_s_to_tell(self):
         self.assertNotEqual(self.run_into_full(self.script()).returncode, 0)

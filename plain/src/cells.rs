@@ -51,7 +51,7 @@ impl Cells {
 
     /// The cells of a unique name.
     #[inline]
-    pub fn of(&self, unique: NameId) -> impl Iterator<Item = CellId> {
+    pub fn of(&self, unique: NameId) -> impl Iterator<Item = CellId> + '_ {
         let first = self.first.get(unique.index()).copied().flatten();
         std::iter::successors(first, |id| self[*id].next)
     }

@@ -17,7 +17,7 @@ pub struct Row {
 }
 
 /// The messages of a directory in order.
-pub fn rows(directories: &Directories, directory: Directory) -> impl Iterator<Item = Row> {
+pub fn rows(directories: &Directories, directory: Directory) -> impl Iterator<Item = Row> + '_ {
     let files = directories.files();
     let cells = directories.settled(directory);
     cells.map(|cell| Row { unique: cell.unique, info: cell.info, size: files.size(cell.file) })

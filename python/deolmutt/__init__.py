@@ -1,13 +1,14 @@
 """A Maildir store in memory that is proved to lose no mail to a race, for Python.
 
-`Maildir` is a mailbox with the methods of `mailbox.Maildir`, and `DiskMaildir` one on a disk. `World` is the store itself: its jobs
-deliver, flag, move, copy and expunge messages by the directory calls of maildir(5), which a program
-may let run step by step.
+`Maildir` is a mailbox with the methods of `mailbox.Maildir`, and `DiskMaildir` one on a disk; `patched` puts them in the place of
+`mailbox.Maildir` itself. `World` is the store itself: its jobs deliver, flag, move, copy and expunge messages by the directory calls of
+maildir(5), which a program may let run step by step.
 """
 
 from . import calls, driven, errors, headers, lines, names, scripts
 from ._disk import LeftOut
 from ._names import fresh_unique
+from ._patching import patched
 from .disk_maildir import DiskMaildir
 from .errors import DeolmuttError, Failed, Refused, WrongThread
 from .headers import Summary, summary
@@ -15,6 +16,8 @@ from .maildir import Maildir
 from .names import split_name, unique_name
 from .scripts import index_lines, transcript
 from .world import World
+
+__version__ = "0.1.0"
 
 __all__ = [
     "DeolmuttError",
@@ -34,6 +37,7 @@ __all__ = [
     "index_lines",
     "lines",
     "names",
+    "patched",
     "scripts",
     "split_name",
     "summary",

@@ -13,11 +13,14 @@ from .errors import LibraryMissing
 
 ABI = 1
 FILE_NAME = "libdeolmutt.so"
+# By this name a system has it that has no header for it.
+SONAME = f"{FILE_NAME}.{ABI}"
 _VARIABLE = "DEOLMUTT_LIBRARY"
 
 _HOW = (
-    "Build it with `tools/ffi-build` in a clone of the repository, which prints where it is. Then set"
-    f" {_VARIABLE} to that path, or put the file into the folder of the package: {Path(__file__).parent}"
+    "Install the package by the wheel that holds the library, or the library by Debian's way (libdeolmutt1), or build it with"
+    f" `tools/ffi-build` in a clone of the repository, and set {_VARIABLE} to the path that it prints, or put that file into"
+    f" {Path(__file__).parent}"
 )
 
 
@@ -117,7 +120,7 @@ def library() -> ctypes.CDLL:
             tried.append(f"{path}: {error}")
             continue
         return _declared(found, path)
-    raise LibraryMissing("\n".join([f"{FILE_NAME} was not found.", *tried, _HOW]))
+    raise LibraryMissing(f"{FILE_NAME} can't be loaded ({'; '.join(tried)}). {_HOW}")
 
 
 def filled(function: Callable[..., int], *asked: Any, room: int = FIRST_ROOM) -> tuple[int, bytes]:
@@ -167,7 +170,7 @@ def _paths() -> Iterator[str]:
         yield named
         return
     yield str(Path(__file__).parent / FILE_NAME)
-    yield ctypes.util.find_library("deolmutt") or FILE_NAME
+    yield ctypes.util.find_library("deolmutt") or SONAME
 
 
 def _declared(found: ctypes.CDLL, path: str) -> ctypes.CDLL:
@@ -180,9 +183,9 @@ def _declared(found: ctypes.CDLL, path: str) -> ctypes.CDLL:
             function.argtypes = types
             function.restype = _U32
     except AttributeError as error:
-        raise LibraryMissing(f"{path}: {error}\n{_HOW}") from error
+        raise LibraryMissing(f"{path} is no library of Deolmutt's: {error}. {_HOW}") from error
     if version != ABI:
-        raise LibraryMissing(f"{path} is of version {version}, and {ABI} is needed.\n{_HOW}")
+        raise LibraryMissing(f"{path} has version {version} of the interface, and {ABI} is needed. {_HOW}")
     return found
 
 

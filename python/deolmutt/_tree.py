@@ -82,6 +82,8 @@ class Tree:
         self._dates: dict[str, float] = {}
         self._contents: dict[int, dict[str, Message]] = {}
         self._known_changes = world.changes
+        # Whether it was closed to changes.
+        self.is_closed = False
 
     # Folders.
 

@@ -78,7 +78,8 @@ class DiskMaildir(Closing, mailbox.Mailbox):  # type: ignore[type-arg]
 
         Raises `mailbox.NoSuchMailboxError` where it isn't there and is not to be made.
         """
-        super().__init__(os.fspath(dirname), factory, create)
+        # The class beside it of `patched` has another one first.
+        mailbox.Mailbox.__init__(self, os.fspath(dirname), factory, create)
         self._onetime_keys: Optional[Iterator[str]] = None
         # Where messages were met last, by their unique names.
         self._met: dict[bytes, _Named] = {}
@@ -86,6 +87,9 @@ class DiskMaildir(Closing, mailbox.Mailbox):  # type: ignore[type-arg]
             if not create:
                 raise mailbox.NoSuchMailboxError(self._path)
             _make(self._path)
+
+    def __repr__(self) -> str:
+        return f"<{type(self).__module__.partition('.')[0]}.{type(self).__qualname__} of {self._path!r}>"
 
     # Messages in and out.
 

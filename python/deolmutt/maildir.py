@@ -27,7 +27,7 @@ from ._tree import (
     store_name,
 )
 from .calls import Clean, Place
-from .errors import BodyTooLong, Closed
+from .errors import BodyTooLong, Closed, WrongThread
 from .lines import file_line
 from .world import World
 
@@ -72,10 +72,12 @@ class Maildir(Closing, mailbox.Mailbox):  # type: ignore[type-arg]
     ) -> None:
         """An empty mailbox with these folders, and so many spare ones for `add_folder`.
 
-        `factory` makes a message of a file that is open for reading bytes; without it messages are
+        It takes no path: `load` reads a tree, and `DiskMaildir` is the maildir of a path. `factory` makes a
+        message of a file that is open for reading bytes; without it messages are
         `mailbox.MaildirMessage`. A store has at most 64 folders, this mailbox itself among them, and
         as many as that leaves are spare where `spare_folders` is None.
         """
+        _check_factory(factory)
         named = [_named(TOP, folder) for folder in dict.fromkeys(folders)]
         self._begin(loaded_tree(named, _spare(named, spare_folders), ()), TOP, factory)
 
@@ -91,6 +93,18 @@ class Maildir(Closing, mailbox.Mailbox):  # type: ignore[type-arg]
         """The store itself. Calls that are made of it are seen here too."""
         return self._tree.world
 
+    def __repr__(self) -> str:
+        kind = f"{type(self).__module__.partition('.')[0]}.{type(self).__qualname__}"
+        return f"<{' '.join([kind, *map(repr, self._trail)])}: {self._said()}>"
+
+    def _said(self) -> str:
+        """What it holds, in words, as far as this thread may know."""
+        try:
+            counts = _counted(len(self), "message"), _counted(len(self.list_folders()), "folder")
+        except (Closed, WrongThread, mailbox.NoSuchMailboxError) as error:
+            return f"nothing to see: {type(error).__name__}"
+        return ", ".join([*counts, *["closed"] * self._tree.is_closed])
+
     # Messages in and out.
 
     def add(self, message: Addable) -> str:
@@ -100,7 +114,7 @@ class Maildir(Closing, mailbox.Mailbox):  # type: ignore[type-arg]
         failure between the two leaves it in new without its flags. Its info, other than `2,` and
         letters, is refused as `OtherInfo`, and what is no message as TypeError or ValueError.
         """
-        with self._held():
+        with self._changing():
             return self._tree.deliver(self._number(), self._body(message), wanted_of(message))
 
     def add_all(self, messages: Iterable[Addable]) -> List[str]:
@@ -108,7 +122,7 @@ class Maildir(Closing, mailbox.Mailbox):  # type: ignore[type-arg]
 
         All are looked at before the first is added, so that one that `add` refuses is raised first.
         """
-        with self._held():
+        with self._changing():
             checked = [(self._body(message), wanted_of(message)) for message in messages]
             return self._tree.deliver_all(self._number(), checked)
 
@@ -118,7 +132,7 @@ class Maildir(Closing, mailbox.Mailbox):  # type: ignore[type-arg]
         It takes two steps: the message gets the flag T, and one of new goes to cur by that, and then
         the expunge alone removes it. A failure between them leaves it whole in cur, with the flag T.
         """
-        with self._held():
+        with self._changing():
             self._lookup(key)
             self._tree.remove(self._number(), key)
 
@@ -129,7 +143,7 @@ class Maildir(Closing, mailbox.Mailbox):  # type: ignore[type-arg]
         the one before, and this moment as its date. The new one is delivered first, and then the old
         one is removed: a failure between the two leaves both, the new one under a key of its own.
         """
-        with self._held():
+        with self._changing():
             number = self._number()
             old = self._lookup(key)
             old.check_info()
@@ -217,7 +231,7 @@ class Maildir(Closing, mailbox.Mailbox):  # type: ignore[type-arg]
         message has another program's mark.
         """
         check_text(flags)
-        with self._held():
+        with self._changing():
             others = "".join(set(self._lookup(key).flags) - set(flags))
             self._tree.change_flags(self._number(), key, flags, others)
 
@@ -232,7 +246,7 @@ class Maildir(Closing, mailbox.Mailbox):  # type: ignore[type-arg]
     def _change_flags(self, key: str, add: str, remove: str) -> None:
         check_text(add)
         check_text(remove)
-        with self._held():
+        with self._changing():
             self._lookup(key)
             self._tree.change_flags(self._number(), key, add, remove)
 
@@ -242,7 +256,7 @@ class Maildir(Closing, mailbox.Mailbox):  # type: ignore[type-arg]
         All keys are looked up before the first message is changed.
         """
         check_text(flag)
-        with self._held():
+        with self._changing():
             wanted, contents = list(keys), self._contents()
             for key in wanted:
                 if key not in contents:
@@ -271,7 +285,7 @@ class Maildir(Closing, mailbox.Mailbox):  # type: ignore[type-arg]
         The folders of a store are fixed when it is made, so a spare one is given the name. Raises
         `NoSpareFolder` where none is left, and ValueError for a name that no directory can have.
         """
-        with self._held():
+        with self._changing():
             self._number()
             trail = _named(self._trail, folder)
             if self._tree.folder(trail) is None:
@@ -284,7 +298,7 @@ class Maildir(Closing, mailbox.Mailbox):  # type: ignore[type-arg]
         Raises `mailbox.NotEmptyError` where it has messages or folders, and FileNotFoundError where
         there is none, as `mailbox.Maildir` does.
         """
-        with self._held():
+        with self._changing():
             trail = (*self._trail, folder)
             number = self._tree.folder(trail)
             if number is None:
@@ -304,7 +318,7 @@ class Maildir(Closing, mailbox.Mailbox):  # type: ignore[type-arg]
 
     def clean(self) -> None:
         """Removes the files of tmp that were not used for 36 hours."""
-        with self._held():
+        with self._changing():
             self._tree.call(Clean(self._number()))
 
     def flush(self) -> None:
@@ -317,13 +331,14 @@ class Maildir(Closing, mailbox.Mailbox):  # type: ignore[type-arg]
         """Does nothing: there is no lock."""
 
     def close(self) -> None:
-        """Lets the store go with all messages in it, which were nowhere but in memory.
+        """Ends changes: what would change the mailbox raises `Closed` from then on. It can still be read.
 
-        Of a folder in another it does nothing, since the store is that one's. What is called after it
-        raises `Closed`. Export the mailbox first, where its messages are to stay.
+        Of a folder in another it does nothing, since the store is that one's. The messages, which are
+        nowhere but in memory, go with the last object of this mailbox and its folders, or at once by
+        `world.close()`. Export the mailbox first, where they are to stay.
         """
         if self._trail == TOP:
-            self.world.close()
+            self._tree.is_closed = True
 
     # Real trees.
 
@@ -399,6 +414,12 @@ class Maildir(Closing, mailbox.Mailbox):  # type: ignore[type-arg]
         """Keeps other threads out for the length of a method."""
         return self.world.held
 
+    def _changing(self) -> Any:
+        """The same for a method that changes something. Raises `Closed` where the mailbox was closed."""
+        if self._tree.is_closed:
+            raise Closed("the mailbox was closed: it can be read, and not changed")
+        return self._held()
+
     def _number(self) -> int:
         """The number of this folder. Raises `mailbox.NoSuchMailboxError` where it was removed."""
         number = self._tree.folder(self._trail)
@@ -473,6 +494,21 @@ def wanted_of(message: Addable, old: Optional[Message] = None) -> Wanted:
         return Wanted(Place.NEW, "", time.time())
     is_new = old.place is Place.NEW and not old.flags
     return Wanted(Place.NEW if is_new else Place.CUR, old.flags, time.time())
+
+
+def _check_factory(factory: object) -> None:
+    """Refuses the path that `mailbox.Maildir` takes in this place, and all else that makes no message."""
+    if isinstance(factory, (str, bytes, os.PathLike)):
+        raise TypeError(
+            "deolmutt.Maildir takes no path, since it is in memory and begins empty:"
+            " deolmutt.Maildir.load(path) reads a tree into one, and deolmutt.DiskMaildir(path) is the maildir on the disk"
+        )
+    if factory is not None and not callable(factory):
+        raise TypeError(f"a factory makes a message of a file, and this can't be called: {factory!r}")
+
+
+def _counted(count: int, what: str) -> str:
+    return f"{count} {what}{'' if count == 1 else 's'}"
 
 
 def check_text(flags: str) -> None:

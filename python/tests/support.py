@@ -31,6 +31,11 @@ def why_not() -> str:
     return ""
 
 
+def library_path() -> str:
+    """Where the library is."""
+    return os.path.abspath(library()._name)
+
+
 WHY_NOT = why_not()
 needs_library = unittest.skipIf(WHY_NOT, f"the library isn't built: {WHY_NOT}")
 

@@ -32,7 +32,7 @@ sys.stdout.buffer.write(out)
 sys.stderr.buffer.write(said)
 sys.exit(status)
 """
-JUDGE = pathlib.Path(os.environ.get("MAILDIR_JUDGE", TOP / "crates/maildir_judge/out/maildir_judge"))
+DEOLMUTT = pathlib.Path(os.environ.get("DEOLMUTT", TOP / "crates/deolmutt/out/deolmutt"))
 
 
 @needs_cluster
@@ -81,7 +81,7 @@ class ExploreTest(ClusterCase):
             explore(self.client, ("true", "true"), self.folder / "x", setup="exit 3")
 
     @unittest.skipUnless(shutil.which("strace"), "strace is not here")
-    @unittest.skipUnless(os.access(JUDGE, os.X_OK), f"maildir_judge is not built: {JUDGE}; MAILDIR_JUDGE may name it")
+    @unittest.skipUnless(os.access(DEOLMUTT, os.X_OK), f"deolmutt is not built: {DEOLMUTT}; DEOLMUTT may name it")
     def test_each_interleaving_is_judged(self) -> None:
         commands = "mv box/cur/u:2,S box/cur/u:2,FS", "mv box/cur/u:2,S box/cur/u:2,RS"
         folder = self.folder / "runs"

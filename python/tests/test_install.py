@@ -10,9 +10,10 @@ import sys
 import tempfile
 import unittest
 
-from support import PYTHON, WHY_NOT
+from support import PYTHON, WHY_NOT, library_path
 
-from deolmutt._library import library
+import deolmutt
+from deolmutt._library import SONAME
 
 # A program that uses the installed package, away from the tree.
 PROGRAM = "import deolmutt; box = deolmutt.Maildir(); print(box.get_bytes(box.add(b'Subject: x')))"
@@ -36,6 +37,11 @@ def run(command: list[str], folder: pathlib.Path, **variables: str) -> subproces
     )
 
 
+def has_system_library() -> bool:
+    """Whether the system has the library. This process may have loaded another one of that name."""
+    return run([sys.executable, "-c", f"import ctypes; ctypes.CDLL({SONAME!r})"], PYTHON).returncode == 0
+
+
 class InstallTest(unittest.TestCase):
     """One environment for all tests, since making one takes some seconds."""
 
@@ -54,18 +60,32 @@ class InstallTest(unittest.TestCase):
         if run([sys.executable, "-m", "venv", "venv"], cls.folder).returncode != 0:
             raise unittest.SkipTest("this Python makes no environment of its own (ensurepip is missing)")
 
-    def test_without_a_library_it_says_how_to_build_one(self) -> None:
-        self.install()
+    def test_without_a_library_it_is_not_installed(self) -> None:
+        if has_system_library():
+            self.skipTest("the system has the library")
+        cases: dict[str, dict[str, str]] = {
+            "there is no libdeolmutt.so, so it is not installed": {},
+            "none/libdeolmutt.so: no such library": {"DEOLMUTT_LIBRARY": "none/libdeolmutt.so"},
+        }
+        for text, variables in cases.items():
+            ran = run([*without_network(), self.python, "-m", "pip", "install", "."], self.work, **variables)
+            self.assertNotEqual(0, ran.returncode)
+            self.assertIn(text, ran.stdout + ran.stderr)
+            self.assertNotIn("Traceback", ran.stdout + ran.stderr)
+
+    def test_where_the_library_is_to_come_later_it_says_how_to_get_one(self) -> None:
+        self.install("--config-settings", "library=none", ".")
         ran = run([self.python, "-c", PROGRAM], self.folder, DEOLMUTT_LIBRARY="none/libdeolmutt.so")
         self.assertEqual(1, ran.returncode)
+        said = ran.stderr.splitlines()[-1]
         for text in ("deolmutt.errors.LibraryMissing", "tools/ffi-build", "none/libdeolmutt.so"):
-            self.assertIn(text, ran.stderr)
+            self.assertIn(text, said)
         if WHY_NOT:
             self.skipTest(WHY_NOT)
         self.assert_works(DEOLMUTT_LIBRARY=library_path())
 
     def test_without_dask_the_cluster_names_what_to_install(self) -> None:
-        self.install()
+        self.install("--config-settings", "library=none", ".")
         ran = run([self.python, "-c", "import deolmutt.cluster"], self.folder)
         self.assertEqual(1, ran.returncode)
         for text in ("deolmutt.errors.DaskMissing", "python3-distributed", "pip"):
@@ -84,21 +104,18 @@ class InstallTest(unittest.TestCase):
         pack = "import backend, sys; print(backend.build_sdist(sys.argv[1]))"
         packed = run([self.python, "-c", pack, str(self.folder)], self.work)
         self.assertRegex(packed.stdout, r"\Adeolmutt-[\d.]+\.tar\.gz\n\Z", packed.stderr)
-        self.install(str(self.folder / packed.stdout.strip()))
+        self.install("--config-settings", "library=none", str(self.folder / packed.stdout.strip()))
+        told = run([self.python, "-c", "import importlib.metadata as m; print(m.version('deolmutt'))"], self.folder)
+        self.assertEqual(deolmutt.__version__, told.stdout.strip())
 
-    def install(self, what: str = ".") -> None:
-        words = ["-m", "pip", "install", "-q", "--force-reinstall", what]
+    def install(self, *what: str) -> None:
+        words = ["-m", "pip", "install", "-q", "--force-reinstall", *(what or ["."])]
         ran = run([*without_network(), self.python, *words], self.work)
         self.assertEqual(0, ran.returncode, ran.stdout + ran.stderr)
 
     def assert_works(self, **variables: str) -> None:
         ran = run([self.python, "-c", PROGRAM], self.folder, **variables)
         self.assertEqual("b'Subject: x'\n", ran.stdout, ran.stderr)
-
-
-def library_path() -> str:
-    """Where the library is."""
-    return os.path.abspath(library()._name)
 
 
 if __name__ == "__main__":

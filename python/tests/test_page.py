@@ -1,4 +1,4 @@
-"""The sessions of docs/PYTHON.md and of the README print what the pages say."""
+"""The sessions of docs/PYTHON.md and of the READMEs print what the pages say."""
 
 from __future__ import annotations
 
@@ -8,7 +8,7 @@ import unittest
 from support import TOP, Case, needs_library
 
 # A page, and how many lines of it are run at least.
-PAGES = ((TOP / "docs/PYTHON.md", 21), (TOP / "README.md", 5))
+PAGES = ((TOP / "docs/PYTHON.md", 25), (TOP / "README.md", 5), (TOP / "python/README.md", 7))
 
 
 @needs_library

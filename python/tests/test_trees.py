@@ -9,7 +9,7 @@ import pathlib
 import unittest
 import warnings
 from concurrent.futures import ThreadPoolExecutor
-from typing import Any
+from typing import Any, Callable
 
 from support import MESSAGE, Case, maildir_message, needs_library
 
@@ -279,11 +279,46 @@ class DifferenceTest(Case):
     def test_a_closed_mailbox(self) -> None:
         folder = self.box.add_folder("a")
         folder.close()
-        folder.add(MESSAGE)
+        key = folder.add(MESSAGE)
         self.box.close()
-        for call in (lambda: self.box.add(MESSAGE), self.box.keys, lambda: "b" in self.box, folder.keys):
+        changes: list[Callable[[], object]] = [
+            lambda: self.box.add(MESSAGE),
+            lambda: self.box.add_all([MESSAGE]),
+            lambda: self.box.remove("b"),
+            lambda: self.box.__setitem__("b", MESSAGE),
+            lambda: self.box.set_flags("b", "S"),
+            lambda: self.box.add_flag("b", "S"),
+            lambda: self.box.add_flag_to_all(["b"], "S"),
+            lambda: self.box.add_folder("c"),
+            lambda: self.box.remove_folder("a"),
+            self.box.clean,
+            lambda: folder.add(MESSAGE),
+        ]
+        for change in changes:
             with self.assertRaises(deolmutt.errors.Closed):
-                call()
+                change()
+        self.assertEqual((2, ["a"], [key]), (len(self.box), self.box.list_folders(), folder.keys()))
+        self.assertEqual(MESSAGE, folder.get_bytes(key))
+        self.box.world.close()
+        for read in (self.box.keys, lambda: "b" in self.box, folder.keys):
+            with self.assertRaises(deolmutt.errors.Closed):
+                read()
+
+    def test_what_it_shows_of_itself(self) -> None:
+        folder = self.box.add_folder("a")
+        self.assertEqual("<deolmutt.Maildir: 2 messages, 1 folder>", repr(self.box))
+        self.assertEqual("<deolmutt.Maildir 'a': 0 messages, 0 folders>", repr(folder))
+        self.box.close()
+        self.assertEqual("<deolmutt.Maildir: 2 messages, 1 folder, closed>", repr(self.box))
+        self.box.world.close()
+        self.assertEqual("<deolmutt.Maildir: nothing to see: Closed>", repr(self.box))
+
+    def test_a_path_is_refused_with_what_to_call(self) -> None:
+        for path in (self.folder, str(self.folder), os.fsencode(self.folder)):
+            with self.assertRaisesRegex(TypeError, r"takes no path.*Maildir\.load\(path\).*DiskMaildir\(path\)"):
+                Maildir(path)  # type: ignore[arg-type]
+        with self.assertRaisesRegex(TypeError, "can't be called: 7"):
+            Maildir(7)  # type: ignore[arg-type]
 
     def test_calls_of_the_world_are_seen(self) -> None:
         self.assertEqual(2, len(self.box))

@@ -23,6 +23,7 @@ CALLS = ("openat", "read", "write", "close", "fsync", "link", "linkat", "rename"
 STATUSES = {0, 66, 73, 74, 75, 77}
 
 _CALL = re.compile(r"^(\w+)\(")
+_READING = re.compile(rb'^openat\([^"]*"box/(?:new|cur)/?"')
 
 
 class Scene(NamedTuple):
@@ -157,14 +158,42 @@ class Faults(unittest.TestCase):
 class Readings(BoxTest):
     """What is read for many messages."""
 
-    def test_one_reading_for_many(self) -> None:
-        for number in range(1000):
-            self.box.put("cur", b"m%d:2," % number)
+    def flagged(self, keys: list[bytes]) -> tuple[Ended, list[bytes]]:
+        """How an adding of F ended whose keys are read, and its calls that open a file and that rename one."""
         log = self.top / "log"
-        keys = b"".join(b"m%d\n" % number for number in range(1000))
-        ended = run("flag", "box", "+F", "-", given=keys, before=["strace", "-o", str(log), "-e", "trace=openat,rename"], cwd=self.top)
+        before = ["strace", "-o", str(log), "-e", "trace=openat,rename"]
+        ended = run("flag", "box", "+F", "-", given=b"".join(key + b"\n" for key in keys), before=before, cwd=self.top)
+        return ended, log.read_bytes().splitlines()
+
+    def test_one_reading_for_many(self) -> None:
+        """Half of the messages have the flag already. A directory that was changed just now is read more than once."""
+        for number in range(5000):
+            self.box.put("cur", b"m%d:2,%s" % (number, b"F" * (number % 2)))
+        ended, calls = self.flagged([b"m%d" % number for number in range(5000)])
         self.assertEqual((ended.status, ended.said), (0, b""))
-        calls = Counter(line.split("(")[0] for line in log.read_text(errors="replace").splitlines())
-        self.assertEqual(calls["rename"], 1000)
-        self.assertLess(calls["openat"], 30)
-        self.assertEqual(self.box.names("cur"), sorted(b"m%d:2,F" % number for number in range(1000)))
+        self.assertEqual(sum(call.startswith(b"rename(") for call in calls), 2500)
+        self.assertLess(sum(bool(_READING.match(call)) for call in calls), 30)
+        self.assertEqual(self.box.names("cur"), sorted(b"m%d:2,F" % number for number in range(5000)))
+
+    def test_no_reading_for_paths(self) -> None:
+        for number in range(1000):
+            self.box.put("cur", b"m%d:2,S" % number)
+        ended, calls = self.flagged([b"box/cur/m%d:2,S" % number for number in range(1000)])
+        self.assertEqual((ended.status, ended.said), (0, b""))
+        self.assertEqual(sum(call.startswith(b"rename(") for call in calls), 1000)
+        self.assertEqual([call for call in calls if _READING.match(call)], [])
+        self.assertEqual(self.box.names("cur"), sorted(b"m%d:2,FS" % number for number in range(1000)))
+
+    def test_keys_of_all_kinds(self) -> None:
+        """By name and by path, right and out of date, twice, of no message, and no keys: each is answered as it would be alone."""
+        for name in (b"a:2,", b"b:2,", b"c:2,S", b"d:2,F", b"e:1,x"):
+            self.box.put("cur", name)
+        keys = [b"none", b"a", b"box/cur/a:2,", b"box/cur/b:2,", b"box/cur/b:2,", b"b", b"box/cur/c:2,", b"c", b"box/new/d", b"d", b"e",
+                b"x/y"]
+        ended, calls = self.flagged(keys)
+        self.assertEqual(ended.said.splitlines(), [
+            b"deolmutt: none: no such message", b"deolmutt: e: the name of the message has no flags after its colon",
+            b"deolmutt: x/y: not the name of a message, nor its path in this maildir"])
+        self.assertEqual(ended.status, 65)
+        self.assertLess(sum(bool(_READING.match(call)) for call in calls), 30)
+        self.assertEqual(self.box.names("cur"), [b"a:2,F", b"b:2,F", b"c:2,FS", b"d:2,F", b"e:1,x"])

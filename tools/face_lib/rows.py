@@ -47,10 +47,10 @@ def name_of(program: Path) -> str:
 
 
 def rows_of(name: str) -> Iterator[Row]:
-    """The rows of a program's crate, from its folder `rows`, and for the judge the logs of judge_examples."""
+    """The rows of a program's crate, from its folder `rows`, and for deolmutt, which judges, the logs of judge_examples."""
     for file in sorted((TOP / "crates" / name / "rows").glob("*.rows")):
         yield from rows_in_file(str(file.relative_to(TOP)))
-    if name == "maildir_judge":
+    if name == "deolmutt":
         yield from map(_judged, sorted((TOP / "crates/judge_examples/data").glob("*.log")))
 
 
@@ -115,7 +115,7 @@ def _earlier(columns: dict[str, str]) -> Row:
     def is_right(ended: Ended) -> bool:
         return (ended.status, ended.said) == (1, b"") and any(before in line and found in line for line in ended.printed.splitlines())
 
-    return Row(["--json"], _bytes(columns["input"]), is_right, Ended(1, b"{" + before + found + b"}\n", b""))
+    return Row(["judge", "--json"], _bytes(columns["input"]), is_right, Ended(1, b"{" + before + found + b"}\n", b""))
 
 
 def _third_line(columns: dict[str, str]) -> Row:
@@ -123,20 +123,20 @@ def _third_line(columns: dict[str, str]) -> Row:
     given = b"maildir_log 1\nfolder i\n" + _bytes(columns["line"]) + b"\n"
     if columns["fault"] != "read":
         wanted = Ended(2, b"", f"line 3: {columns['fault']}\n".encode())
-        return Row([], given, lambda ended: ended == wanted, wanted)
+        return Row(["judge"], given, lambda ended: ended == wanted, wanted)
 
     def is_right(ended: Ended) -> bool:
         found = ended.printed.splitlines()
         return ended.status == (1 if found else 0) and ended.said == b"" and all(line.startswith(b"line 3: ") for line in found)
 
-    return Row([], given, is_right, Ended(0, b"", b""))
+    return Row(["judge"], given, is_right, Ended(0, b"", b""))
 
 
 def _judged(log: Path) -> Row:
     """What the file beside a log has: a line `LINE CLAUSE` for each finding, or the line `line N: TEXT` of a text that is no log."""
     found = log.with_suffix(".found").read_bytes()
     wanted = Ended(2, b"", found) if found.startswith(b"line ") else Ended(1 if found else 0, found, b"")
-    return Row(["--lines"], log.read_bytes(), lambda ended: ended == wanted, wanted)
+    return Row(["judge", "--lines"], log.read_bytes(), lambda ended: ended == wanted, wanted)
 
 
 def _is_so(wanted: Ended, ended: Ended, begins: bool) -> bool:

@@ -18,7 +18,7 @@ _LOG = b"maildir_log 1\nfolder i\nfile i/cur/x:2, 1\n2 a unlink i/cur/x:2, ok\n"
 # One with so many findings that they are not written at once.
 _LONG_LOG = b"maildir_log 1\nfolder i\n" + b"".join(b"2 a create i/new/%d ok\n" % number for number in range(20_000))
 _WRONG_LOG = b"maildir_log 2\n"
-_UNREAD, _UNWRITTEN = b"line 0: read fault\n", b"line 0: write fault\n"
+_UNREAD, _UNREAD_LOG, _UNWRITTEN = b"line 0: read fault\n", b"line 1: read fault\n", b"line 0: write fault\n"
 
 
 class Streams(NamedTuple):
@@ -46,11 +46,12 @@ def _each(sent: str, wanted: Ended, runs: Sequence[tuple[str, bytes]]) -> list[S
 
 _CLI_RUNS = [("play", _SCRIPT), ("threads 2", b"folder i"), ("index 3", _FILES), ("--help", b"")]
 _CLI_READS = [("play", _SCRIPT), ("threads 2", _SCRIPT), ("index 3", _SCRIPT)]
-_JUDGE_FORMS = [("", _LONG_LOG), ("--lines", _LONG_LOG), ("--json", _LONG_LOG)]
-_JUDGE_RUNS = [("", _LOG), ("--lines", _LOG), ("--json", _LOG), ("--help", _LOG), *_JUDGE_FORMS]
-_JUDGE_READS = [("", _LOG), ("--lines", _LOG)]
-_TRACE_RUNS = [("", _FILES), ("--states", _FILES)]
-_DISK_RUNS = [("--help", b""), ("--version", b""), ("help list", b"")]
+_JUDGE_RUNS = [(words, log) for words in ("judge", "judge --lines", "judge --json") for log in (_LOG, _LONG_LOG)]
+_JUDGE_READS = [("judge", _LOG), ("judge --lines", _LOG), ("judge /dev/stdin", _LOG)]
+_LOG_RUNS = [("log", _FILES), ("log --states", _FILES)]
+_SCRIPT_RUNS = [("play", _SCRIPT), ("threads 2", b"folder i"), ("index 3", _FILES), *_LOG_RUNS]
+_SCRIPT_READS = [*_CLI_READS, *_LOG_RUNS[:1]]
+_HELP_RUNS = [("--help", b""), ("--version", b""), ("help list", b""), ("judge --help", b"")]
 _NO_MAILDIR = b"deolmutt: /none: no such maildir\n"
 
 FACES: dict[str, Face] = {
@@ -68,42 +69,34 @@ FACES: dict[str, Face] = {
         reset=_each("", Ended(1, b"", _UNREAD), _CLI_READS),
         no_text=Ended(2, b"", b"maildir_cli: a word is not UTF-8; try 'maildir_cli --help'\n"),
     ),
-    "maildir_judge": Face(
-        streams=[
-            *_each("</", Ended(2, b"", b"line 1: read fault\n"), _JUDGE_READS),
-            *_each("<&-", Ended(2, b"", b"line 1: read fault\n"), _JUDGE_READS[:1]),
-            *_each(">/dev/full", Ended(2, b"", _UNWRITTEN), _JUDGE_RUNS),
-            *_each(">&-", Ended(2, b"", _UNWRITTEN), _JUDGE_RUNS[:1]),
-            *_each("2>/dev/full", Ended(1, b"4 Gone\n", b""), _JUDGE_READS[1:]),
-            *_each("2>&-", Ended(1, b"4 Gone\n", b""), _JUDGE_READS[1:]),
-            *_each("2>/dev/full", Ended(2, b"", b""), [("", _WRONG_LOG), ("--all", _LOG)]),
-        ],
-        unread=_each("", Ended(2, b"", _UNWRITTEN), _JUDGE_RUNS),
-        reset=_each("", Ended(2, b"", b"line 5: read fault\n"), _JUDGE_READS),
-        no_text=Ended(2, b"", b"maildir_judge: a word is not UTF-8; try 'maildir_judge --help'\n"),
-    ),
-    "maildir_trace": Face(
-        streams=[
-            *_each("</", Ended(1, b"", _UNREAD), _TRACE_RUNS[:1]),
-            *_each("<&-", Ended(1, b"", _UNREAD), _TRACE_RUNS[:1]),
-            *_each(">/dev/full", Ended(1, b"", _UNWRITTEN), _TRACE_RUNS),
-            *_each(">&-", Ended(1, b"", _UNWRITTEN), _TRACE_RUNS[:1]),
-            *_each("2>/dev/full", Ended(2, b"", b""), [("x", b"")]),
-        ],
-        unread=_each("", Ended(1, b"", _UNWRITTEN), _TRACE_RUNS),
-        reset=_each("", Ended(1, b"", _UNREAD), _TRACE_RUNS[:1]),
-        no_text=Ended(2, b"", b"maildir_trace: usage: maildir_trace [--states] < SCRIPT\n"),
-    ),
     # Its streams beside a maildir are a matter of tools/check_disk.
     "deolmutt": Face(
         streams=[
-            *_each(">/dev/full", Ended(74, b"", b"deolmutt: standard output: writing failed: No space left on device (os error 28)\n"), _DISK_RUNS),
+            *_each(">/dev/full", Ended(74, b"", b"deolmutt: standard output: writing failed: No space left on device (os error 28)\n"), _HELP_RUNS),
             *_each("</", Ended(66, b"", _NO_MAILDIR), [("deliver /none", b""), ("seen /none -", b"")]),
             *_each("2>/dev/full", Ended(66, b"", b""), [("deliver /none", b""), ("list /none", b"")]),
             *_each("2>&-", Ended(64, b"", b""), [("mak", b""), ("flag /none F k", b"")]),
+            *_each("</", Ended(1, b"", _UNREAD), _SCRIPT_READS),
+            *_each("<&-", Ended(1, b"", _UNREAD), [*_CLI_READS[:1], *_LOG_RUNS[:1]]),
+            *_each(">/dev/full", Ended(1, b"", _UNWRITTEN), _SCRIPT_RUNS),
+            *_each(">&-", Ended(1, b"", _UNWRITTEN), _SCRIPT_RUNS[:1]),
+            *_each("2>/dev/full", Ended(64, b"", b""), [("log x", b""), ("judge --all", _LOG)]),
+            *_each("</", Ended(2, b"", _UNREAD_LOG), _JUDGE_READS),
+            *_each("<&-", Ended(2, b"", _UNREAD_LOG), _JUDGE_READS[:1]),
+            *_each(">/dev/full", Ended(2, b"", _UNWRITTEN), _JUDGE_RUNS),
+            *_each(">&-", Ended(2, b"", _UNWRITTEN), _JUDGE_RUNS[:1]),
+            *(Streams("judge --lines", _LOG, told, Ended(1, b"4 Gone\n", b"")) for told in ("2>/dev/full", "2>&-")),
+            *_each("2>/dev/full", Ended(2, b"", b""), [("judge", _WRONG_LOG)]),
         ],
-        unread=_each("", Ended(74, b"", b"deolmutt: standard output: writing failed: Broken pipe (os error 32)\n"), _DISK_RUNS),
-        reset=[],
+        unread=[
+            *_each("", Ended(74, b"", b"deolmutt: standard output: writing failed: Broken pipe (os error 32)\n"), _HELP_RUNS),
+            *_each("", Ended(1, b"", _UNWRITTEN), _SCRIPT_RUNS),
+            *_each("", Ended(2, b"", _UNWRITTEN), _JUDGE_RUNS),
+        ],
+        reset=[
+            *_each("", Ended(1, b"", _UNREAD), _SCRIPT_READS),
+            *_each("", Ended(2, b"", b"line 5: read fault\n"), _JUDGE_READS[:2]),
+        ],
         no_text=Ended(64, b"", b"deolmutt: a word is not UTF-8; try 'deolmutt --help'\n"),
     ),
 }

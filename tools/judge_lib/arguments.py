@@ -8,7 +8,7 @@ from typing import List, NamedTuple, Optional
 _DESCRIPTOR = re.compile(r"(-?\d+|AT_FDCWD)(?:<((?:\\x[0-9a-f]{2})*)>(\(deleted\))?)?")
 _STRING = re.compile(r'"((?:\\x[0-9a-f]{2})*)"(?:\.\.\.)?')
 _SHOWN = re.compile(r'd_name="((?:\\x[0-9a-f]{2})*)"')
-_OPENS, _CLOSES = "[{(", "]})"
+_OPENS, _MARK = frozenset("[{("), re.compile(r"[\[\]{}(),]")
 
 
 class Descriptor(NamedTuple):
@@ -21,15 +21,17 @@ class Descriptor(NamedTuple):
 
 def split(text: str) -> List[str]:
     """The arguments of a call."""
+    if _OPENS.isdisjoint(text):
+        return text.split(", ") if text else []
     parts, depth, begin = [], 0, 0
-    for at, letter in enumerate(text):
-        if letter in _OPENS:
+    for mark in _MARK.finditer(text):
+        if mark[0] in _OPENS:
             depth += 1
-        elif letter in _CLOSES:
+        elif mark[0] != ",":
             depth -= 1
-        elif letter == "," and depth == 0:
-            parts.append(text[begin:at].strip())
-            begin = at + 1
+        elif depth == 0:
+            parts.append(text[begin:mark.start()].strip())
+            begin = mark.end()
     last = text[begin:].strip()
     return parts + [last] if last else parts
 
@@ -45,6 +47,8 @@ def read_descriptor(text: str) -> Optional[Descriptor]:
 
 def read_string(text: str) -> Optional[bytes]:
     """A string; None for NULL or an address that couldn't be read."""
+    if text[:1] != '"':
+        return None
     found = _STRING.fullmatch(text)
     return None if found is None else _bytes(found[1])
 

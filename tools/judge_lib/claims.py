@@ -3,9 +3,9 @@
 from __future__ import annotations
 
 import re
-from typing import Dict, FrozenSet, Iterator, List, NamedTuple, Optional, Tuple
+from typing import Callable, Dict, FrozenSet, Iterator, List, NamedTuple, Optional, Set, Tuple
 
-from .directories import Directories
+from .directories import Change, Directories
 from .names import Path, escaped, flags_of, unique_of
 from .refused import Refused
 from .steps import Line, When
@@ -57,60 +57,115 @@ def _with_changes(claim: Claim, changes: List[str], text: str) -> Claim:
     return claim
 
 
+def read_claims(texts: List[str]) -> Dict[Optional[str], List[Claim]]:
+    """The claims of all actors; those of no actor are the command's."""
+    claims: Dict[Optional[str], List[Claim]] = {}
+    for text in texts:
+        claim = read_claim(text)
+        claims.setdefault(claim.actor, []).append(claim)
+    return claims
+
+
+class Seen(NamedTuple):
+    """What was seen of a claim's message up to a moment, in so many words as its answer needs."""
+
+    # Its paths in cur.
+    there: Tuple[Path, ...]
+    has_begun: bool = False
+    # Of all flags that it had since the actor began, the last that are as claimed, and the last.
+    meant: Optional[FrozenSet[str]] = None
+    last: FrozenSet[str] = frozenset()
+    # The unique names that the actor added to the folder since it was settled, and the last file that it made in tmp.
+    added: Tuple[bytes, ...] = ()
+    made: bytes = b""
+
+
 class Claims:
-    """The claims of all actors, and the line at which each actor began."""
+    """The claims of all actors. Those of no actor are the first process's, whose actor `first` gives."""
 
-    def __init__(self, claims: Dict[str, List[Claim]], first: Tuple[Path, ...]) -> None:
-        self._claims, self._first = claims, first
+    def __init__(self, claims: Dict[Optional[str], List[Claim]], beginning: Tuple[Path, ...], first: Callable[[], Optional[str]]) -> None:
+        self._claims, self._first = [claim for each in claims.values() for claim in each], first
+        self._seen = [Seen(tuple(path for path in beginning if _is_in_cur(claim, path))) for claim in self._claims]
+        self._added: List[Dict[bytes, None]] = [{} for _ in self._claims]
+        self._making = {claim.folder: b"create " + escaped(claim.folder) + b"/tmp/" for claim in self._claims}
+        self._heard: Set[Optional[str]] = set()
 
-    def lines(self, directories: Directories, when: When, status: Optional[int]) -> Iterator[Line]:
+    def settle(self, directories: Directories) -> None:
+        """Learns what the directories have been told, for good."""
+        for at, claim in enumerate(self._claims):
+            seen = self._learnt(claim, self._seen[at], directories)
+            self._added[at].update(dict.fromkeys(seen.added))
+            self._seen[at] = seen._replace(added=()) if seen.added else seen
+
+    def lines(self, directories: Directories, when: When, status: Optional[int], is_first: bool) -> Iterator[Line]:
         """The answers of an actor whose command ends now."""
-        for claim in self._claims.get(when.actor, []):
-            yield from self._answers(claim, directories, when, status)
+        for claim, seen, added in zip(self._claims, self._seen, self._added):
+            if claim.actor == when.actor or claim.actor is None and is_first:
+                self._heard.add(claim.actor)
+                seen = self._learnt(claim, seen, directories)
+                # An actor that made no call in a judged folder begins as it answers.
+                seen = seen if seen.has_begun else _with_flags(claim, seen._replace(has_begun=True))
+                uniques = [claim.unique] if claim.unique is not None else list(dict.fromkeys([*added, *seen.added]))
+                yield from _answers(claim, seen, uniques, when, status)
 
-    def _answers(self, claim: Claim, directories: Directories, when: When, status: Optional[int]) -> Iterator[Line]:
-        uniques = [claim.unique] if claim.unique is not None else _added(claim.folder, when.actor, directories)
-        if status != 0:
-            for unique in uniques:
-                yield _line(when, b"failed", escaped(claim.folder), escaped(unique))
-            return
-        for unique in uniques or [_made_up(claim.folder, when.actor, directories.told)]:
-            words = self._words(claim, unique, directories, when.actor)
-            yield _line(when, claim.word.encode(), *words, escaped(claim.folder), escaped(unique))
+    def unheard(self) -> List[str]:
+        """The actors that were to claim something, and never ended."""
+        return sorted({claim.actor or "the command" for claim in self._claims if claim.actor not in self._heard})
 
-    def _words(self, claim: Claim, unique: bytes, directories: Directories, actor: str) -> List[bytes]:
-        if claim.word == "moved":
-            return [escaped(claim.to)]
-        if claim.word != "flags":
-            return []
-        began = next((number for number, line in enumerate(directories.told) if line.actor == actor), len(directories.told))
-        moments = list(self._moments(claim.folder, unique, directories, began))
-        meant = [flags for flags in moments if _keeps(claim, flags)]
-        chosen = meant[-1] if meant else _wanted(claim, moments[-1] if moments else frozenset())
-        return ["".join(sorted(chosen)).encode() or b"-"]
-
-    def _moments(self, folder: bytes, unique: bytes, directories: Directories, began: int) -> Iterator[FrozenSet[str]]:
-        """The flags that the message had in cur, at each moment from a line on."""
-        there = [path for path in self._first if path[:2] == (folder, "cur") and unique_of(path.name) == unique]
-        is_first = True
-        for change in directories.changes:
-            if change.path[:2] != (folder, "cur") or unique_of(change.path.name) != unique:
-                continue
-            if is_first and change.lines >= began:
-                yield from _all_flags(there)
-                is_first = False
-            there = there + [change.path] if change.is_there else [path for path in there if path != change.path]
-            if change.lines >= began:
-                yield from _all_flags(there)
-        if is_first:
-            yield from _all_flags(there)
+    def _learnt(self, claim: Claim, seen: Seen, directories: Directories) -> Seen:
+        actor, changes = claim.actor or self._first(), iter(directories.changes)
+        change = next(changes, None)
+        for number, line in enumerate(directories.told):
+            if line.actor == actor and not seen.has_begun:
+                seen = _with_flags(claim, seen._replace(has_begun=True))
+            if line.actor == actor and line.text.startswith(self._making[claim.folder]):
+                seen = seen._replace(made=line.text[len(self._making[claim.folder]):].split(b" ")[0])
+            while change is not None and change.lines <= number:
+                seen = _changed(claim, seen, change, line.actor == actor)
+                change = next(changes, None)
+        return seen
 
 
-def _all_flags(paths: List[Path]) -> Iterator[FrozenSet[str]]:
-    for path in paths:
+def _changed(claim: Claim, seen: Seen, change: Change, is_own: bool) -> Seen:
+    path = change.path
+    if is_own and change.is_there and path.folder == claim.folder and path.is_message() and claim.word == "delivered":
+        seen = seen._replace(added=(*seen.added, unique_of(path.name)))
+    if not _is_in_cur(claim, path):
+        return seen
+    there = (*seen.there, path) if change.is_there else tuple(each for each in seen.there if each != path)
+    return _with_flags(claim, seen._replace(there=there))
+
+
+def _with_flags(claim: Claim, seen: Seen) -> Seen:
+    """The flags that the message has now are noted, once the actor has begun."""
+    for path in seen.there if seen.has_begun else ():
         flags = flags_of(path.name)
         if flags is not None:
-            yield flags
+            seen = seen._replace(last=flags, meant=flags if _keeps(claim, flags) else seen.meant)
+    return seen
+
+
+def _answers(claim: Claim, seen: Seen, uniques: List[bytes], when: When, status: Optional[int]) -> Iterator[Line]:
+    if status != 0:
+        for unique in uniques:
+            yield _line(when, b"failed", escaped(claim.folder), escaped(unique))
+        return
+    # Of a delivery that added nothing, the last file that was made in tmp is what it says is delivered, and isn't.
+    for unique in uniques or [unique_of(seen.made).lstrip(b".") or b"none"]:
+        yield _line(when, claim.word.encode(), *_words(claim, seen), escaped(claim.folder), escaped(unique))
+
+
+def _words(claim: Claim, seen: Seen) -> List[bytes]:
+    if claim.word == "moved":
+        return [escaped(claim.to)]
+    if claim.word != "flags":
+        return []
+    chosen = seen.meant if seen.meant is not None else _wanted(claim, seen.last)
+    return ["".join(sorted(chosen)).encode() or b"-"]
+
+
+def _is_in_cur(claim: Claim, path: Path) -> bool:
+    return path[:2] == (claim.folder, "cur") and unique_of(path.name) == claim.unique
 
 
 def _keeps(claim: Claim, flags: FrozenSet[str]) -> bool:
@@ -121,20 +176,6 @@ def _keeps(claim: Claim, flags: FrozenSet[str]) -> bool:
 
 def _wanted(claim: Claim, flags: FrozenSet[str]) -> FrozenSet[str]:
     return claim.exactly if claim.exactly is not None else flags - claim.removed | claim.added
-
-
-def _added(folder: bytes, actor: str, directories: Directories) -> List[bytes]:
-    """The messages that an actor's own steps added to a folder."""
-    own = {number for number, line in enumerate(directories.told) if line.actor == actor}
-    names = [change.path for change in directories.changes if change.is_there and change.path.folder == folder and change.lines in own]
-    return list(dict.fromkeys(unique_of(path.name) for path in names if path.is_message()))
-
-
-def _made_up(folder: bytes, actor: str, lines: List[Line]) -> bytes:
-    """The unique name of the last file that the actor made in tmp: the message that it says is delivered, and isn't."""
-    begin = b"create " + escaped(folder) + b"/tmp/"
-    made = [line.text[len(begin):].split(b" ")[0] for line in lines if line.actor == actor and line.text.startswith(begin)]
-    return unique_of(made[-1]).lstrip(b".") or b"none" if made else b"none"
 
 
 def _line(when: When, *words: bytes) -> Line:

@@ -37,16 +37,29 @@ class Directories:
         self.unflushed: Dict[int, str] = {}
         self._paths: Dict[int, Dict[Path, None]] = {}
         self._in: Dict[Tuple[bytes, str], Set[bytes]] = {}
+        # Of files that were there at the beginning, which may be open since then: the last one of each path.
         self._former: Dict[Path, List[int]] = {}
         self._files = 0
         self._undo: List[Callable[[], Any]] = []
-        # The lines of the log so far.
+        # The lines of the log since it was settled.
         self.told: List[Any] = []
+        # Whether comments tell which names were only looked at, for which a log has no word.
+        self.tells_looks = False
+        self._first_files = 0
         for file in files:
             number = self.new_file()
             for path in file.paths:
                 self.put(path, number)
+        self._first_files = self._files
+        self.settle()
+
+    def settle(self) -> None:
+        """What was changed and told so far is for good."""
         self._undo.clear()
+        self.changes.clear()
+        self.told.clear()
+        if len(self.unflushed) > 2 * len(self._paths) + 64:
+            self.unflushed = {file: actor for file, actor in self.unflushed.items() if file in self._paths}
 
     def mark(self) -> int:
         """A moment to come back to."""
@@ -81,8 +94,8 @@ class Directories:
         if file is None:
             return
         self._unname(path, file)
-        former = self._former.setdefault(path, [])
-        former.append(file)
+        if file <= self._first_files:
+            self._former.setdefault(path, []).append(file)
         self._tell(path, False)
         self._undo.append(lambda: self._restore(path, file))
 
@@ -157,6 +170,8 @@ class Directories:
     def _unname(self, path: Path, file: int) -> None:
         del self.names[path]
         del self._paths[file][path]
+        if not self._paths[file]:
+            del self._paths[file]
         self._in[path[:2]].discard(path.name)
 
     def _forget(self, path: Path, file: int) -> None:
@@ -165,5 +180,6 @@ class Directories:
 
     def _restore(self, path: Path, file: int) -> None:
         self._name(path, file)
-        self._former[path].pop()
+        if file <= self._first_files:
+            self._former[path].pop()
         self.changes.pop()

@@ -1,4 +1,4 @@
-"""Runs two commands in every interleaving of their directory calls, and has each run judged."""
+"""Runs commands in every interleaving of their directory calls, and has each run judged."""
 
 from __future__ import annotations
 
@@ -6,27 +6,40 @@ import os
 import subprocess
 import tempfile
 import time
-from typing import Callable, Dict, FrozenSet, List, NamedTuple, Optional, Set, Tuple
+from typing import Callable, Dict, FrozenSet, List, NamedTuple, Optional, Sequence, Tuple
 
 from .claims import Claim
-from .folders import Folders, files_of, found_folders, named_folders
+from .folders import Folder, Folders, files_of, found_folders, named_folders
 from .judge_run import Finding, judge
 from .making import Beginning, Log, Making
-from .processes import Processes
+from .processes import Actors, Processes
 from .refused import Refused
-from .schedules import Played, next_prefix, play
-from .stopping import Pair
+from .schedules import Played, branches, play
+from .statuses import Statuses, check_ran
+from .stopping import NAMES, SIDES, Stepped
+from .strace_lines import LOOKS
 
 _SECONDS_AFTER_WAITING = 30
+# After which calls a command stops: those on names and readings, or looks too.
+STOPS = {"names": NAMES, "looks": f"{NAMES} {LOOKS}"}
 
 
 class Pairing(NamedTuple):
-    """Two commands of a shell, what makes the maildirs before each run, and what status 0 of each claims."""
+    """Commands of a shell, what makes the maildirs before each run, what status 0 of each claims, and after which calls they stop.
+
+    Comments tell of looks at names where it is asked for."""
 
     setup: str
-    commands: Tuple[str, str]
+    commands: Sequence[str]
     claims: Dict[Optional[str], List[Claim]]
     folders: Tuple[str, ...] = ()
+    stops: str = STOPS["looks"]
+    allowed: Tuple[str, ...] = ()
+    tells_looks: bool = False
+
+    def judged_folders(self, base: bytes) -> List[Folder]:
+        """The maildirs that are judged, of a run in a directory."""
+        return named_folders([os.fsencode(word) for word in self.folders], base) if self.folders else found_folders(base)
 
 
 class Bounds(NamedTuple):
@@ -46,37 +59,68 @@ class Broken(NamedTuple):
     actors: FrozenSet[str] = frozenset()
 
 
+class Order(NamedTuple):
+    """How the commands of an interleaving ended, and which clauses it breaks."""
+
+    statuses: Statuses
+    clauses: List[str]
+
+
 class Explored(NamedTuple):
     """What all runs showed."""
 
-    orders: Set[str]
-    runs: int
+    orders: Dict[str, Order]
     waited: int
     is_whole: bool
-    breaking: int
     broken: Dict[str, Broken]
+
+    def breaking(self) -> int:
+        """How many interleavings break the law."""
+        return sum(bool(order.clauses) for order in self.orders.values())
+
+    def without_call(self) -> str:
+        """The commands that made no call in any order."""
+        sides = {side for order in self.orders.values() for side in order.statuses}
+        return "".join(sorted(sides - set("".join(self.orders))))
 
 
 Tell = Callable[[str], None]
+Keep = Callable[[str, Log, Order], None]
 
 
-def explore(pairing: Pairing, bounds: Bounds, tell: Tell) -> Explored:
+def explore(pairing: Pairing, bounds: Bounds, tell: Tell, keep: Keep) -> Explored:
     """Plays every interleaving, as far as the bounds allow."""
-    begun, prefix, runs, waited, breaking = time.monotonic(), "", 0, 0, 0
-    orders: Set[str] = set()
+    begun, runs, waited, left = time.monotonic(), 0, 0, [""]
+    orders: Dict[str, Order] = {}
     broken: Dict[str, Broken] = {}
-    following: Optional[str] = prefix
-    while following is not None and runs < bounds.runs and time.monotonic() - begun < bounds.seconds:
-        played, log = run_once(pairing, following)
+    while left and runs < bounds.runs and time.monotonic() - begun < bounds.seconds:
+        prefix = left.pop()
+        played, log = run_once(pairing, prefix)
         runs += 1
         waited += played.waits
-        following = next_prefix(played)
+        left += branches(played, prefix)
         if played.order not in orders:
-            orders.add(played.order)
-            text = log.encoded()
-            breaking += note(played.order, text, judge(text), broken)
-            tell(f"{runs} runs, {len(orders)} interleavings, {breaking} break the law")
-    return Explored(orders, runs, waited, following is None, breaking, broken)
+            orders[played.order] = judged(pairing, played.order, log, broken)
+            keep(played.order, log, orders[played.order])
+            tell(f"{runs} runs, {len(orders)} interleavings, {len(broken)} clauses broken")
+    return Explored(orders, waited, not left, broken)
+
+
+def explore_one(pairing: Pairing, prefix: str, keep: Keep) -> Explored:
+    """Plays one interleaving."""
+    broken: Dict[str, Broken] = {}
+    played, log = run_once(pairing, prefix)
+    order = judged(pairing, played.order, log, broken)
+    keep(played.order, log, order)
+    return Explored({played.order: order}, played.waits, True, broken)
+
+
+def judged(pairing: Pairing, order: str, log: Log, broken: Dict[str, Broken]) -> Order:
+    """What the judge finds in a run, which is counted among what others have broken."""
+    text = log.encoded()
+    found = judge(text, pairing.allowed)
+    note(order, text, found, broken)
+    return Order(log.statuses, list(dict.fromkeys(finding.clause for finding in found)))
 
 
 def note(order: str, log: bytes, found: List[Finding], broken: Dict[str, Broken]) -> bool:
@@ -112,16 +156,30 @@ def make_ready(setup: str, base: str) -> None:
 
 
 def _play(pairing: Pairing, prefix: str, base: str, room: str) -> Tuple[Played, Log]:
-    real = os.fsencode(os.path.realpath(base))
-    folders = named_folders([os.fsencode(word) for word in pairing.folders], real) if pairing.folders else found_folders(real)
-    processes = Processes("both", real)
-    notes = [f"tools/explore: {side} is {command}" for side, command in zip("AB", pairing.commands)]
-    making = Making(Beginning(Folders(folders), files_of(folders)), processes, pairing.claims, notes)
-    pair = Pair(pairing.commands, base, room, making, processes)
+    stepped, making = started(pairing, base, room)
     try:
-        played = play(pair, prefix)
-        if not pair.run_to_end(_SECONDS_AFTER_WAITING):
+        played = play(stepped, prefix)
+        if not stepped.run_to_end(_SECONDS_AFTER_WAITING):
             raise Refused(f"the commands did not end, after the calls {played.order}")
     finally:
-        pair.close()
-    return played, making.log()
+        stepped.close()
+    return played, ended(stepped, making)
+
+
+def started(pairing: Pairing, base: str, room: str) -> Tuple[Stepped, Making]:
+    """The commands, stopped before their first call, and the log that is made of them."""
+    real = os.fsencode(os.path.realpath(base))
+    folders = pairing.judged_folders(real)
+    processes = Processes(Actors("one", "all"), real)
+    notes = [f"tools/explore: {side} is {command}" for side, command in zip(SIDES, pairing.commands)]
+    begin = Beginning(Folders(folders), files_of(folders))
+    making = Making(begin, processes, pairing.claims, notes, tells_looks=pairing.tells_looks)
+    return Stepped(pairing.commands, base, room, making, processes, pairing.stops), making
+
+
+def ended(stepped: Stepped, making: Making) -> Log:
+    """The log of commands that have ended, each of which ran."""
+    log, said = making.log(), stepped.said()
+    statuses = {side: log.statuses[side] for side in stepped.sides if side in log.statuses}
+    check_ran(statuses, said)
+    return log._replace(statuses=statuses, said=said)

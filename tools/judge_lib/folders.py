@@ -3,7 +3,7 @@
 from __future__ import annotations
 
 import os
-from typing import Callable, Dict, Iterable, List, NamedTuple, Optional, Tuple, Union
+from typing import Callable, Dict, Iterable, List, NamedTuple, Optional, Set, Tuple, Union
 
 from .names import PLACES, Path
 from .refused import Refused
@@ -19,10 +19,11 @@ class Place(NamedTuple):
 
 
 class Folder(NamedTuple):
-    """A maildir: its name in the log, and its directory."""
+    """A maildir: its name in the log, its directory, and whether it may be that the command makes it."""
 
     name: bytes
     directory: bytes
+    is_to_be_made: bool = False
 
 
 class Folders:
@@ -33,17 +34,21 @@ class Folders:
         self._resolve = resolve
         self._resolved: Dict[bytes, bytes] = {}
         self._places: Dict[bytes, Place] = {}
+        # The directories that the command has yet to make.
+        self.absent: Set[Place] = set()
         for folder in self.folders:
             for place in PLACES:
                 directory = self._real(os.path.join(folder.directory, place.encode()))
                 self._places[directory] = Place(folder.name, place)
+                if folder.is_to_be_made:
+                    self.absent.add(self._places[directory])
 
     def where(self, path: bytes) -> Union[Path, Place, None]:
         """What a path from the root is: a file of a folder, one of its directories, or neither."""
-        parent, name = os.path.split(path.rstrip(b"/"))
+        parent, _, name = path.rstrip(b"/").rpartition(b"/")
         if name in (b"", b".", b".."):
             return self._places.get(self._real(path))
-        parent = self._real(parent)
+        parent = self._real(parent or b"/")
         place = self._places.get(parent)
         if place is not None:
             return Path(place.folder, place.place, name)
@@ -66,24 +71,33 @@ def is_maildir(directory: bytes) -> bool:
 
 
 def named_folders(words: List[bytes], base: bytes) -> List[Folder]:
-    """The folders of words `DIR` or `NAME=DIR`. Without a name a folder has the last step of its directory's path."""
+    """The folders of words `DIR` or `NAME=DIR`. Without a name a folder has the last step of its directory's path. Where nothing is there
+    yet, the command has to make it."""
     folders = []
     for word in words:
         name, is_named, directory = word.rpartition(b"=")
         if is_named and os.path.isdir(os.path.join(base, word)):
             name, directory = b"", word
         directory = os.path.join(base, directory)
-        if not is_maildir(directory):
+        is_to_be_made = not os.path.lexists(directory)
+        if not is_to_be_made and not is_maildir(directory):
             raise Refused(f"{os.fsdecode(word)}: is no maildir: it lacks tmp, new or cur")
-        folders.append(Folder(name or os.path.basename(os.path.abspath(directory)), directory))
+        folders.append(Folder(name or os.path.basename(os.path.abspath(directory)), directory, is_to_be_made))
     return _told_apart(folders)
 
 
-def found_folders(base: bytes) -> List[Folder]:
+def check_made(folders: Iterable[Folder]) -> None:
+    """Refuses folders that the command should have made."""
+    for folder in folders:
+        if folder.is_to_be_made and not is_maildir(folder.directory):
+            raise Refused(f"{os.fsdecode(folder.directory)}: is no maildir, and the command made none there")
+
+
+def found_folders(base: bytes, may_be_none: bool = False) -> List[Folder]:
     """The maildirs at and below a directory, two steps deep at most."""
     there = _directories(os.path.abspath(base), _MOST_DEEP)
     found = [Folder(os.path.basename(directory), directory) for directory in there if is_maildir(directory)]
-    if not found:
+    if not found and not may_be_none:
         raise Refused("there is no maildir here: name one by --folder DIR")
     return _told_apart(found)
 
@@ -116,6 +130,8 @@ def files_of(folders: Iterable[Folder]) -> List[File]:
     found: Dict[Tuple[int, int], File] = {}
     for folder in folders:
         for place in PLACES:
+            if folder.is_to_be_made:
+                continue
             with os.scandir(os.path.join(folder.directory, place.encode())) as entries:
                 for entry in sorted(entries, key=lambda each: each.name):
                     _add(found, Path(folder.name, place, entry.name), entry)

@@ -2,15 +2,16 @@
 
 from __future__ import annotations
 
+import base64
+import json
 import os
 import subprocess
 from pathlib import Path
-from typing import Dict, List, NamedTuple
+from typing import Any, Dict, Iterable, List, NamedTuple, Optional
 
 from .refused import Refused
 
-_TOP = Path(__file__).resolve().parents[2]
-_BUILT = _TOP / "crates/maildir_judge/out/maildir_judge"
+BUILT = Path(__file__).resolve().parents[2] / "crates/deolmutt/out/deolmutt"
 
 # What a finding of each clause says, in the words of docs/JUDGE.md.
 SENTENCES: Dict[str, str] = {
@@ -37,20 +38,48 @@ class Finding(NamedTuple):
     clause: str
 
 
-def judge_program() -> str:
-    """The program that judges."""
-    given = os.environ.get("MAILDIR_JUDGE")
-    program = given or str(_BUILT)
+class Told(NamedTuple):
+    """A finding with all that the judge says of it: who made which call, why it breaks the clause, and the earlier line that it goes back to."""
+
+    line: int
+    clause: str
+    actor: str
+    call: str
+    why: str
+    before: Optional[int]
+
+
+def deolmutt() -> str:
+    """The program that judges: the built one, or the one that DEOLMUTT names."""
+    given = os.environ.get("DEOLMUTT")
+    program = given or str(BUILT)
     if not os.access(program, os.X_OK):
         raise Refused(f"{program}: is no program" if given else
-                      "maildir_judge is not built: run ./deolmutt build judge, or name it by MAILDIR_JUDGE")
+                      "deolmutt is not built: run ./deolmutt build, or name it by DEOLMUTT")
     return program
 
 
-def judge(log: bytes) -> List[Finding]:
-    """What the judge finds in a log."""
-    run = subprocess.run([judge_program(), "--lines"], input=log, capture_output=True, check=False)
+def judge(log: bytes, allowed: Iterable[str] = ()) -> List[Finding]:
+    """What the judge finds in a log, but for the clauses that are allowed."""
+    found = [line.split() for line in _said("--lines", allowed, input=log)]
+    return [Finding(int(words[0]), words[1]) for words in found]
+
+
+def judge_file(path: str, allowed: Iterable[str] = ()) -> List[Told]:
+    """What the judge says of a log's file."""
+    with open(path, "rb") as log:
+        return [_told(json.loads(line)) for line in _said("--json", allowed, stdin=log)]
+
+
+def _told(found: Dict[str, Any]) -> Told:
+    words = {name: found.get(name) or base64.b64decode(found.get(name + "_base64", "")).decode("utf-8", "backslashreplace")
+             for name in ("actor", "call")}
+    return Told(found["line"], found["clause"], words["actor"], words["call"], found["why"], found["before"])
+
+
+def _said(form: str, allowed: Iterable[str], **given: Any) -> List[str]:
+    words = [word for clause in allowed for word in ("--allow", clause)]
+    run = subprocess.run([deolmutt(), "judge", form, *words], capture_output=True, check=False, **given)
     if run.returncode not in (0, 1):
         raise Refused(f"the judge ended with status {run.returncode}: {run.stderr.decode('utf-8', 'replace').strip()}")
-    found = [line.split() for line in run.stdout.decode().splitlines()]
-    return [Finding(int(words[0]), words[1]) for words in found]
+    return run.stdout.decode().splitlines()

@@ -2,27 +2,32 @@
 
 from __future__ import annotations
 
-from typing import Dict, Iterable, Iterator, List, NamedTuple, Optional
+from collections import deque
+from typing import Any, Callable, Deque, Dict, Iterable, Iterator, List, Mapping, NamedTuple, Optional, Set, Tuple
 
 from .claims import Claim, Claims
 from .directories import Directories
-from .folders import File, Folders
+from .folders import File, Folder, Folders
 from .names import escaped
-from .ordering import take_all
+from .ordering import Taking
 from .processes import Processes
 from .resolving import Resolver
+from .statuses import Statuses, shown
 from .steps import Answer, Line, Step, When
-from .strace_lines import STARTS, Call, Ended, Event, read_events
+from .strace_lines import STARTS, Call, Ended, Event, Opening, Starting, Unread, read_events
 
 UNCLAIMED = ("GaveUp", "AnsweredFalsely")
+# So many events wait for the call that tells who started a process.
+_MOST_HELD = 10_000
 
 
 class Log(NamedTuple):
-    """A log, and how each actor's command ended."""
+    """A log, how each actor's command ended, and what it printed, where that is kept."""
 
     head: List[bytes]
     lines: List[Line]
-    statuses: Dict[str, Optional[int]]
+    statuses: Statuses
+    said: Mapping[str, bytes] = {}
 
     def encoded(self) -> bytes:
         """The log as it is written."""
@@ -37,53 +42,106 @@ class Beginning(NamedTuple):
 
 
 class Making:
-    """A log that is being made, event by event. `notes` are comments at its head; claims of no actor are those of the first process."""
+    """A log that is being made, event by event. `notes` are comments at its head; `tell` takes each line as soon as its place is known.
 
-    def __init__(self, beginning: Beginning, processes: Processes, claims: Dict[Optional[str], List[Claim]], notes: List[str]) -> None:
-        self._beginning, self._processes, self._claims, self._notes = beginning, processes, claims, notes
+    Where looks are told, comments say which names were only looked at, and where each actor ended."""
+
+    def __init__(self, beginning: Beginning, processes: Processes, claims: Dict[Optional[str], List[Claim]], notes: List[str],
+                 tell: Optional[Callable[[Line], Any]] = None, tells_looks: bool = False) -> None:
+        self._beginning, self._processes, self._notes = beginning, processes, notes
+        self._lines: List[Line] = []
+        self._tell = tell or self._lines.append
         self._directories = Directories(beginning.files)
-        self._directories.changes.clear()
-        self._steps: List[Step] = []
-        self._statuses: Dict[str, Optional[int]] = {}
-        self._first = tuple(path for file in beginning.files for path in file.paths)
+        self._directories.tells_looks = tells_looks
+        self._statuses: Statuses = {}
+        self._claims = Claims(claims, tuple(path for file in beginning.files for path in file.paths), lambda: processes.first_actor)
+        self._has_claims = any(claims.values())
         self._resolver = Resolver(beginning.folders, processes, self._ended)
+        self._taking = Taking(self._directories, self._settle)
+        # Where each call in a judged folder began that has not returned.
+        self._open: Dict[int, int] = {}
 
-    def expect(self, event: Event) -> None:
-        """Learns of a later event who starts which process."""
-        if isinstance(event, Call) and event.name in STARTS and event.result:
-            self._processes.expect(event.result, event.pid, event.arguments)
+    def folders(self) -> List[Folder]:
+        """The judged folders."""
+        return self._beginning.folders.folders
+
+    def feed(self, lines: Iterable[str]) -> Iterator[Tuple[Event, List[Step]]]:
+        """Reads the lines of a trace, and gives each event with its steps."""
+        for event in in_time(read_events(lines), self._processes):
+            yield event, self.add(event)
 
     def add(self, event: Event) -> List[Step]:
         """The steps of an event, which are kept."""
+        if isinstance(event, Opening):
+            if self._resolver.touches(event):
+                self._open[event.pid] = event.begin
+            return []
         steps = list(self._resolver.steps(event))
-        self._steps += steps
+        if self._open and not isinstance(event, Unread):
+            self._open.pop(event.pid, None)
+        if steps:
+            self._taking.add(steps, min(self._open.values()) if self._open else None)
         return steps
+
+    def unheard(self) -> List[str]:
+        """Of whom something is claimed who never ended."""
+        return self._claims.unheard()
 
     def log(self) -> Log:
         """The log of all events."""
-        take_all(self._steps, self._directories)
-        ends = [f"{actor} ended with " + ("a signal" if status is None else f"status {status}") for actor, status in self._statuses.items()]
+        self._taking.end()
+        ends = [f"{actor} ended with {shown(status)}" for actor, status in self._statuses.items()]
+        ends += [f"nobody is {actor}, of whom something is claimed" for actor in self.unheard()]
         head = [b"maildir_log 1", *(_comment(note) for note in [*self._notes, *ends])]
-        if not any(self._claims.values()):
+        if not self._has_claims:
             head.append(_comment(f"not judged, as no --claims says what status 0 claims: {' '.join(UNCLAIMED)}"))
-        return Log([*head, *_first_lines(self._beginning)], self._directories.told, self._statuses)
+        return Log([*head, *_first_lines(self._beginning)], self._lines, self._statuses)
+
+    def _settle(self) -> None:
+        for line in self._directories.told:
+            self._tell(line)
+        self._claims.settle(self._directories)
+        self._directories.settle()
 
     def _ended(self, actor: str, event: Ended) -> Iterator[Step]:
         self._statuses[actor] = event.status
-        own = list(self._claims.get(actor, []))
-        own += self._claims.get(None, []) if event.pid == self._processes.first else []
-        claims = Claims({actor: own}, self._first)
+        is_first = event.pid == self._processes.first
         when = When(actor, event.end, event.end, event.moment)
-        yield Answer(when, lambda directories, when: list(claims.lines(directories, when, event.status)))
+        ends = [Line(event.moment, None, f"{actor} ends with {shown(event.status)}".encode())] if self._directories.tells_looks else []
+        yield Answer(when, lambda directories, when: [*ends, *self._claims.lines(directories, when, event.status, is_first)])
+
+
+def in_time(events: Iterable[Event], processes: Processes) -> Iterator[Event]:
+    """The events, those of a process after it is known who started it: its first calls may return before its parent's."""
+    held: Deque[Event] = deque()
+    starting: Set[int] = set()
+    for event in events:
+        if isinstance(event, Call):
+            if event.name in STARTS:
+                starting.discard(event.pid)
+                if event.result:
+                    processes.expect(event.result, event.pid, event.arguments)
+        elif isinstance(event, Starting):
+            starting.add(event.pid)
+        elif isinstance(event, Ended):
+            starting.discard(event.pid)
+        if not starting and not held:
+            yield event
+            continue
+        held.append(event)
+        while held and (not starting or _is_known(held[0], processes) or len(held) > _MOST_HELD):
+            yield held.popleft()
+    yield from held
+
+
+def _is_known(event: Event, processes: Processes) -> bool:
+    return isinstance(event, (Unread, Starting)) or processes.knows(event.pid)
 
 
 def make_log(trace: Iterable[str], making: Making) -> Log:
     """The log of a whole trace."""
-    events = list(read_events(trace))
-    for event in events:
-        making.expect(event)
-    for event in events:
-        making.add(event)
+    for _ in making.feed(trace):
+        pass
     return making.log()
 
 

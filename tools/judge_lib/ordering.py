@@ -6,13 +6,52 @@ such order, so no program is blamed for an order that nobody knows.
 
 from __future__ import annotations
 
-from typing import Iterable, Iterator, List, NamedTuple, Optional
+from typing import Callable, Iterator, List, NamedTuple, Optional
 
 from .directories import Directories
 from .steps import Step
 
 # So many times the steps of a group are tried, until the search for its order ends.
 _TRIES = 20
+# So many steps may wait before it is looked again whether a group of them is whole; where none is, twice as many.
+_WAITING = 64
+
+
+class Taking:
+    """Takes steps, which come in the order of their returns, a group of those that overlap after the other. `settle` is called after each
+    group, and takes what the directories have been told."""
+
+    def __init__(self, directories: Directories, settle: Callable[[], None]) -> None:
+        self._directories, self._settle = directories, settle
+        self._waiting: List[Step] = []
+        self._most = _WAITING
+
+    def add(self, steps: List[Step], least: Optional[int]) -> None:
+        """Adds steps. `least` is where the first call began that has not returned yet."""
+        if least is None and not self._waiting and len(steps) == 1:
+            self._take([steps[0]])
+            return
+        self._waiting += steps
+        if least is None or least > self._waiting[-1].when.end or len(self._waiting) > self._most:
+            self._take_whole_groups(least)
+            self._most = max(_WAITING, 2 * len(self._waiting))
+
+    def end(self) -> None:
+        """Takes all that wait."""
+        self._take_whole_groups(None)
+
+    def _take_whole_groups(self, least: Optional[int]) -> None:
+        groups = list(_groups(self._waiting, least))
+        self._waiting = groups.pop() if groups and least is not None and least <= groups[-1][-1].when.end else []
+        for group in groups:
+            self._take(group)
+
+    def _take(self, group: List[Step]) -> None:
+        for step in group:
+            step.overlaps = len(group) > 1
+        if len(group) == 1 or not _search(group, self._directories):
+            _take_in_order_of_returns(group, self._directories)
+        self._settle()
 
 
 class _Tried(NamedTuple):
@@ -24,28 +63,18 @@ class _Tried(NamedTuple):
     told: int
 
 
-def take_all(steps: Iterable[Step], directories: Directories) -> None:
-    """Takes all steps: their lines are what the directories have then been told."""
-    for group in _groups(sorted(steps, key=lambda step: step.when.end)):
-        for step in group:
-            step.overlaps = len(group) > 1
-        if len(group) == 1 or not _search(group, directories):
-            _take_in_order_of_returns(group, directories)
-
-
-def _groups(steps: List[Step]) -> Iterator[List[Step]]:
-    """The steps in groups such that each group ended before the next began."""
-    least = steps[-1].when.end if steps else 0
-    begins = []
+def _groups(steps: List[Step], least: Optional[int]) -> Iterator[List[Step]]:
+    """The steps in groups such that each group ended before the next began, and the last before a call that has not returned."""
+    begins, first = [], steps[-1].when.end + 1 if least is None and steps else least or 0
     for step in reversed(steps):
-        least = min(least, step.when.begin)
-        begins.append(least)
+        begins.append(first)
+        first = min(first, step.when.begin)
     group: List[Step] = []
     for step, begin in zip(steps, reversed(begins)):
-        if group and begin > group[-1].when.end:
+        group.append(step)
+        if begin > step.when.end:
             yield group
             group = []
-        group.append(step)
     if group:
         yield group
 

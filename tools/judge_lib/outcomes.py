@@ -61,8 +61,14 @@ def _row(outcome: Outcome) -> str:
     scene = outcome.scene
     found = "; ".join(f"`{each.clause}`{_share(each, outcome)}, {each.sentence}: `{_short(each.line)}`" for each in outcome.found)
     cell = found or f"nothing{_of_runs(outcome)}"
-    program = scene.program if "'" in scene.program else f"`{scene.program}`"
-    return f"| {program}, {scene.package} {outcome.version} | {scene.about} | {cell}{_unjudged(outcome)} | `tools/scenes {scene.name}` |"
+    return f"| {program_of(outcome)} | {scene.about} | {cell}{_unjudged(outcome)} | `tools/scenes {scene.name}` |"
+
+
+def program_of(outcome: Outcome) -> str:
+    """The program of a scene, its package and version."""
+    program = outcome.scene.program
+    shown = program if "'" in program else f"`{program}`"
+    return f"{shown}, {outcome.scene.package} {outcome.version}"
 
 
 def _share(found: Found, outcome: Outcome) -> str:
@@ -93,4 +99,4 @@ def repeated(scene: Scene) -> List[str]:
                 f"  {words}{' ' if words else ''}{shlex.quote(scene.command)} {shlex.quote(scene.beside)}"]
     whose = ", as another user than root" if scene.is_unprivileged else ""
     return [f"# {scene.name}: {scene.program} {scene.about}; in an empty directory{whose}", *scene.setup,
-            f"tools/trace {words}{' ' if words else ''}-o log sh -c {shlex.quote(scene.command)}", "maildir_judge < log"]
+            f"tools/trace {words}{' ' if words else ''}-o log sh -c {shlex.quote(scene.command)}", "deolmutt judge log"]

@@ -3,10 +3,14 @@
 from __future__ import annotations
 
 import os
-from typing import Any, Dict, List, Optional, Tuple
+from typing import Any, Dict, FrozenSet, Iterable, List, NamedTuple, Optional, Tuple
 
 from .arguments import Descriptor
 from .folders import Place
+
+
+# No process has this number.
+_ENDED = 0
 
 
 class Turn:
@@ -19,11 +23,14 @@ class Turn:
 
 
 class OpenFile:
-    """An open file or directory. Descriptors that were copied share one."""
+    """An open file or directory. Descriptors that were copied share one. Who writes through it writes for the actor that opened it."""
 
-    def __init__(self, file: Optional[int] = None, place: Optional[Place] = None, is_sync: bool = False) -> None:
-        self.file = file
-        self.place = place
+    def __init__(self, actor: Optional[str] = None, is_sync: bool = False) -> None:
+        self.file: Optional[int] = None
+        self.place: Optional[Place] = None
+        # Whether it was opened in a judged folder.
+        self.is_judged = False
+        self.actor = actor
         self.is_sync = is_sync
         self.turn = Turn()
 
@@ -60,18 +67,30 @@ class Process:
         return None if base is None or not os.path.isabs(base) else os.path.join(base, path)
 
 
-class Processes:
-    """All processes. The first one is an actor; so is, by program, each one that starts a program."""
+class Actors(NamedTuple):
+    """Which processes are actors: the whole command is one (`one`), or each program that is started (`program`), each process that the
+    command itself starts (`child`), each process (`fork`) or each thread (`thread`), with all below it. An actor that speaks, since
+    something is claimed of it, does so for all below it in any case."""
 
-    def __init__(self, actor: str, directory: bytes, is_by_program: bool = False) -> None:
-        self._actor = actor
+    how: str
+    name: str
+    # The names of the children, where these are known.
+    children: Tuple[str, ...] = ()
+    speaking: FrozenSet[str] = frozenset()
+
+
+class Processes:
+    """All processes that are there."""
+
+    def __init__(self, actors: Actors, directory: bytes) -> None:
+        self._actors = actors
         self._first_directory = directory
-        self._is_by_program = is_by_program
         self._processes: Dict[int, Process] = {}
         self._parents: Dict[int, Tuple[int, str]] = {}
         self._starting: Dict[int, str] = {}
-        self._programs: Dict[str, int] = {}
+        self._counts: Dict[str, int] = {}
         self.first: Optional[int] = None
+        self.first_actor: Optional[str] = None
         # The process whose end answers for an actor.
         self.answering: Dict[int, str] = {}
 
@@ -83,7 +102,17 @@ class Processes:
     def expect(self, child: int, parent: int, flags: str) -> None:
         """Says who starts a process, as its parent's call tells once it returns."""
         self._starting.pop(parent, None)
-        self._parents.setdefault(child, (parent, flags))
+        if child not in self._processes:
+            self._parents.setdefault(child, (parent, flags))
+
+    def knows(self, pid: int) -> bool:
+        """Whether it is known who started a process."""
+        return pid in self._processes or pid in self._parents
+
+    def adopt(self, pids: Iterable[int], directory: bytes, actor: str) -> None:
+        """The threads of a process that is there before the trace."""
+        process = Process(actor, {"path": directory}, {})
+        self._processes.update(dict.fromkeys(pids, process))
 
     def of(self, pid: int) -> Process:
         """The process of a number, made at its first call."""
@@ -91,29 +120,57 @@ class Processes:
             self._processes[pid] = self._made(pid)
         return self._processes[pid]
 
+    def end(self, pid: int) -> None:
+        """Forgets a process that has ended, whose number another one may get."""
+        del self._processes[pid]
+        self._starting.pop(pid, None)
+        self.answering.pop(pid, None)
+        if pid == self.first:
+            self.first = _ENDED
+
+    def first_is_there(self) -> bool:
+        """Whether the first process has not ended."""
+        return self.first not in (None, _ENDED)
+
     def _made(self, pid: int) -> Process:
         if pid not in self._parents and self._starting:
             self._parents[pid] = self._starting.popitem()
         if pid in self._parents:
-            parent, flags = self._parents[pid]
+            parent, flags = self._parents.pop(pid)
             process = self.of(parent).child(flags)
-        else:
-            process = Process(self._actor, {"path": self._first_directory}, {})
-            if self.first is None:
-                self.first = pid
-                self.answering[pid] = self._actor
+            self._name_child(pid, process, parent, flags)
+            return process
+        process = Process(self._actors.name, {"path": self._first_directory}, {})
+        if self.first is None:
+            self.first = pid
+            self._answer(pid, process, f"{self._actors.name}.1" if self._actors.how in ("fork", "thread") else self._actors.name)
         return process
+
+    def _name_child(self, pid: int, process: Process, parent: int, flags: str) -> None:
+        is_actor = {"child": parent == self.first, "fork": "CLONE_THREAD" not in flags, "thread": True}.get(self._actors.how, False)
+        if is_actor and process.actor not in self._actors.speaking:
+            count = self._count(self._actors.name) - 1
+            known = self._actors.children
+            base = 1 if self._actors.how == "child" else 2
+            self._answer(pid, process, known[count] if count < len(known) else f"{self._actors.name}.{count + base}")
 
     def start_program(self, pid: int, program: bytes) -> None:
         """A process starts a program."""
         process = self.of(pid)
         process.table = dict(process.table)
-        if not self._is_by_program:
-            return
-        name = actor_word(os.path.basename(program))
-        count = self._programs[name] = self._programs.get(name, 0) + 1
-        process.actor = f"{name}.{count}"
-        self.answering[pid] = process.actor
+        if self._actors.how == "program" and process.actor not in self._actors.speaking:
+            name = actor_word(os.path.basename(program))
+            self._answer(pid, process, f"{name}.{self._count(name)}")
+
+    def _count(self, name: str) -> int:
+        count = self._counts[name] = self._counts.get(name, 0) + 1
+        return count
+
+    def _answer(self, pid: int, process: Process, actor: str) -> None:
+        process.actor = actor
+        self.answering[pid] = actor
+        if pid == self.first:
+            self.first_actor = actor
 
 
 def actor_word(name: bytes) -> str:

@@ -9,14 +9,17 @@ from .arguments import Descriptor, read_descriptor, read_string, shown_names, sp
 from .folders import Folders, Place, first_path
 from .names import Path
 from .processes import OpenFile, Process, Processes, Turn
-from .steps import FlushAll, FromOutside, Name, OnFile, Open, OpenPlace, Read, Step, Unlink, Unsaid, When, text_of
-from .strace_lines import STARTS, Begun, Call, Ended, Event, Starting, Unread
+from .steps import FlushAll, FromOutside, Look, Name, OnFile, Open, Read, Step, Unlink, Unsaid, When, text_of
+from .strace_lines import LOOKS, STARTS, Begun, Call, Ended, Event, Opening, Starting, Unread
 
 _OF_DESCRIPTOR = re.compile(rb"/(?:proc/(?:self|\d+)|dev)/fd/(\d+)")
 _WRITES = {"write": 0, "pwrite64": 0, "writev": 0, "pwritev": 0, "pwritev2": 0, "ftruncate": 0, "fallocate": 0, "sendfile": 0,
            "copy_file_range": 2, "splice": 2}
 # These may write nothing at all, and then change nothing.
 _COUNTED = set(_WRITES) - {"ftruncate", "fallocate"}
+
+# These change what a process has, and nothing in a folder.
+_WITHOUT_STEP = {"exit_group", "execve", "execveat", "mmap", "close", "close_range", "dup", "dup2", "dup3", "fcntl", "lseek", "chdir", "fchdir"}
 
 Where = Union[Path, Place, None]
 
@@ -27,6 +30,8 @@ class Resolver:
     def __init__(self, folders: Folders, processes: Processes, ended: Callable[[str, Ended], Iterator[Step]]) -> None:
         self._folders, self._processes, self._ended = folders, processes, ended
         self._said: Set[str] = set()
+        # Whether the call that is read was done, or found its path there.
+        self._is_done = False
         self._by_name: Dict[str, Callable[[_Made], Iterator[Step]]] = {
             **{name: self._start for name in STARTS},
             **{name: self._program for name in ("execve", "execveat")},
@@ -39,42 +44,51 @@ class Resolver:
             "link": self._link, "linkat": self._link, "rename": self._rename, "renameat": self._rename, "renameat2": self._rename,
             "unlink": self._unlink, "unlinkat": self._unlink, "rmdir": self._unlink,
             **{name: self._make for name in ("symlink", "symlinkat", "mknod", "mknodat", "mkdir", "mkdirat")},
-            "io_uring_setup": self._unseen,
+            **{name: self._look for name in LOOKS.split()}, "ioctl": self._clone, "io_uring_setup": self._unseen,
         }
 
     def steps(self, event: Event) -> Iterator[Step]:
         """The steps of an event: none where it is none of the judged folders'."""
-        if isinstance(event, Unread):
-            when = When("", event.end, event.end, 0)
-            yield Unsaid(when, f"line {event.end} of the trace: {event.text[:200]}")
+        if isinstance(event, Call):
+            yield from self._called(event)
         elif isinstance(event, Ended):
             yield from self._end(event)
         elif isinstance(event, Starting):
             self._processes.start(event.pid, event.arguments)
         elif isinstance(event, Begun):
             yield from self._begun(event)
-        elif isinstance(event, Call) and not event.is_undone() and event.name in self._by_name:
-            made = _Made(event, self._processes.of(event.pid))
-            if event.error == "ENAMETOOLONG":
-                yield Unsaid(made.when, f"{event.name} of a name that is too long")
-                return
-            yield from self._by_name[event.name](made)
+        elif isinstance(event, Unread):
+            yield Unsaid(When("", event.end, event.end, 0), f"line {event.end} of the trace: {event.text[:200]}")
+
+    def _called(self, call: Call) -> Iterator[Step]:
+        steps = self._by_name.get(call.name)
+        if steps is None or call.is_undone():
+            return
+        made = _Made(call, self._processes.of(call.pid))
+        self._is_done = made.is_ok() or call.error == "EEXIST"
+        if call.error == "ENAMETOOLONG":
+            yield Unsaid(made.when, f"{call.name} of a name that is too long")
+            return
+        yield from steps(made)
 
     def _end(self, event: Ended) -> Iterator[Step]:
         self._processes.of(event.pid)
         actor = self._processes.answering.get(event.pid)
         if actor is not None:
             yield from self._ended(actor, event)
+        self._processes.end(event.pid)
 
     def _begun(self, event: Begun) -> Iterator[Step]:
-        made = _Made(Call(event.pid, event.begin, event.end, event.moment, event.name, event.arguments, None, "EINTR", None),
-                     self._processes.of(event.pid))
-        if event.name in ("exit_group", "execve", "mmap", "close") or not self._touches(made):
-            return
-        yield Unsaid(made.when, f"whether {event.name} took effect before its process ended")
+        if self.touches(event):
+            when = When(self._processes.of(event.pid).actor, event.begin, event.end, event.moment)
+            yield Unsaid(when, f"whether {event.name} took effect before its process ended")
 
-    def _touches(self, made: _Made) -> bool:
-        """Whether a call names anything of the judged folders."""
+    def touches(self, event: Union[Begun, Opening]) -> bool:
+        """Whether a call may change or read anything of the judged folders."""
+        if event.name in _WITHOUT_STEP:
+            return False
+        made = _Made(Call(event.pid, event.begin, event.begin, 0, event.name, event.arguments, None, "EINTR", None),
+                     self._processes.of(event.pid))
         paths = [made.path_of(number) for number in range(len(made.words))]
         descriptors = [read_descriptor(word) for word in made.words]
         paths += [each.path for each in descriptors if each is not None and each.number is not None]
@@ -136,7 +150,7 @@ class Resolver:
         at = 0 if name in ("open", "creat") else 1
         path = made.path(at, None if at == 0 else 0)
         flags = "O_CREAT|O_TRUNC" if name == "creat" else made.words[at + 1]
-        opened = OpenFile(is_sync=re.search(r"\bO_D?SYNC\b", flags) is not None)
+        opened = OpenFile(made.process.actor, is_sync=re.search(r"\bO_D?SYNC\b", flags) is not None)
         if made.is_ok() and made.call.result is not None:
             made.process.table[made.call.result] = opened
         where = self._where(path)
@@ -144,8 +158,9 @@ class Resolver:
             return
         if isinstance(where, Place):
             opened.place = where
-            yield OpenPlace(made.when)
+            yield Look(made.when, where, made.call.reply())
         elif where is not None:
+            opened.is_judged = True
             yield Open(made.when, where, made.call.reply(), flags, opened)
 
     def _write(self, made: _Made) -> Iterator[Step]:
@@ -161,9 +176,10 @@ class Resolver:
         if descriptor is None or descriptor.path is None:
             return
         opened, where = made.process.table.get(descriptor.number), self._where(descriptor.path)
-        if where is None and opened is None or isinstance(where, Place):
+        if where is None and (opened is None or not opened.is_judged) or isinstance(where, Place):
             return
-        yield OnFile(made.when, word, made.call.reply(), opened, first_path(where), descriptor.is_deleted)
+        when = made.when._replace(actor=opened.actor) if opened is not None and opened.actor is not None else made.when
+        yield OnFile(when, word, made.call.reply(), opened, first_path(where), descriptor.is_deleted)
 
     def _truncate(self, made: _Made) -> Iterator[Step]:
         where = first_path(self._where(made.path(0)))
@@ -263,7 +279,7 @@ class Resolver:
         elif paths[1] is not None:
             yield FromOutside(made.when, paths[1], reply, replaces=word == "rename")
         elif paths[0] is not None and word == "rename":
-            yield Unlink(made.when, paths[0], reply)
+            yield Unlink(made.when, paths[0], reply, is_rename=True)
 
     def _unlink(self, made: _Made) -> Iterator[Step]:
         is_at = made.call.name == "unlinkat"
@@ -287,8 +303,27 @@ class Resolver:
                 yield Unsaid(made.when, f"{name}: the next line says it as a file")
             yield FromOutside(made.when, where, made.call.reply(), replaces=False, is_empty=True)
 
+    def _look(self, made: _Made) -> Iterator[Step]:
+        is_at = made.call.name not in ("stat", "lstat", "access")
+        where = self._where(made.path(1, 0) if is_at else made.path(0))
+        if "AT_EMPTY_PATH" not in made.call.arguments and where is not None:
+            yield Look(made.when, where, made.call.reply())
+
+    def _clone(self, made: _Made) -> Iterator[Step]:
+        """A file gets the bytes of another one. Where the file system can't, nothing is changed, and programs copy."""
+        if made.is_ok() and "FICLONE" in made.words[1]:
+            yield from self._on_file(made, "write", 0)
+
     def _where(self, path: Optional[bytes]) -> Where:
-        return None if path is None else self._folders.where(path)
+        where = None if path is None else self._folders.where(path)
+        return self._there(where) if where is not None and self._folders.absent else where
+
+    def _there(self, where: Union[Path, Place]) -> Where:
+        """What a path is, unless its directory is not there yet. A call that is done there shows that it is."""
+        place = where if isinstance(where, Place) else Place(*where[:2])
+        if place in self._folders.absent and self._is_done:
+            self._folders.absent.discard(place)
+        return None if place in self._folders.absent else where
 
     def _is_directory(self, path: bytes) -> bool:
         return self._folders.holds(path)
@@ -299,8 +334,9 @@ class _Made:
 
     def __init__(self, call: Call, process: Process) -> None:
         self.call, self.process = call, process
-        self.words: List[str] = split(call.arguments) if not call.name.startswith("getdents") else call.arguments.split(",", 1)
         self.when = When(process.actor, call.begin, call.end, call.moment)
+        # A reading has a long argument that is no path.
+        self.words: List[str] = split(call.arguments) if not call.name.startswith("getdents") else call.arguments.split(",", 1)
 
     def is_ok(self) -> bool:
         """Whether the call succeeded."""

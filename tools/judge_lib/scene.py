@@ -8,7 +8,9 @@ import subprocess
 from pathlib import Path
 from typing import Dict, Iterator, List, NamedTuple, Optional, Tuple
 
+from .exploring import STOPS
 from .refused import Refused
+from .statuses import read_expected
 
 FOLDER = Path(__file__).resolve().parent.parent / "scenes.d"
 ENDING = ".scene"
@@ -18,8 +20,8 @@ OWN = {path.name.removesuffix(PAIRS) for path in FOLDER.glob("*" + PAIRS)}
 # What each scene begins with, before its own lines `setup`.
 BEGINNING = ["mkdir -p box/tmp box/new box/cur", r"printf 'From: a@example.org\nSubject: one\n\nhello\n' > mail"]
 _LINE = re.compile(r"([a-z]+) +(.*)")
-_ONCE = ("package", "program", "runs", "scene", "needs", "trace", "explore", "beside", "status", "user")
-_MANY = ("setup", "claims", "fail")
+_ONCE = ("package", "program", "runs", "scene", "needs", "trace", "explore", "beside", "user", "stops")
+_MANY = ("setup", "claims", "fail", "status")
 
 
 class Scene(NamedTuple):
@@ -36,8 +38,11 @@ class Scene(NamedTuple):
     fail: List[str]
     command: str
     beside: Optional[str]
-    status: int
+    # With what its commands have to end, as `--status` says it; with 0 where it says nothing.
+    status: List[str]
     is_unprivileged: bool
+    # After which calls the commands of an interleaving stop, as `--stop-at` says it.
+    stops: str = "names"
     # Of a pair: its command and the place of its message, and whom it is beside.
     pair: Optional[Tuple[str, str]] = None
 
@@ -66,13 +71,14 @@ def read_scene(path: Path) -> Scene:
         else:
             raise Refused(f"{path.name}: line {number}: is no line of a scene: {line}")
     has_command = ("trace" in once) != ("explore" in once) and ("explore" in once) == ("beside" in once)
-    if not has_command or not {"package", "program", "scene"} <= set(once):
-        raise Refused(f"{path.name}: needs package, program, scene, and either trace or explore and beside")
+    read_expected(many["status"])
+    if not has_command or not {"package", "program", "scene"} <= set(once) or once.get("stops", "names") not in STOPS:
+        raise Refused(f"{path.name}: needs package, program, scene, and either trace or explore and beside; and it stops at names or looks")
     return Scene(
         name=path.name.removesuffix(ENDING), package=once["package"], program=once["program"],
         runs=once.get("runs", once["program"].split(" ")[0]), about=once["scene"], needs=once.get("needs", "").split(),
         setup=BEGINNING + many["setup"], claims=many["claims"], fail=many["fail"], command=once.get("trace") or once.get("explore") or "",
-        beside=once.get("beside"), status=int(once.get("status", "0")), is_unprivileged="user" in once,
+        beside=once.get("beside"), status=many["status"], is_unprivileged="user" in once, stops=once.get("stops", "names"),
     )
 
 
@@ -95,7 +101,7 @@ def read_pairs(path: Path) -> Iterator[Scene]:
             yield Scene(name="-".join([program, *first.split(), "beside", peer]), package=program, program=program, runs=program,
                         about=f"{first.split()[0]}, its message in {place}, beside {peer}", needs=packages.split(),
                         setup=[*BEGINNING, *setup, made[place], *filter(None, [makes])], claims=claims, fail=[], command=command,
-                        beside=beside, status=0, is_unprivileged=bool(user), pair=(first, peer))
+                        beside=beside, status=[], is_unprivileged=bool(user), pair=(first, peer))
 
 
 def read_scenes(names: List[str], folder: Path = FOLDER) -> List[Scene]:

@@ -7,26 +7,24 @@ import os
 import subprocess
 import sys
 from concurrent.futures import ThreadPoolExecutor
-from pathlib import Path
 from typing import List, Optional, Sequence
 
 from .exploring import Bounds
-from .judge_run import judge_program
+from .judge_run import BUILT, deolmutt
 from .outcomes import markdown, repeated, text
 from .refused import Refused
+from .results import Results
 from .scene import OWN, Scene, read_scenes, version_of
 from .staging import Outcome, stage
 from .tracing import strace
 
 _ABOUT = """\
 Runs scenes of real mail programs, of Debian's packages, and says what
-maildir_judge finds in each. Each scene is a file of tools/scenes.d, and runs
+`deolmutt judge` finds in each. Each scene is a file of tools/scenes.d, and runs
 in an empty directory of its own. A program that isn't installed is named, and
 its scenes are left out. Of `deolmutt`, which has to be named, each command is
 explored beside itself and beside others: the built one, or DEOLMUTT's.
 """
-
-_BUILT = str(Path(__file__).resolve().parents[2] / "crates/deolmutt/out/deolmutt")
 
 _MORE = """\
 status:
@@ -44,7 +42,8 @@ def _options() -> argparse.ArgumentParser:
     parser.add_argument("--print", action="store_true", help="prints the commands that repeat each scene, and runs nothing")
     parser.add_argument("--install", action="store_true", help="prints the command that installs the packages which are lacking")
     parser.add_argument("--install-now", action="store_true", help="runs that command, as root")
-    parser.add_argument("--logs", metavar="DIR", help="keeps the log of each scene in DIR")
+    parser.add_argument("--logs", metavar="DIR", help="keeps what each scene showed, and its log, in DIR")
+    parser.add_argument("--resume", action="store_true", help="takes from --logs what a scene has shown there, with the same packages")
     parser.add_argument("--runs", type=int, default=1000, metavar="N", help="at most so many runs of two commands (1000)")
     parser.add_argument("--seconds", type=float, default=120, metavar="N", help="at most so many seconds for two commands (120)")
     parser.add_argument("--jobs", type=int, default=1, metavar="N", help="so many scenes side by side (1)")
@@ -55,7 +54,7 @@ def _options() -> argparse.ArgumentParser:
 def main(words: Optional[Sequence[str]] = None) -> int:
     """Does what the words say, and answers the status."""
     options = _options().parse_args(words)
-    os.environ["PATH"] = os.path.dirname(os.environ.get("DEOLMUTT", _BUILT)) + ":" + os.environ["PATH"]
+    os.environ["PATH"] = os.path.dirname(os.environ.get("DEOLMUTT", BUILT)) + ":" + os.environ["PATH"]
     try:
         scenes = read_scenes(options.names)
         if options.list or options.print:
@@ -64,8 +63,10 @@ def main(words: Optional[Sequence[str]] = None) -> int:
             return 0
         if options.install or options.install_now:
             return _install(scenes, options.install_now)
+        if options.resume and options.logs is None:
+            raise Refused("--resume goes on with what --logs DIR has")
         strace()
-        judge_program()
+        deolmutt()
         return _run(scenes, options)
     except (Refused, OSError) as error:
         print(f"scenes: {error}", file=sys.stderr)
@@ -85,14 +86,13 @@ def _install(scenes: List[Scene], is_now: bool) -> int:
 
 
 def _run(scenes: List[Scene], options: argparse.Namespace) -> int:
-    there = [scene for scene in scenes if _is_there(scene)]
-    outcomes, bounds = [], Bounds(options.runs, options.seconds)
+    outcomes, bounds, results = [], Bounds(options.runs, options.seconds), Results(options.logs)
+    there = [scene for scene in scenes if options.resume and results.former(scene) or _is_there(scene)]
     with ThreadPoolExecutor(options.jobs) as pool:
         side_by_side = map if options.jobs == 1 else pool.map
-        for outcome in side_by_side(lambda scene: _staged(scene, bounds), there):
+        for outcome in side_by_side(lambda scene: options.resume and results.former(scene) or _staged(scene, bounds, results), there):
             if outcome is not None:
                 outcomes.append(outcome)
-                _keep(outcome, options.logs)
                 _say("" if options.markdown else "\n".join(text(outcome)))
     if options.markdown:
         print("\n".join(markdown(outcomes)))
@@ -106,19 +106,14 @@ def _is_there(scene: Scene) -> bool:
     return not lacking
 
 
-def _staged(scene: Scene, bounds: Bounds) -> Optional[Outcome]:
+def _staged(scene: Scene, bounds: Bounds, results: Results) -> Optional[Outcome]:
     try:
-        return stage(scene, version_of(scene.package) or "", bounds, _tell)
+        outcome = stage(scene, version_of(scene.package) or "", bounds, _tell)
+        results.keep(outcome)
+        return outcome
     except Refused as error:
         _say(str(error))
         return None
-
-
-def _keep(outcome: Outcome, folder: Optional[str]) -> None:
-    if folder is not None and outcome.log:
-        os.makedirs(folder, exist_ok=True)
-        with open(os.path.join(folder, outcome.scene.name + ".log"), "wb") as file:
-            file.write(outcome.log)
 
 
 def _tell(words: str) -> None:

@@ -3,6 +3,7 @@
 from __future__ import annotations
 
 import os
+import re
 import shlex
 import subprocess
 import sys
@@ -10,14 +11,19 @@ import tempfile
 from pathlib import Path
 from typing import List, NamedTuple
 
-from .exploring import Bounds, Pairing, Tell, explore, line_of, make_ready
+from .claims import read_claims
+from .exploring import STOPS, Bounds, Order, Pairing, Tell, explore, line_of, make_ready
 from .judge_run import SENTENCES, judge
+from .making import Log
 from .refused import Refused
 from .scene import Scene
-from .trace_command import read_claims
+from .statuses import Statuses, read_expected, shown, unexpected
+from .stopping import LIMITED
 
 _TOOLS = Path(__file__).resolve().parent.parent
 _MOST_SECONDS = 60
+_MOST_SAID = 2000
+_ENDED = re.compile(r"^# (\S+) ended with (?:status (\d+)|a signal)$", re.MULTILINE)
 _NOBODY = 65534
 # Some programs refuse to run as root.
 _AS_NOBODY = ["setpriv", f"--reuid={_NOBODY}", f"--regid={_NOBODY}", "--clear-groups"]
@@ -51,7 +57,7 @@ def stage(scene: Scene, version: str, bounds: Bounds, tell: Tell) -> Outcome:
     with tempfile.TemporaryDirectory(prefix="scene-") as top:
         base = os.path.join(top, "work")
         os.mkdir(base)
-        log = _traced(scene, base, os.path.join(top, "log"))
+        log = traced(scene, base, os.path.join(top, "log"))
     first = {}
     for finding in judge(log):
         first.setdefault(finding.clause, finding)
@@ -59,56 +65,73 @@ def stage(scene: Scene, version: str, bounds: Bounds, tell: Tell) -> Outcome:
     return Outcome(scene, version, 1, True, found, log)
 
 
-def _traced(scene: Scene, base: str, log: str) -> bytes:
-    make_ready(_setup(scene), base)
-    command = [*_before(scene), "sh", "-c", scene.command]
-    said = _run([sys.executable, str(_TOOLS / "trace"), *trace_words(scene), "-o", log, *command], base, scene.name)
+def traced(scene: Scene, base: str, log: str) -> bytes:
+    """The log of a scene's one command, run in a directory."""
+    make_ready(setup_of(scene), base)
+    command = [*before(scene), "sh", "-c", LIMITED + scene.command]
+    words = ["--seconds", str(_MOST_SECONDS), *trace_words(scene), "-o", log, *command]
+    said = _run([sys.executable, str(_TOOLS / "trace"), *words], base, log + ".said", scene.name)
     with open(log, "rb") as file:
         text = file.read()
-    if b" ended with status %d\n" % scene.status not in text:
-        raise Refused(f"{scene.name}: the command did not end with status {scene.status}: {said}")
+    ended = {actor: int(status) if status else None for actor, status in _ENDED.findall(text.decode("utf-8", "replace"))}
+    check_expected(scene, ended, said)
     return text
 
 
-def _setup(scene: Scene) -> str:
-    return "\n".join([*scene.setup, *[f"chown -R {_NOBODY}:{_NOBODY} .; chmod 711 .."] * bool(_before(scene))])
+def check_expected(scene: Scene, statuses: Statuses, said: str) -> None:
+    """Refuses a scene whose command ended with a status that nobody expected."""
+    wrong = unexpected(statuses, read_expected(scene.status))
+    if wrong:
+        raise Refused(f"{scene.name}: {wrong[0]} ended with {shown(statuses[wrong[0]])}, which the scene doesn't expect: {said}")
 
 
-def _before(scene: Scene) -> List[str]:
+def setup_of(scene: Scene) -> str:
+    """What makes a scene's maildirs, and gives them to nobody where its commands run as nobody."""
+    return "\n".join([*scene.setup, *[f"chown -R {_NOBODY}:{_NOBODY} .; chmod 711 .."] * bool(before(scene))])
+
+
+def before(scene: Scene) -> List[str]:
+    """The words that come before a scene's commands."""
     return _AS_NOBODY if scene.is_unprivileged and os.geteuid() == 0 else []
 
 
-def _run(words: List[str], base: str, name: str) -> str:
-    """Runs `tools/trace`, and gives what the command said."""
-    how = {"cwd": base, "stdin": subprocess.DEVNULL, "stdout": subprocess.PIPE, "stderr": subprocess.STDOUT}
-    run = subprocess.Popen(words, text=True, errors="replace", **how)
-    try:
-        said, _ = run.communicate(timeout=_MOST_SECONDS)
-    except subprocess.TimeoutExpired:
-        # It ends what it started.
-        run.terminate()
-        run.communicate()
-        raise Refused(f"{name}: did not end in {_MOST_SECONDS} seconds") from None
-    except KeyboardInterrupt:
-        run.wait()
-        raise
+def _run(words: List[str], base: str, said: str, name: str) -> str:
+    """Runs `tools/trace`, which ends what it started, and gives the last of what was said."""
+    with open(said, "w+b") as out:
+        run = subprocess.Popen(words, cwd=base, stdin=subprocess.DEVNULL, stdout=out, stderr=subprocess.STDOUT, start_new_session=True)
+        try:
+            run.wait(2 * _MOST_SECONDS)
+        except BaseException:
+            run.terminate()
+            run.wait()
+            raise
+        out.seek(max(0, out.tell() - _MOST_SAID))
+        last = out.read().decode("utf-8", "replace").strip()
     if run.returncode:
-        raise Refused(f"{name}: {said.strip()}")
-    return said.strip()
+        raise Refused(f"{name}: {last}")
+    return last
 
 
 def trace_words(scene: Scene) -> List[str]:
     """The words of `tools/trace` or `tools/explore` for a scene's claims, faults and actor."""
     actor = ["--actor", os.path.basename(scene.runs)] if scene.beside is None else []
     claims = [word for claim in scene.claims for word in ("--claims", claim)]
-    return actor + claims + [word for fault in scene.fail for word in ("--fail", fault)]
+    statuses = [] if scene.beside is None else [*(word for status in scene.status for word in ("--status", status)), "--stop-at", scene.stops]
+    return actor + claims + statuses + [word for fault in scene.fail for word in ("--fail", fault)]
 
 
 def _explored(scene: Scene, version: str, bounds: Bounds, tell: Tell) -> Outcome:
-    commands = [shlex.join(["exec", *_before(scene), "sh", "-c", command]) for command in (scene.command, scene.beside or "")]
-    pairing = Pairing(_setup(scene), (commands[0], commands[1]), read_claims(scene.claims))
-    explored = explore(pairing, bounds, tell)
+    commands = [shlex.join(["exec", *before(scene), "sh", "-c", command]) for command in (scene.command, scene.beside or "")]
+    pairing = Pairing(setup_of(scene), commands, read_claims(scene.claims), stops=STOPS[scene.stops])
+    explored = explore(pairing, bounds, tell, lambda order, log, judged: _check_order(scene, order, log, judged))
+    if explored.without_call():
+        raise Refused(f"{scene.name}: {explored.without_call()} made no call in a maildir")
     found = [Found(clause, each.count, line_of(each.log, each.finding.line), SENTENCES[clause], "".join(sorted(each.actors)))
              for clause, each in explored.broken.items()]
     log = next((each.log for each in explored.broken.values()), b"")
     return Outcome(scene, version, len(explored.orders), explored.is_whole, found, log)
+
+
+def _check_order(scene: Scene, order: str, log: Log, judged: Order) -> None:
+    said = b"\n".join(log.said.values())[-_MOST_SAID:].decode("utf-8", "replace").strip()
+    check_expected(scene, judged.statuses, f"in {order or 'no call'}: {said}")

@@ -39,8 +39,8 @@ class When(NamedTuple):
 class Step:
     """One call. `fits` says whether the directories would give its reply."""
 
-    # Whether it reads or changes names, so that its place among the steps of others matters.
-    is_of_directories = True
+    # Whether a command that stops after it has gone on by a call.
+    is_counted = True
 
     def __init__(self, when: When) -> None:
         self.when = when
@@ -62,6 +62,11 @@ class Step:
     def ticks(self) -> Optional[Tuple[int, int]]:
         """Between which lines of the trace the call took effect, where that matters."""
         return (self.when.begin, self.when.end) if self.overlaps else None
+
+    def looked(self, directories: Directories, path: Path, reply: str) -> List[Line]:
+        """A comment on a look at a name, where looks are told."""
+        text = b"%b looks at %b: %b" % (self.when.actor.encode(), path.word(), reply.encode())
+        return [Line(self.when.moment, None, text)] if directories.tells_looks else []
 
     def comment(self, text: str) -> Line:
         """A line that says what can't be said."""
@@ -107,7 +112,7 @@ class Open(Step):
         file = directories.names.get(self._path)
         if self._reply != "ok":
             word = "create" if self._makes else "write" if self._empties else None
-            return [self.line(word, self._path, self._reply)] if word else []
+            return [self.line(word, self._path, self._reply)] if word else self.looked(directories, self._path, self._reply)
         if self._makes and (file is None or self._is_exclusive):
             self._set(directories, directories.new_file())
             return [self.line("create", self._path, "ok")]
@@ -117,7 +122,7 @@ class Open(Step):
         if self._empties:
             directories.set_unflushed(file, self.when.actor)
             return [self.line("write", self._path, "ok")]
-        return []
+        return self.looked(directories, self._path, self._reply)
 
     def _set(self, directories: Directories, file: int, is_new: bool = True) -> None:
         former, opened = self._opened.file, self._opened
@@ -127,17 +132,19 @@ class Open(Step):
             directories.put(self._path, file)
 
 
-class OpenPlace(Step):
-    """A directory is opened: what is read of it then is a step of its own."""
+class Look(Step):
+    """A call that a log has no line for: a directory is opened, or a program looks whether a name is there."""
+
+    def __init__(self, when: When, at: Union[Path, Place], reply: str) -> None:
+        super().__init__(when)
+        self._at, self._reply = at, reply
 
     def take(self, directories: Directories) -> List[Line]:
-        return []
+        return self.looked(directories, self._at, self._reply) if isinstance(self._at, Path) else []
 
 
 class OnFile(Step):
     """A call on an open file: a write or a flush. Its line has any path that the file has."""
-
-    is_of_directories = False
 
     def __init__(self, when: When, word: str, reply: str, opened: Optional[OpenFile], at: Optional[Path], is_deleted: bool) -> None:
         super().__init__(when)
@@ -168,8 +175,6 @@ class OnFile(Step):
 class FlushAll(Step):
     """`sync`: it flushes every file."""
 
-    is_of_directories = False
-
     def take(self, directories: Directories) -> List[Line]:
         lines = []
         for file in list(directories.unflushed):
@@ -181,17 +186,19 @@ class FlushAll(Step):
 
 
 class Unlink(Step):
-    """`unlink`, and a rename to a path outside."""
+    """`unlink`, and a rename to a path outside, which may answer ENOENT of that path too, and then says nothing of the one inside."""
 
-    def __init__(self, when: When, path: Path, reply: str) -> None:
+    def __init__(self, when: When, path: Path, reply: str, is_rename: bool = False) -> None:
         super().__init__(when)
-        self._path, self._reply = path, reply
+        self._path, self._reply, self._is_rename = path, reply, is_rename
 
     def fits(self, directories: Directories) -> bool:
         is_there = self._path in directories.names
-        return {"ok": is_there, "notfound": not is_there}.get(self._reply, True)
+        return {"ok": is_there, "notfound": not is_there or self._is_rename}.get(self._reply, True)
 
     def take(self, directories: Directories) -> List[Line]:
+        if self._is_rename and self._reply == "notfound" and self._path in directories.names:
+            return []
         if self._reply == "ok":
             directories.take(self._path)
         return [self.line("unlink", self._path, self._reply)]
@@ -260,7 +267,7 @@ class Read(Step):
         # Whether this part alone has all of the reading's names: one call reads them at one moment.
         self.is_whole = reply == "ok"
         # One that shows nothing and ends nothing may as well come with the next.
-        self.is_of_directories = bool(names) or reply != "more"
+        self.is_counted = bool(names) or reply != "more"
 
     def fits(self, directories: Directories) -> bool:
         names, reading = set(self._names), directories.readings.get((self.when.actor, self._place))
@@ -296,8 +303,6 @@ class Read(Step):
 
 class Answer(Step):
     """The end of a command: what its status claims, said by who knows the claims."""
-
-    is_of_directories = False
 
     def __init__(self, when: When, says: Callable[[Directories, When], List[Line]]) -> None:
         super().__init__(when)

@@ -1,4 +1,4 @@
-"""Two commands of which each process stops after each of its directory calls, until it is told to go on."""
+"""Commands of which each process stops after each of its directory calls, until it is told to go on."""
 
 from __future__ import annotations
 
@@ -7,53 +7,51 @@ import select
 import signal
 import subprocess
 import time
-from enum import Enum
-from typing import Dict, List, Optional, Tuple
+from typing import Dict, List, Optional, Sequence
 
 from .making import Making
 from .processes import Processes
 from .refused import Refused
+from .schedules import Went
 from .strace_lines import OPTIONS, Call, Ended, Reader, Stopped
-from .tracing import end_processes, end_strace, strace, traced_calls
+from .tracing import end_traced, strace, traced_calls
 
-SIDES = ("A", "B")
+SIDES = "ABC"
 # A process is stopped after each of these. Linux ends a getdents64 amid which a signal waits after one name, so each name that a reading
 # shows is a step of its own, as it may be in a directory that is too large for one call.
-_STOPPING = ("open openat openat2 creat getdents getdents64 link linkat symlink symlinkat rename renameat renameat2 unlink unlinkat rmdir "
-             "mkdir mkdirat mknod mknodat")
+NAMES = ("open openat openat2 creat getdents getdents64 link linkat symlink symlinkat rename renameat renameat2 unlink unlinkat rmdir "
+         "mkdir mkdirat mknod mknodat")
 _SECONDS_TO_START = 20
 # A command that makes no call for so long waits for the other one, as for a lock; and so does one that makes none in a maildir for longer.
 _SECONDS_TO_WAIT = 3
 _SECONDS_TO_ASK_AGAIN = 20
 
+# No file that a command writes gets longer than 64 MiB.
+LIMITED = "ulimit -f 131072; "
 # Each command writes its process number, and waits until it is told to begin.
-_BEGIN = 'echo $$ > "$0/$1"; kill -STOP $$; exec sh -c "$2" > "$0/$1.out" 2>&1'
-_BOTH = 'sh -c "$3" "$0" A "$1" & sh -c "$3" "$0" B "$2" & wait'
+_BEGIN = f'echo $$ > "$0/$1"; kill -STOP $$; {LIMITED}exec sh -c "$2" > "$0/$1.out" 2>&1'
+_ALL = 'begin=$1; shift; for side in A B C; do [ $# -eq 0 ] || { sh -c "$begin" "$0" $side "$1" & shift; }; done; wait'
 
 
-class Went(Enum):
-    """What came of telling a command to go on."""
+class Stepped:
+    """Commands at work in a directory, a call at a time. Leave it by `close`, which ends what is still there."""
 
-    CALLED = "it made one directory call"
-    ENDED = "it ended without a call"
-    WAITS = "it made no call, and did not end"
-
-
-class Pair:
-    """Both commands, at work in a directory. Leave it by `close`, which ends what is still there."""
-
-    def __init__(self, commands: Tuple[str, str], base: str, room: str, making: Making, processes: Processes) -> None:
+    def __init__(self, commands: Sequence[str], base: str, room: str, making: Making, processes: Processes, stops: str = NAMES) -> None:
+        self.sides = SIDES[:len(commands)]
         self._room, self._making, self._processes = room, making, processes
+        self._stops = frozenset(stops.split())
         self._reader = Reader()
         self._roots: Dict[str, int] = {}
         self._side_of: Dict[int, str] = {}
         self._stopped: Dict[int, None] = {}
         self._is_counted: Dict[int, bool] = {}
+        # The last call by which each command has gone on.
+        self.last: Dict[str, Call] = {}
         self._rest = b""
         fifo = os.path.join(room, "trace")
         os.mkfifo(fifo)
-        inject = "inject=" + ",".join("?" + name for name in _STOPPING.split()) + ":signal=SIGSTOP"
-        words = [strace(), *OPTIONS, "-e", traced_calls(), "-e", inject, "-o", fifo, "--", "sh", "-c", _BOTH, room, *commands, _BEGIN]
+        inject = "inject=" + ",".join("?" + name for name in stops.split()) + ":signal=SIGSTOP"
+        words = [strace(), *OPTIONS, "-e", traced_calls(stops), "-e", inject, "-o", fifo, "--", "sh", "-c", _ALL, room, _BEGIN, *commands]
         self._strace = subprocess.Popen(words, cwd=base, stdin=subprocess.DEVNULL, stdout=subprocess.DEVNULL, start_new_session=True)
         self._lines = os.open(fifo, os.O_RDONLY)
         try:
@@ -63,12 +61,12 @@ class Pair:
             raise
 
     def _start(self) -> None:
-        """Waits until both commands are stopped before their first call."""
+        """Waits until all commands are stopped before their first call."""
         until = time.monotonic() + _SECONDS_TO_START
-        while not all(self._pid_in_file(side) in self._stopped for side in SIDES):
+        while not all(self._pid_in_file(side) in self._stopped for side in self.sides):
             if self._read(until) is None or self._strace.poll() is not None:
                 raise Refused("the commands did not start under strace")
-        for side in SIDES:
+        for side in self.sides:
             pid = self._roots[side] = self._pid_in_file(side) or 0
             self._side_of[pid] = side
             self._processes.of(pid).actor = side
@@ -100,7 +98,7 @@ class Pair:
         return Went.ENDED
 
     def run_to_end(self, seconds: float) -> bool:
-        """Lets both go on unstopped; whether they ended in time."""
+        """Lets all go on unstopped; whether they ended in time."""
         until = time.monotonic() + seconds
         while self._strace.poll() is None:
             for pid in list(self._stopped):
@@ -109,12 +107,22 @@ class Pair:
                 return self._strace.poll() is not None
         return True
 
-    def close(self) -> None:
-        """Ends what is still there, by the numbers of the processes that were started here."""
+    def kill(self) -> None:
+        """Kills all, and reads what is told of their ends."""
         if self._strace.poll() is None:
-            end_processes(self._is_counted)
-            end_strace(self._strace)
+            end_traced(self._strace)
+        while self._read(time.monotonic()) is not None and self._roots:
+            pass
+
+    def close(self) -> None:
+        """Ends what is still there."""
+        if self._strace.poll() is None:
+            end_traced(self._strace)
         os.close(self._lines)
+
+    def said(self) -> Dict[str, bytes]:
+        """What each command printed."""
+        return {side: _read_file(os.path.join(self._room, side + ".out")) for side in self.sides}
 
     def _is_running(self, side: str) -> bool:
         own = [pid for pid, its in self._side_of.items() if its == side]
@@ -151,14 +159,16 @@ class Pair:
             steps = self._making.add(event)
             if isinstance(event, Call):
                 self._side_of_new(event.pid)
-                self._is_counted[event.pid] = self._is_counted.get(event.pid, False) or any(step.is_of_directories for step in steps)
+                if event.name in self._stops and any(step.is_counted for step in steps):
+                    self._is_counted[event.pid] = True
+                    self.last[self._side_of.get(event.pid, "")] = event
             elif isinstance(event, Ended):
                 self._end(event.pid)
         return sides
 
     def _side_of_new(self, pid: int) -> None:
         actor = self._processes.of(pid).actor
-        if pid not in self._side_of and actor in SIDES and self._roots:
+        if pid not in self._side_of and actor in self.sides and self._roots:
             self._side_of[pid] = actor
 
     def _stop(self, pid: int) -> List[str]:
@@ -171,13 +181,21 @@ class Pair:
         return []
 
     def _own_start(self, pid: int) -> Optional[int]:
-        return pid if pid in (self._pid_in_file("A"), self._pid_in_file("B")) else None
+        return pid if pid in map(self._pid_in_file, self.sides) else None
 
     def _end(self, pid: int) -> None:
         self._stopped.pop(pid, None)
         side = self._side_of.pop(pid, None)
         if side is not None and self._roots.get(side) == pid:
             del self._roots[side]
+
+
+def _read_file(path: str) -> bytes:
+    try:
+        with open(path, "rb") as file:
+            return file.read()
+    except FileNotFoundError:
+        return b""
 
 
 def _signal(pid: int, number: int) -> None:

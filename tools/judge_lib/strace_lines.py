@@ -11,16 +11,18 @@ from .arguments import Descriptor, read_descriptor
 TRACED = (
     "execve execveat clone clone3 fork vfork chdir fchdir chroot "
     "open openat openat2 creat close close_range dup dup2 dup3 fcntl lseek getdents getdents64 "
-    "write pwrite64 writev pwritev pwritev2 ftruncate truncate fallocate sendfile copy_file_range splice mmap "
+    "write pwrite64 writev pwritev pwritev2 ftruncate truncate fallocate sendfile copy_file_range splice ioctl mmap "
     "fsync fdatasync sync syncfs link linkat symlink symlinkat mknod mknodat mkdir mkdirat "
     "rename renameat renameat2 unlink unlinkat rmdir io_uring_setup"
 )
 
+# By these a program looks whether a name is there. They have no line in a log: tools/explore stops at them.
+LOOKS = "stat lstat newfstatat statx access faccessat faccessat2"
+
 # -s 0 prints no bytes that are written; paths are printed whole all the same.
 OPTIONS = ["-q", "-f", "-y", "-v", "-xx", "-s", "0", "-ttt"]
 
-_LINE = re.compile(r"(\d+) +(\d+)\.\d+ (.*)", re.DOTALL)
-_WHOLE = re.compile(r"(\w+)\((.*)\) += (-?\d+|\?|0x[0-9a-f]+)(.*)", re.DOTALL)
+_RESULT = re.compile(r"0x[0-9a-f]+|-?\d+|\?")
 _RESUMED = re.compile(r"<\.\.\. (\w+) resumed>(.*)", re.DOTALL)
 _BEGUN = re.compile(r"(\w+)\((.*?) *<unfinished \.\.\.>", re.DOTALL)
 _EXITED = re.compile(r"\+\+\+ exited with (\d+) \+\+\+")
@@ -40,6 +42,7 @@ class Call(NamedTuple):
     result: Optional[int]
     error: Optional[str]
     opened: Optional[Descriptor]
+    is_made_to_fail: bool = False
 
     def is_undone(self) -> bool:
         """Whether a signal stopped it before it did anything."""
@@ -82,6 +85,16 @@ class Starting(NamedTuple):
 
     pid: int
     end: int
+    name: str
+    arguments: str
+
+
+class Opening(NamedTuple):
+    """A call that has begun, and returns later."""
+
+    pid: int
+    begin: int
+    name: str
     arguments: str
 
 
@@ -92,7 +105,7 @@ class Unread(NamedTuple):
     text: str
 
 
-Event = Union[Call, Begun, Ended, Stopped, Starting, Unread]
+Event = Union[Call, Begun, Ended, Stopped, Starting, Opening, Unread]
 
 STARTS = ("clone", "clone3", "fork", "vfork")
 
@@ -104,47 +117,50 @@ class Reader:
         self._number = 0
         self._begun: Dict[int, Begun] = {}
 
-    def events(self, line: str) -> Iterator[Event]:
+    def events(self, line: str) -> Iterable[Event]:
         """What a line tells."""
         self._number += 1
-        found = _LINE.fullmatch(line.rstrip("\n"))
-        if found is None:
-            yield Unread(self._number, line.rstrip("\n"))
-            return
-        yield from self._events(int(found[1]), int(found[2]), found[3])
+        text = line.rstrip("\n")
+        pid, _, rest = text.partition(" ")
+        moment, _, rest = rest.lstrip(" ").partition(" ")
+        seconds = moment.partition(".")[0]
+        if not pid.isdigit() or not seconds.isdigit() or not rest:
+            return (Unread(self._number, text),)
+        return self._events(int(pid), int(seconds), rest)
 
-    def _events(self, pid: int, moment: int, text: str) -> Iterator[Event]:
-        if text.startswith("+++"):
-            yield from self._end(pid, moment, text)
-        elif text.startswith("---"):
-            if text.startswith("--- stopped by"):
-                yield Stopped(pid, self._number)
-        elif begun := _BEGUN.fullmatch(text):
+    def _events(self, pid: int, moment: int, text: str) -> Iterable[Event]:
+        if text.startswith("<... "):
+            return (self._resumed(pid, moment, text),)
+        if text.endswith("<unfinished ...>") and (begun := _BEGUN.fullmatch(text)):
             self._begun[pid] = Begun(pid, self._number, self._number, moment, begun[1], begun[2])
-            if begun[1] in STARTS:
-                yield Starting(pid, self._number, begun[2])
-        elif resumed := _RESUMED.fullmatch(text):
-            former = self._begun.pop(pid, None)
-            if former is None:
-                yield Unread(self._number, text)
-            else:
-                yield from self._whole(pid, former.begin, moment, f"{former.name}({former.arguments}{resumed[2]}")
-        else:
-            yield from self._whole(pid, self._number, moment, text)
+            kind = Starting if begun[1] in STARTS else Opening
+            return (kind(pid, self._number, begun[1], begun[2]),)
+        if text.startswith("+++"):
+            return self._end(pid, moment, text)
+        if text.startswith("---"):
+            return (Stopped(pid, self._number),) if text.startswith("--- stopped by") else ()
+        return (self._whole(pid, self._number, moment, text),)
 
-    def _whole(self, pid: int, begin: int, moment: int, text: str) -> Iterator[Event]:
-        found = _WHOLE.fullmatch(text)
-        if found is None:
-            yield Unread(self._number, text)
-            return
-        name, arguments, result, rest = found.groups()
-        error = _ERROR.search(rest)
-        if result == "?" and error is None:
-            yield Begun(pid, begin, self._number, moment, name, arguments)
-            return
-        value = None if result == "?" else int(result, 0)
-        opened = read_descriptor(result + rest.split(" ")[0]) if rest.startswith("<") else None
-        yield Call(pid, begin, self._number, moment, name, arguments, value, error[1] if error else None, opened)
+    def _resumed(self, pid: int, moment: int, text: str) -> Event:
+        resumed, former = _RESUMED.fullmatch(text), self._begun.pop(pid, None)
+        if resumed is None or former is None:
+            return Unread(self._number, text)
+        return self._whole(pid, former.begin, moment, f"{former.name}({former.arguments}{resumed[2]}")
+
+    def _whole(self, pid: int, begin: int, moment: int, text: str) -> Event:
+        # No string that strace prints has a space, and no error an equals sign.
+        call, _, rest = text.rpartition(" = ")
+        name, bracket, arguments = call.rstrip(" ").partition("(")
+        result = _RESULT.match(rest)
+        if not bracket or not arguments.endswith(")") or result is None:
+            return Unread(self._number, text)
+        arguments, after = arguments[:-1], rest[result.end():]
+        error = _ERROR.search(after) if after else None
+        if result[0] == "?" and error is None:
+            return Begun(pid, begin, self._number, moment, name, arguments)
+        value = None if result[0] == "?" else int(result[0], 0)
+        opened = read_descriptor(rest.partition(" ")[0]) if after.startswith("<") else None
+        return Call(pid, begin, self._number, moment, name, arguments, value, error[1] if error else None, opened, "(INJECTED)" in after)
 
     def _end(self, pid: int, moment: int, text: str) -> Iterator[Event]:
         begun = self._begun.pop(pid, None)

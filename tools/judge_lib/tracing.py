@@ -7,13 +7,16 @@ import shutil
 import signal
 import subprocess
 import sys
+import time
 from types import FrameType
-from typing import IO, Iterable, List, Optional, Sequence
+from typing import IO, Iterator, List, Optional, Sequence
 
 from .refused import Refused
 from .strace_lines import OPTIONS, TRACED
 
 _SECONDS_TO_END = 5
+_SECONDS_OF_A_RETRY = 30
+_SECONDS_TO_LOOK = 0.01
 
 
 def strace() -> str:
@@ -24,69 +27,129 @@ def strace() -> str:
     return found
 
 
-def traced_calls() -> str:
+def traced_calls(more: str = "") -> str:
     """The calls that are traced, as strace's words. It passes over those that its machine doesn't have."""
-    return "trace=" + ",".join("?" + name for name in TRACED.split())
+    return "trace=" + ",".join("?" + name for name in (TRACED + " " + more).split())
 
 
-def run_traced(command: List[bytes], trace: str, base: bytes, stdout: Optional[IO[bytes]], faults: Sequence[str] = ()) -> int:
-    """Runs a command to its end and the end of all that it started, and gives its status. Ctrl-C goes to the command."""
-    injected = [word for fault in faults for word in ("-e", f"inject={fault}")]
-    # strace blocks what ends it (-I 3), so that it tells of the command's end after Ctrl-C too.
-    words = [strace(), "-I", "3", *OPTIONS, "-e", traced_calls(), *injected, "-o", trace, "--", *command]
-    process = subprocess.Popen(words, cwd=base, stdout=stdout)
-    former = signal.signal(signal.SIGTERM, _stop)
-    try:
-        return _waited(process)
-    finally:
-        signal.signal(signal.SIGTERM, former)
-        if process.poll() is None:
-            end_processes(_still_there(trace))
-            end_strace(process)
+class Tracer:
+    """A command at work under strace, or processes that are attached to. Leave it by `close`, which ends what was started."""
 
-
-def _waited(process: subprocess.Popen[bytes]) -> int:
-    try:
-        return process.wait()
-    except KeyboardInterrupt:
-        print("trace: waiting for the command to end", file=sys.stderr)
-        try:
-            return process.wait(_SECONDS_TO_END)
-        except subprocess.TimeoutExpired:
-            raise KeyboardInterrupt from None
-
-
-def _stop(_number: int, _frame: Optional[FrameType]) -> None:
-    raise Refused("stopped by SIGTERM; what it started is ended too")
-
-
-def _still_there(trace: str) -> List[int]:
-    """The processes of a trace that have not ended in it."""
-    pids = {}
-    with open(trace, encoding="latin1") as lines:
-        for line in lines:
-            number, _, rest = line.partition(" ")
-            if number.isdigit():
-                pids[int(number)] = "+++" not in rest
-    return [pid for pid, is_there in pids.items() if is_there]
-
-
-def end_strace(process: subprocess.Popen[bytes]) -> None:
-    """Waits for strace, whose processes have been ended."""
-    try:
-        process.wait(_SECONDS_TO_END)
-    except subprocess.TimeoutExpired:
-        process.kill()
-        process.wait()
-
-
-def end_processes(pids: Iterable[int]) -> None:
-    """Ends processes by their numbers."""
-    for pid in pids:
-        try:
-            os.kill(pid, signal.SIGKILL)
-        except ProcessLookupError:
+    def __init__(self, words: List[bytes], trace: str, base: bytes, stdout: Optional[IO[bytes]], faults: Sequence[str] = (),
+                 seconds: Optional[float] = None) -> None:
+        injected = [word for fault in faults for word in ("-e", f"inject={fault}")]
+        self.is_attached = words[:1] == [b"-p"]
+        # strace blocks what ends it (-I 3), so that it tells of the command's end after Ctrl-C too.
+        how = [] if self.is_attached else ["-I", "3"]
+        after = words if self.is_attached else ["--", *words]
+        self.path = trace
+        self._until = None if seconds is None else time.monotonic() + seconds
+        # Why it was ended, where it was.
+        self.why: Optional[str] = None
+        with open(trace, "wb"):
             pass
+        self._process = subprocess.Popen([strace(), *how, *OPTIONS, "-e", traced_calls(), *injected, "-o", trace, *after], cwd=base,
+                                         stdout=stdout, start_new_session=self.is_attached)
+        self._seconds = seconds
+        self._former = {number: signal.signal(number, self._stop) for number in (signal.SIGINT, signal.SIGTERM)}
+
+    @property
+    def pid(self) -> int:
+        """strace's process."""
+        return self._process.pid
+
+    def is_running(self) -> bool:
+        """Whether strace has not ended."""
+        return self._process.poll() is None
+
+    def lines(self) -> Iterator[str]:
+        """The lines of the trace as they come, up to the end of all that is traced. Ctrl-C goes to the command, which then has some seconds."""
+        begun = ""
+        with open(self.path, encoding="latin1", newline="\n") as file:
+            is_running = True
+            while is_running:
+                is_running = self._process.poll() is None
+                for line in file:
+                    begun += line
+                    if begun.endswith("\n"):
+                        yield begun
+                        begun = ""
+                if is_running:
+                    self._wait()
+        if begun:
+            yield begun
+
+    def _wait(self) -> None:
+        if self._until is not None and time.monotonic() >= self._until:
+            self.why = self.why or f"after {self._seconds:g} seconds"
+            self._end()
+        else:
+            time.sleep(_SECONDS_TO_LOOK)
+
+    def _end(self) -> None:
+        if self.is_attached:
+            self._process.terminate()
+            self._process.wait()
+        else:
+            end_traced(self._process)
+
+    def _stop(self, number: int, _frame: Optional[FrameType]) -> None:
+        is_patient = number == signal.SIGINT and self.why is None and not self.is_attached
+        self.why = "by " + signal.Signals(number).name
+        self._until = time.monotonic() + (_SECONDS_TO_END if is_patient else 0)
+        if is_patient:
+            print("trace: waiting for the command to end", file=sys.stderr)
+
+    def close(self) -> None:
+        """Ends what is still there."""
+        for number, handler in self._former.items():
+            signal.signal(number, handler)
+        if self._process.poll() is None:
+            self._end()
+
+
+def run_limited(words: List[str], base: str) -> Optional[int]:
+    """Runs a command in a session of its own, without strace, and gives its status; None where a signal or its time ended it."""
+    how = {"cwd": base, "stdin": subprocess.DEVNULL, "stdout": subprocess.DEVNULL, "stderr": subprocess.DEVNULL}
+    process = subprocess.Popen(words, start_new_session=True, **how)
+    try:
+        status = process.wait(_SECONDS_OF_A_RETRY)
+    except subprocess.TimeoutExpired:
+        os.killpg(process.pid, signal.SIGKILL)
+        status = process.wait()
+    return None if status < 0 else status
+
+
+def end_traced(tracer: subprocess.Popen[bytes]) -> None:
+    """Ends all that strace traces, whatever it is called and whoever started it, and then strace."""
+    until = time.monotonic() + _SECONDS_TO_END
+    while tracer.poll() is None and time.monotonic() < until:
+        for pid in _traced_by(tracer.pid):
+            try:
+                os.kill(pid, signal.SIGKILL)
+            except ProcessLookupError:
+                pass
+        try:
+            tracer.wait(0.05)
+        except subprocess.TimeoutExpired:
+            pass
+    if tracer.poll() is None:
+        tracer.kill()
+        tracer.wait()
+
+
+def _traced_by(tracer: int) -> List[int]:
+    """The processes that a process traces."""
+    return [int(name) for name in os.listdir("/proc") if name.isdigit() and tracer_of(int(name)) == tracer]
+
+
+def tracer_of(pid: int) -> int:
+    """The process that traces a process, or 0."""
+    try:
+        with open(f"/proc/{pid}/status", encoding="latin1") as lines:
+            return next((int(line.split()[1]) for line in lines if line.startswith("TracerPid:")), 0)
+    except (FileNotFoundError, ProcessLookupError):
+        return 0
 
 
 def version() -> str:

@@ -3,7 +3,7 @@
 from __future__ import annotations
 
 import re
-from collections.abc import Iterator
+from collections.abc import Callable, Iterator, Mapping
 
 from judge_lib.names import Path
 
@@ -14,11 +14,11 @@ _ESCAPE = re.compile(rb"\\([snr\\])")
 _ESCAPED = {b"s": b" ", b"n": b"\n", b"r": b"\r", b"\\": b"\\"}
 
 
-def findings(log: bytes) -> list[tuple[int, str]]:
+def findings(log: bytes, law: Mapping[str, Callable[[History], bool]] = LAW) -> list[tuple[int, str]]:
     """Each line, by its number, with each clause that its step breaks: in the order of lines, and of the law."""
     lines = [(number, line.split(b" ")) for number, line in enumerate(log.splitlines(), 1) if line and not line.startswith(b"#")]
     allowed = {words[1].decode() for _, words in lines if words[0] == b"allow"}
-    return [(number, clause) for number, h in _histories(lines) for clause, breaks in LAW.items() if clause not in allowed and breaks(h)]
+    return [(number, clause) for number, h in _histories(lines) for clause, breaks in law.items() if clause not in allowed and breaks(h)]
 
 
 def _histories(lines: list[tuple[int, list[bytes]]]) -> Iterator[tuple[int, History]]:

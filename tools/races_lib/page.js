@@ -1,18 +1,23 @@
 'use strict';
-// A page computes no state: it shows the rows, replies, effects and answers that the program printed.
+// The page computes no state: it shows what programs printed, and what their logs tell.
 (() => {
   const scenes = JSON.parse(document.getElementById('data').textContent);
   const get = id => document.getElementById(id);
-  const [ACTOR, CALL, REPLY, MOMENT, EFFECT, ANSWER, KIND, WORDS, CLAUSE, STATE] = Array(10).keys();
+  const [ACTOR, TEXT, KIND, NOTES, STATE, LINES] = Array(6).keys();
+  const [TURNS, OUTCOME, ENDING, FIRST, STEPS] = Array(5).keys();
   const PLACES = ['tmp', 'new', 'cur'];
-  const SIGNS = { effect: '✓', lost: '×', again: '↻' };
-  const now = { scene: 0, path: 0, step: 0 };
+  const OUTCOMES = { good: ['✓', 'nothing lost'], said: ['!', 'not done or lost, and said'], lost: ['✕', 'lost or told falsely'] };
+  const MILLISECONDS = { step: 1300, slide: 420 };
+  const isStill = matchMedia('(prefers-reduced-motion: reduce)');
+  const isNarrow = matchMedia('(max-width: 40rem)');
+  const now = { scene: 0, orders: [], step: 0, timer: 0 };
 
   const scene = () => scenes[now.scene];
-  const path = () => scene().paths[now.path];
-  const stepAt = at => scene().steps[path()[at]];
-  const stateAt = at => scene().states[at ? stepAt(at - 1)[STATE] : scene().first];
-  const nameOf = actor => scene().actors[actor][0];
+  const sides = () => scene().sides;
+  const orderOf = at => sides()[at].orders[now.orders[at]];
+  const stepsOf = at => orderOf(at)[STEPS].map(number => sides()[at].steps[number]);
+  const most = () => Math.max(...sides().map((_, at) => orderOf(at)[STEPS].length));
+  const within = (value, top) => Math.max(0, Math.min(top, value));
 
   function add(parent, tag, text, kind) {
     const made = document.createElement(tag);
@@ -22,280 +27,328 @@
     return made;
   }
 
-  function draw(parent, tag, values) {
-    const made = document.createElementNS('http://www.w3.org/2000/svg', tag);
-    for (const [name, value] of Object.entries(values)) made.setAttribute(name, value);
-    parent.append(made);
-    return made;
+  // A text in parts, of which each second one is a name.
+  function addText(parent, parts) {
+    parts.forEach((part, at) => at % 2 ? add(parent, 'span', part, 'name') : parent.append(part));
   }
 
-  // How many steps of two orders are of the same actors.
-  function shared(one, other) {
-    const steps = scene().steps;
-    let at = 0;
-    while (at < one.length && at < other.length && steps[one[at]][ACTOR] === steps[other[at]][ACTOR]) at += 1;
-    return at;
+  function addWho(parent, side, actor) {
+    add(parent, 'span', side.actors[actor][0], `who ${'abc'[actor]}`);
+    parent.append(' ');
   }
 
-  // This order where it goes on by this actor, or the first that goes on so after the same steps; -1 where there is none.
-  function turning(actor) {
-    if (now.step < path().length && stepAt(now.step)[ACTOR] === actor) return now.path;
-    return scene().paths.findIndex(other => shared(other, path()) >= now.step && other.length > now.step
-      && scene().steps[other[now.step]][ACTOR] === actor);
+  const saying = (side, step) => `${side.actors[step[ACTOR]][0]} ${step[TEXT].join('')}`;
+
+  // The address of what is shown: the scene, the orders, the step.
+  function address() {
+    const [first, second] = now.orders;
+    const isPaired = second === undefined || scene().partners[first] === second;
+    return `#${scene().name}/${first + 1}${isPaired ? '' : `.${second + 1}`}/${now.step}`;
   }
 
-  function go(step) {
-    now.step = Math.max(0, Math.min(path().length, step));
+  function openAddress() {
+    const [name, orders, step] = decodeURIComponent(location.hash.slice(1)).split('/');
+    const found = scenes.findIndex(one => one.name === name);
+    if (found < 0) open(0);
+    else open(found, (orders || '').split('.').map(number => Number(number) - 1), step);
+  }
+
+  // Opens a scene: at these orders, or at the one that shows the most; at this step, or at the end.
+  function open(number, orders = [], step) {
+    now.scene = number;
+    const [first, second] = sides();
+    const chosen = orders[0] >= 0 ? within(Math.floor(orders[0]), first.orders.length - 1) : first.own;
+    now.orders = [chosen];
+    if (second) now.orders.push(orders[1] >= 0 ? within(Math.floor(orders[1]), second.orders.length - 1) : scene().partners[chosen]);
+    get('scene').value = String(number);
+    get('about').textContent = scene().about;
+    get('runs').replaceChildren(...sides().map((side, at) => column(side, at)));
+    now.step = /^\d+$/.test(step || '') ? within(Number(step), most()) : most();
     show();
   }
 
-  function take(number) {
-    const step = now.step;
-    now.path = Math.max(0, Math.min(scene().paths.length - 1, number));
-    go(step);
+  function go(step) {
+    const before = isStill.matches ? undefined : places();
+    now.step = within(step, most());
+    show();
+    if (before) slide(before);
   }
 
-  function open(number) {
-    now.scene = number;
-    now.path = scene().own;
-    showJudged();
-    go(0);
+  // Opens another order of a side. With one of the first side comes the one of the second that is most like it.
+  function take(at, number) {
+    stop();
+    now.orders[at] = within(number, sides()[at].orders.length - 1);
+    if (at === 0 && sides()[1]) now.orders[1] = scene().partners[now.orders[0]];
+    now.step = within(now.step, most());
+    show();
   }
 
-  function showChoice() {
-    get('scene').value = String(now.scene);
-    get('path').value = String(now.path + 1);
-    get('path').max = String(scene().paths.length);
-    const taken = scene().paths.length.toLocaleString('en');
-    get('count').textContent = taken === scene().all ? `of ${taken}` : `of the ${taken} taken; there are ${scene().all}`;
-    get('lattice-title').textContent = taken === scene().all ? 'All orders' : 'The orders that were taken';
-    get('about').textContent = scene().about;
-    get('place').textContent = `step ${now.step} of ${path().length}`;
-    get('before').disabled = now.path === 0;
-    get('after').disabled = now.path === scene().paths.length - 1;
-    get('start').disabled = get('back').disabled = now.step === 0;
-    get('end').disabled = get('forward').disabled = now.step === path().length;
+  // What a column has whatever the step is.
+  function column(side, at) {
+    const run = document.createElement('article');
+    run.className = `run ${side.outcome}`;
+    run.setAttribute('aria-label', side.who);
+    const head = add(run, 'h2', `${side.who} `);
+    add(head, 'small', side.tag, 'soft');
+    add(run, 'p', side.count, 'count');
+    run.append(map(side, at));
+    for (const kind of ['now', 'state', 'notes', 'ending']) add(run, 'div', undefined, kind);
+    const steps = add(run, 'details');
+    steps.open = !isNarrow.matches;
+    add(steps, 'summary', 'All steps');
+    const actors = add(steps, 'ul', undefined, 'actors');
+    side.actors.forEach(([, words], actor) => {
+      const item = add(actors, 'li');
+      addWho(item, side, actor);
+      add(item, 'span', words, 'name');
+    });
+    add(steps, 'ol', undefined, 'steps');
+    const made = add(run, 'details', undefined, 'made');
+    add(made, 'summary', 'Where this comes from');
+    add(made, 'p', side.about, 'soft');
+    add(made, 'pre', side.repeat.join('\n'));
+    add(made, 'button', 'Download this log').addEventListener('click', () => download(at));
+    head.id = `run-${at}`;
+    return run;
   }
 
-  // A button for each actor that may take the next step, in some order that begins as this one.
-  function showTurns() {
-    const box = get('turns');
-    const held = box.contains(document.activeElement) ? document.activeElement.dataset.actor : null;
-    box.replaceChildren();
-    if (now.step === path().length) add(box, 'span', 'All are answered.');
-    else add(box, 'span', 'Next step:');
-    scene().actors.forEach(([name], actor) => {
-      const to = turning(actor);
-      const button = add(box, 'button', name);
-      button.type = 'button';
-      button.dataset.actor = actor;
-      button.disabled = to < 0;
-      button.addEventListener('click', () => {
-        now.path = to;
-        go(now.step + 1);
-      });
-      if (held === String(actor) && to >= 0) button.focus();
+  // All orders as dots. Arrow keys go from dot to dot.
+  function map(side, at) {
+    const box = document.createElement('div');
+    box.className = side.orders.length > 40 ? 'map many' : 'map';
+    box.setAttribute('role', 'radiogroup');
+    box.setAttribute('aria-label', `Orders of ${side.who}`);
+    side.orders.forEach((order, number) => {
+      const [sign, words] = OUTCOMES[order[OUTCOME]];
+      const dot = add(box, 'button', sign, `dot ${order[OUTCOME]}`);
+      dot.type = 'button';
+      dot.setAttribute('role', 'radio');
+      dot.title = `order ${number + 1}, ${order[TURNS]}: ${words}`;
+      dot.setAttribute('aria-label', dot.title);
+      dot.addEventListener('click', () => take(at, number));
+    });
+    box.addEventListener('keydown', event => {
+      const by = { ArrowLeft: -1, ArrowUp: -1, ArrowRight: 1, ArrowDown: 1 }[event.key];
+      if (!by) return;
+      event.preventDefault();
+      event.stopPropagation();
+      take(at, now.orders[at] + by);
+      box.children[now.orders[at]].focus();
+    });
+    return box;
+  }
+
+  function showMap(run, at) {
+    [...run.querySelector('.map').children].forEach((dot, number) => {
+      const isHere = number === now.orders[at];
+      dot.setAttribute('aria-checked', String(isHere));
+      dot.tabIndex = isHere ? 0 : -1;
     });
   }
 
-  function showSaid() {
-    const box = get('said');
+  function showNotes(run, step) {
+    const box = run.querySelector('.notes');
     box.replaceChildren();
-    box.className = '';
-    if (!now.step) {
+    for (const [kind, head, text] of step ? step[NOTES] : []) {
+      const note = add(box, 'p', undefined, `note ${kind}`);
+      if (kind === 'bad') note.append('breaks the law: ');
+      if (head) add(note, 'b', head);
+      note.append(head ? `: ${text}` : text);
+    }
+  }
+
+  function showNow(run, side, step) {
+    const box = run.querySelector('.now');
+    box.replaceChildren();
+    box.className = `now ${step ? step[KIND] : ''}`;
+    if (!step) {
       box.textContent = 'The beginning: no step was taken.';
       return;
     }
-    const step = stepAt(now.step - 1);
-    box.className = step[KIND];
-    add(box, 'strong', `${nameOf(step[ACTOR])}: `);
-    add(box, 'code', `${step[CALL]} → ${step[REPLY]}`);
-    if (step[MOMENT]) box.append(` at moment ${step[MOMENT]}.`);
-    for (const text of [step[EFFECT], step[ANSWER]]) if (text) box.append(` ${text}.`);
-    if (step[WORDS]) {
-      box.append(' ');
-      add(box, 'span', step[WORDS], `tag ${step[KIND]}`);
-    }
-    box.append(' Clause: ');
-    add(box, 'code', step[CLAUSE]);
+    addWho(box, side, step[ACTOR]);
+    addText(box, step[TEXT]);
   }
 
-  function showActor(parent, actor) {
-    const column = add(parent, 'section', undefined, 'column');
-    add(column, 'h3', nameOf(actor));
-    add(add(column, 'p', undefined, 'hint'), 'code', scene().actors[actor][1]);
-    const list = add(column, 'ol');
-    path().forEach((number, at) => {
-      const step = scene().steps[number];
-      if (step[ACTOR] !== actor) return;
-      const item = add(list, 'li', undefined, at + 1 === now.step ? 'here' : at >= now.step ? 'later' : '');
-      if (at + 1 === now.step) item.setAttribute('aria-current', 'step');
-      item.append(`${at + 1}. `);
-      add(item, 'code', at < now.step ? `${step[CALL]} → ${step[REPLY]}` : step[CALL].split(' ')[0]);
-      if (at < now.step && step[WORDS]) {
-        item.append(' ');
-        add(item, 'span', step[WORDS], `tag ${step[KIND]}`);
-      }
-      if (at < now.step && step[ANSWER]) add(item, 'div', step[ANSWER]);
-    });
+  const uniqueOf = name => name.split(':')[0];
+  const flagsOf = name => name.includes(':2,') ? name.slice(name.indexOf(':2,') + 3) : '';
+
+  // A name of a file; flags that no name of it had before stand out.
+  function addName(list, name, before) {
+    const item = add(list, 'li', undefined, 'name');
+    item.dataset.name = name;
+    item.append(name.slice(0, name.length - flagsOf(name).length));
+    const had = before.filter(other => uniqueOf(other) === uniqueOf(name)).map(flagsOf).join('');
+    for (const flag of flagsOf(name)) add(item, 'span', flag, had.includes(flag) ? 'flag' : 'flag fresh');
   }
 
-  function showState(parent) {
-    const column = add(parent, 'section', undefined, 'column state');
-    add(column, 'h3', now.step ? `tmp, new and cur after step ${now.step}` : 'tmp, new and cur at the beginning');
-    const before = stateAt(Math.max(0, now.step - 1));
-    stateAt(now.step).forEach((places, folder) => places.forEach((rows, place) => {
-      const box = add(column, 'div', undefined, 'directory');
-      const path = `${scene().folders[folder]}/${PLACES[place]}`;
-      add(box, 'strong', path);
-      const list = add(box, 'ul');
+  function showState(run, side, state, before) {
+    const box = run.querySelector('.state');
+    box.replaceChildren();
+    state.forEach((folder, number) => folder.forEach((names, place) => {
+      const directory = add(box, 'div', undefined, 'directory');
+      const path = `${side.folders[number]}/${PLACES[place]}/`;
+      add(directory, 'b', path);
+      const list = add(directory, 'ul');
       list.setAttribute('aria-label', path);
-      for (const row of rows) add(list, 'li', row, before[folder][place].includes(row) ? '' : 'new-row').dataset.row = path;
-      if (!rows.length) add(list, 'li', 'no name', 'empty');
+      for (const name of names) addName(list, name, before.flat(2));
     }));
   }
 
-  function showColumns() {
-    const columns = get('columns');
-    columns.replaceChildren();
-    columns.className = scene().actors.length > 2 ? 'three' : '';
-    showActor(columns, 0);
-    showState(columns);
-    for (let actor = 1; actor < scene().actors.length; actor += 1) showActor(columns, actor);
+  function showSteps(run, side, at) {
+    const list = run.querySelector('.steps');
+    list.replaceChildren(...stepsOf(at).map((step, number) => {
+      const item = document.createElement('li');
+      item.className = `${number < now.step ? '' : 'later'} ${number + 1 === now.step ? 'here' : ''} ${step[KIND] === 'bad' ? 'bad' : ''}`;
+      if (number + 1 === now.step) item.setAttribute('aria-current', 'step');
+      addWho(item, side, step[ACTOR]);
+      addText(item, step[TEXT]);
+      item.addEventListener('click', () => { stop(); go(number + 1); });
+      return item;
+    }));
   }
 
-  // A text of a page of docs, with what stands in its backquotes as code.
-  function code(parent, text) {
-    text.split('`').forEach((part, at) => at % 2 ? add(parent, 'code', part) : parent.append(part));
-  }
-
-  // What was seen of released programs. Where nothing was, the page says so.
-  function showJudged() {
-    const box = get('judged');
-    const { told, ran, rows } = scene().judged;
-    box.replaceChildren();
-    if (told) code(add(box, 'p'), `${told}.`);
-    for (const [program, scene, found, command] of rows) {
-      const item = add(box, 'div', undefined, 'column');
-      code(add(item, 'h3'), program);
-      code(add(item, 'p'), `${scene[0].toUpperCase()}${scene.slice(1)}.`);
-      code(add(item, 'p'), `The judge found: ${found}.`);
-      code(add(item, 'p'), `Shown by ${command}.`);
-    }
-    if (rows.length) add(box, 'p', ran, 'hint');
-    else add(box, 'p', told ? 'The judge has no log of this race.' : 'No released program was looked at.');
-  }
-
-  // Where a point is, by how many steps each actor has taken. Those of a third actor lie between the points of the other two.
-  const deepest = () => Math.max(0, ...scene().paths.map(order => order.filter(number => scene().steps[number][ACTOR] === 2).length));
-  function placing() {
-    const third = deepest();
-    const [wide, high] = third ? [15 * third + 26, 14 * third + 24] : [40, 36];
-    return {
-      across: done => 22 + wide * done[0] + 15 * (done[2] || 0),
-      down: done => 40 + high * (done[1] || 0) + 14 * (done[2] || 0),
-    };
-  }
-
-  // The points that an order goes through.
-  function points(order) {
-    const done = scene().actors.map(() => 0);
-    return [done.slice(), ...order.map(number => {
-      done[scene().steps[number][ACTOR]] += 1;
-      return done.slice();
-    })];
-  }
-
-  // All points and ways of the scene, and for each point one order that goes through it: the one that is most like this.
-  function lattice() {
-    const found = { points: new Map(), ways: new Map() };
-    scene().paths.forEach((order, number) => {
-      const like = shared(order, path());
-      points(order).forEach((done, at, all) => {
-        const had = found.points.get(done.join());
-        if (!had || had.like < like) found.points.set(done.join(), { done, at, number, like });
-        if (at) found.ways.set(`${all[at - 1].join()} ${done.join()}`, [all[at - 1], done]);
-      });
-    });
-    return found;
-  }
-
-  function showLattice() {
-    const svg = get('lattice');
-    svg.replaceChildren();
-    const all = lattice();
-    const mine = points(path());
-    const places = new Map(mine.map((done, at) => [done.join(), at]));
-    const dots = [...all.points.values()];
-    const { across, down } = placing();
-    const width = Math.max(...dots.map(dot => across(dot.done))) + 26;
-    const height = Math.max(...dots.map(dot => down(dot.done))) + 26;
-    svg.setAttribute('viewBox', `0 0 ${width} ${height}`);
-    svg.setAttribute('width', width);
-    svg.setAttribute('height', height);
-    svg.setAttribute('aria-label', `Order ${now.path + 1}: ${path().map(number => nameOf(scene().steps[number][ACTOR])).join(', ')}`);
-    draw(svg, 'text', { x: 12, y: 16 }).textContent = `→ ${nameOf(0)}, ↓ ${nameOf(1)}${scene().actors[2] ? `, ↘ ${nameOf(2)}` : ''}`;
-    const lines = [...all.ways].map(([key, [from, to]]) => {
-      const at = places.get(to.join());
-      const on = at && places.get(from.join()) === at - 1 ? (at <= now.step ? 2 : 1) : 0;
-      return { from, to, on };
-    });
-    for (const { from, to, on } of lines.sort((one, other) => one.on - other.on)) {
-      draw(svg, 'line', { x1: across(from), y1: down(from), x2: across(to), y2: down(to), class: ['', 'on', 'past'][on] });
-    }
-    const here = across(mine[now.step]);
-    svg.parentElement.scrollLeft = here - svg.parentElement.clientWidth / 2;
-    for (const dot of dots) showPoint(svg, dot, places.get(dot.done.join()), across(dot.done), down(dot.done));
-  }
-
-  function showPoint(svg, dot, at, x, y) {
-    const kinds = at === undefined ? [] : ['on'];
-    if (at) kinds.push(stepAt(at - 1)[KIND]);
-    if (at === now.step) kinds.push('here');
-    const circle = draw(svg, 'circle', { cx: x, cy: y, r: at === undefined ? 7 : 9, class: kinds.join(' ') });
-    const sign = at ? SIGNS[stepAt(at - 1)[KIND]] : undefined;
-    if (sign) draw(svg, 'text', { x, y: y + 4, class: 'sign' }).textContent = sign;
-    draw(circle, 'title', {}).textContent = dot.done.map((steps, actor) => `${nameOf(actor)}: ${steps}`).join(', ');
-    circle.addEventListener('click', () => {
-      if (at === undefined) now.path = dot.number;
-      go(at === undefined ? dot.at : at);
-    });
+  function showRun(side, at) {
+    const run = get('runs').children[at];
+    const steps = stepsOf(at);
+    const done = Math.min(now.step, steps.length);
+    const stateAt = step => side.states[step ? steps[step - 1][STATE] : orderOf(at)[FIRST]];
+    showMap(run, at);
+    showNow(run, side, steps[done - 1]);
+    showNotes(run, steps[done - 1]);
+    showState(run, side, stateAt(done), stateAt(Math.max(0, done - 1)));
+    showSteps(run, side, at);
+    const ending = run.querySelector('.ending');
+    const isOver = done === steps.length;
+    ending.textContent = isOver ? orderOf(at)[ENDING] : '';
+    ending.className = `ending ${isOver ? orderOf(at)[OUTCOME] : ''}`;
+    const parts = [side.who, done ? saying(side, steps[done - 1]) : 'the beginning'];
+    if (isOver) parts.push(orderOf(at)[ENDING]);
+    return parts.join(': ');
   }
 
   function show() {
-    showChoice();
-    showTurns();
-    showSaid();
-    showColumns();
-    showLattice();
+    const said = sides().map(showRun);
+    get('said').textContent = `Step ${now.step} of ${most()}. ${said.join(' ')}`;
+    get('place').textContent = `${now.step} / ${most()}`;
+    get('back').disabled = now.step === 0;
+    get('forward').disabled = now.step === most();
+    document.title = `${scene().title}: ${sides().map(side => side.who).join(' and ')}`;
+    history.replaceState(null, '', address());
+  }
+
+  // What a shown name is found by: its directory and itself, or else its unique part.
+  function keysOf(item) {
+    const run = item.closest('.run').ariaLabel;
+    return [`${run} ${item.parentElement.ariaLabel}${item.dataset.name}`, `${run} ${uniqueOf(item.dataset.name)}`];
+  }
+
+  // Where each name stands.
+  function places() {
+    const found = new Map();
+    for (const item of document.querySelectorAll('.directory li')) {
+      for (const key of keysOf(item)) found.set(key, item.getBoundingClientRect());
+    }
+    return found;
+  }
+
+  // Has each name slide from where it stood. One that is new fades in.
+  function slide(before) {
+    for (const item of document.querySelectorAll('.directory li')) {
+      const [here, anywhere] = keysOf(item).map(key => before.get(key));
+      const from = here || anywhere;
+      const to = item.getBoundingClientRect();
+      const way = from && [from.left - to.left, from.top - to.top];
+      if (way && !way[0] && !way[1]) continue;
+      const frames = way ? { transform: [`translate(${way[0]}px, ${way[1]}px)`, 'none'] } : { opacity: [0, 1] };
+      item.animate(frames, { duration: MILLISECONDS.slide, easing: 'ease-in-out' });
+    }
+  }
+
+  function stop() {
+    clearInterval(now.timer);
+    now.timer = 0;
+    get('play').textContent = '▶ Play';
+  }
+
+  function play() {
+    if (now.timer) {
+      stop();
+      return;
+    }
+    if (now.step === most()) go(0);
+    get('play').textContent = '❚❚ Pause';
+    now.timer = setInterval(() => {
+      go(now.step + 1);
+      if (now.step === most()) stop();
+    }, MILLISECONDS.step);
+    keepInSight();
+  }
+
+  // On a phone the directories may be below the screen, where nobody sees a name move.
+  function keepInSight() {
+    const first = get('run-0').getBoundingClientRect();
+    const last = [...document.querySelectorAll('.state')].pop().getBoundingClientRect();
+    const isInSight = first.top >= 0 && last.bottom <= get('bar').getBoundingClientRect().top;
+    if (!isInSight) get('run-0').scrollIntoView({ behavior: isStill.matches ? 'auto' : 'smooth' });
+  }
+
+  function move(step) {
+    stop();
+    go(step);
+    keepInSight();
+  }
+
+  function download(at) {
+    const text = [...sides()[at].head, ...stepsOf(at).flatMap(step => step[LINES])].join('\n');
+    const link = document.createElement('a');
+    link.href = URL.createObjectURL(new Blob([`${text}\n`], { type: 'text/plain' }));
+    link.download = `${scene().name}-${sides()[at].who.replace(/\W+/g, '-')}-${now.orders[at] + 1}.log`;
+    link.click();
+    URL.revokeObjectURL(link.href);
+  }
+
+  async function copyLink() {
+    try {
+      await navigator.clipboard.writeText(location.href);
+      get('link').textContent = 'Copied';
+    } catch {
+      get('link').textContent = 'Copy the address';
+    }
+    setTimeout(() => { get('link').textContent = 'Copy link'; }, 2000);
   }
 
   const KEYS = {
-    ArrowLeft: () => go(now.step - 1),
-    ArrowRight: () => go(now.step + 1),
-    ArrowUp: () => take(now.path - 1),
-    ArrowDown: () => take(now.path + 1),
-    Home: () => go(0),
-    End: () => go(path().length),
+    ArrowLeft: () => move(now.step - 1),
+    ArrowRight: () => move(now.step + 1),
+    ArrowUp: () => take(0, now.orders[0] - 1),
+    ArrowDown: () => take(0, now.orders[0] + 1),
+    Home: () => move(0),
+    End: () => move(most()),
+    ' ': play,
   };
 
-  scenes.forEach((other, number) => { add(get('scene'), 'option', other.title).value = String(number); });
-  get('scene').addEventListener('change', () => open(Number(get('scene').value)));
-  get('path').addEventListener('change', () => take((Number(get('path').value) || 1) - 1));
-  get('before').addEventListener('click', () => take(now.path - 1));
-  get('after').addEventListener('click', () => take(now.path + 1));
-  get('start').addEventListener('click', KEYS.Home);
+  scenes.forEach((one, number) => { add(get('scene'), 'option', one.label).value = String(number); });
+  get('scene').addEventListener('change', () => { stop(); open(Number(get('scene').value)); });
   get('back').addEventListener('click', KEYS.ArrowLeft);
   get('forward').addEventListener('click', KEYS.ArrowRight);
-  get('end').addEventListener('click', KEYS.End);
-  document.querySelector('form').addEventListener('submit', event => event.preventDefault());
+  get('play').addEventListener('click', play);
+  get('link').addEventListener('click', copyLink);
+  addEventListener('hashchange', openAddress);
   document.addEventListener('keydown', event => {
     if (event.altKey || event.ctrlKey || event.metaKey || !KEYS[event.key]) return;
-    if (event.target.closest('select, input, .wide')) return;
+    if (event.target.closest('select') || (event.key === ' ' && event.target.closest('button, summary'))) return;
     event.preventDefault();
     KEYS[event.key]();
   });
-  get('stepper').hidden = false;
+  let touched = null;
+  get('runs').addEventListener('touchstart', event => { touched = event.changedTouches[0]; }, { passive: true });
+  get('runs').addEventListener('touchend', event => {
+    const ended = event.changedTouches[0];
+    const [across, down] = [ended.clientX - touched.clientX, ended.clientY - touched.clientY];
+    if (Math.abs(across) > 50 && Math.abs(across) > 2 * Math.abs(down)) move(now.step - Math.sign(across));
+  }, { passive: true });
+  get('choose').hidden = get('about').hidden = scenes.length === 1;
+  get('stepper').hidden = get('bar').hidden = false;
   get('tables').hidden = true;
-  open(0);
+  openAddress();
 })();

@@ -1,145 +1,110 @@
-"""A page that steps through interleavings: one file, which holds the data."""
+"""A page that steps through races: one file, which holds the data."""
 
 from __future__ import annotations
 
 import json
 import re
+from dataclasses import dataclass
 from html import escape
 from pathlib import Path
 
-from .marks import Mark, marks_of
-from .play import Played, Row, Step, escaped
-from .scene import Scene, shown
+from .side import PLACES, Order, Side
 
 HERE = Path(__file__).resolve().parent
-PLACES = (b"tmp", b"new", b"cur")
-HEAD = ("Step", "Who", "Directory call and reply", "tmp, new and cur after it", "What it is")
+HEAD = ("Step", "Who", "What", "tmp, new and cur after it")
+TITLE = "Races in a maildir, step by step"
+ABOUT = "Two programs work on one maildir at once: released ones, as they were recorded, and then Deolmutt, in every order of their calls."
+MORE = " The clauses are those of {}; {} has the rules of a maildir, and {} more programs."
+DOCS = (("THEOREM.md", "the theorem"), ("JUDGE.md", "the judge"), ("JUDGED.md", "what real programs do"))
+PREVIEW = '<meta property="og:image" content="races.png">\n'
 
 
-class Table:
-    """Values, each kept once, by their numbers."""
+@dataclass
+class Scene:
+    """A race with one side or two."""
 
-    def __init__(self) -> None:
-        self.numbers: dict[str, int] = {}
+    name: str
+    title: str
+    about: str
+    sides: list[Side]
 
-    def number(self, value: object) -> int:
-        """The number of a value that JSON can have."""
-        return self.numbers.setdefault(json.dumps(value, ensure_ascii=False), len(self.numbers))
+    def partners(self) -> list[int]:
+        """For each order of the first side, the one of the second that is most like it. Those with which the page opens belong together."""
+        if len(self.sides) < 2:
+            return []
+        first, second = self.sides
+        best = [min(range(len(second.orders)), key=lambda at: unlikeness(order, second.orders[at])) for order in first.orders]
+        best[first.own] = second.own
+        return best
 
-    def values(self) -> list[object]:
-        """All values in order of their numbers."""
-        return [json.loads(text) for text in self.numbers]
-
-
-def rows_shown(scene: Scene, rows: tuple[Row, ...]) -> list[list[list[str]]]:
-    """The rows of tmp, new and cur of each folder, as texts."""
-    directories = [[(escaped(folder), place) for place in PLACES] for folder in scene.folders()]
-    return [[[row_text(row) for row in rows if row[:2] == place] for place in folder] for folder in directories]
-
-
-def row_text(row: Row) -> str:
-    """A name and its size in bytes."""
-    return f"{shown(row[2])} · {shown(row[4])} B"
-
-
-def step_shown(step: Step, mark: Mark, state: int) -> list[object]:
-    """A step as the page has it."""
-    effect = f"effect: {step.effect}" if step.effect else ""
-    answer = step.answer if step.answer.startswith("lists ") or not step.answer else f"answer: {step.answer}"
-    return [step.actor, step.call, step.reply, step.moment, effect, answer, mark.kind, mark.words, mark.clause, state]
+    def data(self) -> dict[str, object]:
+        """The scene as the page has it."""
+        label = f"{self.title}: {self.sides[0].who}" if len(self.sides) > 1 else self.title
+        about = {"name": self.name, "title": self.title, "label": label, "about": self.about}
+        return about | {"partners": self.partners(), "sides": [side.data() for side in self.sides]}
 
 
-def scene_shown(scene: Scene, interleavings: list[Played], own: Played, there_are: str) -> dict[str, object]:
-    """A scene as the page has it. Steps and states that come in many interleavings are there once."""
-    states, steps = Table(), Table()
-    first = states.number(rows_shown(scene, own.beginning))
-    paths = []
-    for played in interleavings:
-        marked = zip(played.steps, marks_of(scene, played))
-        paths.append([steps.number(step_shown(step, mark, states.number(rows_shown(scene, step.rows)))) for step, mark in marked])
-    turns = [step.actor for step in own.steps]
-    begins = [[step.actor for step in played.steps[: len(turns)]] == turns for played in interleavings]
-    return {
-        "title": scene.name.replace("-", " "),
-        "about": scene.about,
-        "actors": [[actor.name, shown(actor.call)] for actor in scene.actors],
-        "folders": [shown(folder) for folder in scene.folders()],
-        "first": first,
-        "states": states.values(),
-        "steps": steps.values(),
-        "paths": paths,
-        "own": begins.index(True) if True in begins else 0,
-        "all": there_are,
-    }
+def unlikeness(one: Order, other: Order) -> tuple[int, float]:
+    """How unlike two orders are: first by how many steps at the beginning are of the same, and then by how early the second comes."""
+    alike = next((at for at, (a, b) in enumerate(zip(one.turns, other.turns)) if a != b), min(len(one.turns), len(other.turns)))
+    return -alike, abs(lateness(one.turns) - lateness(other.turns))
 
 
-def table(scene: dict[str, object]) -> str:
-    """One interleaving of a scene as a table, for readers without JavaScript."""
-    actors, states, steps = scene["actors"], scene["states"], scene["steps"]
-    path = scene["paths"][scene["own"]]
-    lines = [row_of("0", "", "the beginning", states[scene["first"]], scene["folders"], "")]
-    for at, number in enumerate(path, 1):
-        actor, call, reply, _, effect, answer, _, words, clause, state = steps[number]
-        said = "; ".join(part for part in (effect, answer, words) if part)
-        said = f"{said} ({clause})" if said else clause
-        lines.append(row_of(str(at), actors[actor][0], f"{call}: {reply}", states[state], scene["folders"], said))
+def lateness(turns: str) -> float:
+    """The part of all steps of A that come before a step of the others, on average."""
+    before = [turns[:at].count("A") for at, who in enumerate(turns) if who != "A"]
+    return sum(before) / max(1, len(before)) / max(1, turns.count("A"))
+
+
+def table(scene: Scene) -> str:
+    """The order of each side that shows the most, as tables for readers without JavaScript."""
+    runs = "".join(run_table(side) for side in scene.sides)
+    return f"<section><h2>{escape(scene.title)}</h2><p>{escape(scene.about)}</p>{runs}</section>"
+
+
+def run_table(side: Side) -> str:
+    """One order of a side as a table."""
+    order = side.orders[side.own]
+    lines = [row_of(("0", "", "the beginning"), side, order.beginning)]
+    for at, step in enumerate(order.steps, 1):
+        lines.append(row_of((str(at), step.who, "; ".join(["".join(step.text), *map(noted, step.notes)])), side, step.paths))
     head = "".join(f'<th scope="col">{word}</th>' for word in HEAD)
-    calls = ", ".join(f"{escape(name)}: <code>{escape(call)}</code>" for name, call in actors)
+    actors = ", ".join(f"{letter}: <code>{escape(words)}</code>" for letter, words in side.actors)
     return (
-        f"<section><h2>{escape(scene['title'])}</h2><p>{escape(scene['about'])}</p><p>{calls}</p>"
-        f'<div class="wide" tabindex="0" role="region" aria-label="{escape(scene["title"])}, one interleaving">'
-        f"<table><thead><tr>{head}</tr></thead><tbody>{''.join(lines)}</tbody></table></div>{judged_text(scene['judged'])}</section>"
+        f"<h3>{escape(side.who)} ({escape(side.tag)})</h3><p>{escape(side.count)} {actors}</p>"
+        f'<div class="wide" tabindex="0" role="region" aria-label="{escape(side.who)}, one order">'
+        f"<table><thead><tr>{head}</tr></thead><tbody>{''.join(lines)}</tbody></table></div>"
+        f"<p><strong>{escape(order.ending)}</strong></p><p>{escape(side.about)}</p>"
     )
 
 
-def coded(text: str) -> str:
-    """A text of a page of docs, with what stands in its backquotes as code."""
-    parts = escape(text).split("`")
-    return "".join(f"<code>{part}</code>" if at % 2 else part for at, part in enumerate(parts))
+def noted(note: list[str]) -> str:
+    """A note on a step."""
+    kind, head, text = note
+    return ("breaks the law: " if kind == "bad" else "") + (f"{head}: " if head else "") + text
 
 
-def judged_text(judged: dict[str, object]) -> str:
-    """What released programs do in the race of a scene, for readers without JavaScript."""
-    parts = ["<h3>What released programs do in this race</h3>"]
-    if judged["told"]:
-        parts.append(f"<p>{coded(judged['told'])}.</p>")
-    for program, scene, found, command in judged["rows"]:
-        parts.append(f"<p><strong>{coded(program)}</strong>, {coded(scene)}. The judge found: {coded(found)}. Shown by {coded(command)}.</p>")
-    if judged["rows"]:
-        parts.append(f"<p>{coded(judged['ran'])}</p>")
-    elif judged["told"]:
-        parts.append("<p>The judge has no log of this race.</p>")
-    else:
-        parts.append("<p>No released program was looked at.</p>")
-    return "".join(parts)
-
-
-def row_of(number: str, who: str, call: str, state: list[list[list[str]]], folders: list[str], said: str) -> str:
+def row_of(cells: tuple[str, ...], side: Side, paths: list[str]) -> str:
     """A row of the table."""
     places = [
-        f"{escape(folder)}/{place.decode()}: {escape(', '.join(rows) or '–')}"
-        for folder, directories in zip(folders, state)
-        for place, rows in zip(PLACES, directories)
+        f"{escape(folder)}/{place}/: {escape(', '.join(names) or '–')}"
+        for folder, directories in zip(side.folders, side.rows(paths))
+        for place, names in zip(PLACES, directories)
     ]
-    cells = [number, escape(who), f"<code>{escape(call)}</code>", "<br>".join(places), escape(said)]
-    return "<tr>" + "".join(f"<td>{cell}</td>" for cell in cells) + "</tr>"
+    return "<tr>" + "".join(f"<td>{cell}</td>" for cell in (*map(escape, cells), "<br>".join(places))) + "</tr>"
 
 
-def link(name: str, text: str, is_of_docs: bool) -> str:
-    """A page of docs: a link where this page is one, and else its name."""
-    return f'<a href="{name}">{text}</a>' if is_of_docs else f"{text} (docs/{name})"
-
-
-def page(scenes: list[dict[str, object]], is_of_docs: bool) -> str:
+def page(scenes: list[Scene], is_of_docs: bool) -> str:
     """The whole page, which may be one of docs."""
-    data = json.dumps(scenes, ensure_ascii=False, separators=(",", ":")).replace("<", "\\u003c")
-    text = (HERE / "page.html").read_text(encoding="utf-8")
+    data = json.dumps([scene.data() for scene in scenes], ensure_ascii=False, separators=(",", ":")).replace("<", "\\u003c")
     parts = {
+        "TITLE": TITLE if is_of_docs else escape(scenes[0].title),
+        "ABOUT": ABOUT if is_of_docs else escape(scenes[0].about),
+        "PREVIEW": PREVIEW if is_of_docs else "",
+        "MORE": MORE.format(*(f'<a href="{name}">{text}</a>' for name, text in DOCS)) if is_of_docs else "",
         "STYLE": (HERE / "page.css").read_text(encoding="utf-8"),
         "SCRIPT": (HERE / "page.js").read_text(encoding="utf-8"),
         "TABLES": "\n".join(table(scene) for scene in scenes),
         "DATA": data,
-        "THEOREM": link("THEOREM.md", "the theorem", is_of_docs),
-        "JUDGED": link("JUDGED.md", "what real programs do", is_of_docs),
     }
-    return re.sub("@([A-Z]+)@", lambda found: parts[found[1]], text)
+    return re.sub("@([A-Z]+)@", lambda found: parts[found[1]], (HERE / "page.html").read_text(encoding="utf-8"))

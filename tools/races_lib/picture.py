@@ -1,26 +1,47 @@
-"""A picture of one interleaving: its calls in order, and the rows of tmp, new and cur after each."""
+"""The pictures of docs: one delivery, call by call, and two listings beside a move."""
 
 from __future__ import annotations
 
 from html import escape
 
 from .marks import marks_of
+from .page import Scene as PageScene
 from .play import Played, Row
 from .scene import Scene, shown
+from .side import PLACES, Order, Shown, Side
 
-PLACES = (b"tmp", b"new", b"cur")
 LEFT, WIDE, COLUMN, TOP, DEEP = 16, 440, 176, 58, 40
+HALF, LINE = 440, 30
 
-STYLE = """svg{--ground:#fff;--text:#1b1f24;--soft:#57606a;--line:#818b98;--effect:#116329;--box:#f3f5f8}
+STYLE = """svg{--ground:#fff;--text:#1b1f24;--soft:#57606a;--line:#818b98;--box:#f3f5f8;
+--good:#116329;--good-box:#dafbe1;--lost:#a40e26;--lost-box:#ffebe9}
 @media (prefers-color-scheme:dark){
-svg{--ground:#0d1117;--text:#e6edf3;--soft:#a8b3bf;--line:#6e7681;--effect:#7ee787;--box:#161b22}}
+svg{--ground:#0d1117;--text:#e6edf3;--soft:#a8b3bf;--line:#6e7681;--box:#161b22;
+--good:#7ee787;--good-box:#12331c;--lost:#ffa198;--lost-box:#4a1517}}
 text{font:14px system-ui,sans-serif;fill:var(--text)}.code{font-family:ui-monospace,monospace;font-size:13px}.soft{fill:var(--soft)}
-.ground{fill:var(--ground)}.box{fill:var(--box);stroke:var(--line)}.effect{fill:var(--effect);font-weight:600}"""
+.ground{fill:var(--ground)}.box{fill:var(--box);stroke:var(--line)}.title{font-size:16px;font-weight:600}
+.good{fill:var(--good);font-weight:600}.box.good{fill:var(--good-box);stroke:var(--good)}
+.lost{fill:var(--lost);font-weight:600}.box.lost{fill:var(--lost-box);stroke:var(--lost)}"""
 
 
 def text_at(x: int, y: int, kind: str, text: str) -> str:
-    """A text of the picture."""
+    """A text of a picture."""
     return f'<text x="{x}" y="{y}" class="{kind}">{escape(text)}</text>'
+
+
+def box_at(x: int, y: int, wide: int, high: int, kind: str = "") -> str:
+    """A box of a picture."""
+    return f'<rect x="{x}" y="{y}" width="{wide}" height="{high}" rx="6" class="box {kind}"/>'
+
+
+def drawn(width: int, height: int, title: str, parts: list[str]) -> str:
+    """A picture as SVG, legible on light and dark grounds."""
+    return (
+        f'<svg xmlns="http://www.w3.org/2000/svg" viewBox="0 0 {width} {height}" width="{width}" height="{height}" role="img" '
+        f'aria-label="{escape(title)}"><title>{escape(title)}</title><style>{STYLE}</style>\n'
+        + "\n".join([f'<rect width="{width}" height="{height}" class="ground"/>', *parts])
+        + "\n</svg>\n"
+    )
 
 
 def short(call: str, reply: str) -> str:
@@ -32,30 +53,54 @@ def row_of(scene: Scene, rows: tuple[Row, ...], y: int) -> list[str]:
     """The three directories after a step."""
     parts = []
     for at, place in enumerate(PLACES):
-        found = [row for row in rows if row[0] == scene.folders()[0] and row[1] == place]
+        found = [row for row in rows if row[0] == scene.folders()[0] and row[1] == place.encode()]
         names = [shown(row[2]) + (f" · {shown(row[4])} B" if len(found) == 1 else "") for row in found]
         x = LEFT + WIDE + at * COLUMN
-        parts.append(f'<rect x="{x}" y="{y - 20}" width="{COLUMN - 8}" height="{DEEP - 10}" rx="4" class="box"/>')
-        parts.append(text_at(x + 8, y, "code", ", ".join(names)))
+        parts += [box_at(x, y - 20, COLUMN - 8, DEEP - 10), text_at(x + 8, y, "code", ", ".join(names))]
     return parts
 
 
-def picture(scene: Scene, played: Played, title: str) -> str:
-    """The picture as SVG, legible on light and dark grounds."""
-    width, height = LEFT * 2 + WIDE + COLUMN * 3, TOP + DEEP * (len(played.steps) + 1)
-    parts = [f'<rect width="{width}" height="{height}" class="ground"/>', text_at(LEFT, 26, "", title)]
-    parts += [text_at(LEFT + WIDE + at * COLUMN + 8, 26, "soft", place.decode()) for at, place in enumerate(PLACES)]
+def delivery(scene: Scene, played: Played) -> str:
+    """The calls of one delivery, and the rows of tmp, new and cur after each."""
+    title = "A delivery in five calls"
+    parts = [text_at(LEFT, 26, "title", title)]
+    parts += [text_at(LEFT + WIDE + at * COLUMN + 8, 26, "soft", place) for at, place in enumerate(PLACES)]
     parts += [text_at(LEFT, TOP, "soft", "at the beginning"), *row_of(scene, played.beginning, TOP)]
     for at, (step, mark) in enumerate(zip(played.steps, marks_of(scene, played)), 1):
-        y = TOP + DEEP * at
-        who = scene.actors[step.actor].name if len(scene.actors) > 1 else str(at)
-        call = step.answer if step.answer.startswith("lists ") else short(step.call, step.reply)
-        parts.append(text_at(LEFT, y, "soft", who))
-        parts.append(text_at(LEFT + 62, y - (7 if mark.kind == "effect" else 0), "code", call))
-        if mark.kind == "effect":
-            parts.append(text_at(LEFT + 62, y + 9, "effect", "takes effect"))
+        y, is_effect = TOP + DEEP * at, mark.kind == "effect"
+        parts += [text_at(LEFT, y, "soft", str(at)), text_at(LEFT + 62, y - (7 if is_effect else 0), "code", short(step.call, step.reply))]
+        if is_effect:
+            parts.append(text_at(LEFT + 62, y + 9, "good", "takes effect"))
         parts += row_of(scene, step.rows, y)
-    return (
-        f'<svg xmlns="http://www.w3.org/2000/svg" viewBox="0 0 {width} {height}" width="{width}" height="{height}" role="img" '
-        f'aria-label="{escape(title)}"><title>{escape(title)}</title><style>{STYLE}</style>\n' + "\n".join(parts) + "\n</svg>\n"
-    )
+    return drawn(LEFT * 2 + WIDE + COLUMN * 3, TOP + DEEP * (len(played.steps) + 1), title, parts)
+
+
+def twice(scene: PageScene, heading: str, title: str) -> str:
+    """One race, twice: a released program, and Deolmutt."""
+    orders = [side.orders[side.own] for side in scene.sides]
+    height = 92 + LINE * (max(len(order.steps) for order in orders) + 2)
+    parts = [text_at(LEFT, 28, "title", heading)]
+    for at, (side, order) in enumerate(zip(scene.sides, orders)):
+        parts += half(side, order, LEFT + at * (HALF + LEFT), height)
+    return drawn(LEFT * 3 + HALF * 2, height, title, parts)
+
+
+def half(side: Side, order: Order, x: int, height: int) -> list[str]:
+    """One of the two."""
+    parts = [box_at(x, 44, HALF, height - 60), text_at(x + 14, 70, "title", side.who), text_at(x + 110, 70, "soft", side.tag)]
+    for at, step in enumerate(order.steps, 1):
+        y = 74 + LINE * at
+        parts += [text_at(x + 14, y, "soft", step.who), text_at(x + 40, y, "code", words_of(step))]
+    box = box_at(x + 10, height - 62, HALF - 20, 30, order.outcome)
+    return [*parts, box, text_at(x + 20, height - 42, order.outcome, ending_of(order))]
+
+
+def words_of(step: Shown) -> str:
+    """A step in words, as far as there is room: of an end its status, of a refusal why."""
+    return "".join(step.text).split(", which is taken")[0].removesuffix(": ENOENT")
+
+
+def ending_of(order: Order) -> str:
+    """What came of an order: what is lost, or what was answered last."""
+    answers = [text for _, head, text in order.steps[-1].notes if head == "answers"]
+    return f"Nothing is lost: {answers[0]}" if answers else order.ending.split(". ")[0]

@@ -35,7 +35,7 @@ class Step:
 class Programs:
     """The programs by their files."""
 
-    trace: Path
+    deolmutt: Path
     cli: Path
 
 
@@ -62,7 +62,7 @@ def check_script(programs: Programs, file: Path) -> None:
         script = file.read_bytes()
     except OSError as error:
         raise Refused(f"{file} cannot be read: {error.strerror}") from None
-    status, _, said = run([str(programs.trace)], script)
+    status, _, said = run([str(programs.deolmutt), "log"], script)
     if status:
         raise Refused(f"{file}: {said}")
 
@@ -85,7 +85,7 @@ def play_on(programs: Programs, scene: Scene, path: list[int], left: Collection[
     more = [line for at, actor in enumerate(scene.actors) if at in left for line in actor.steps_from(done[at])]
     while True:
         lines = [*begin, *more]
-        status, log, said = run([str(programs.trace), "--states"], b"\n".join(lines) + b"\n")
+        status, log, said = run([str(programs.deolmutt), "log", "--states"], b"\n".join(lines) + b"\n")
         if status == 0:
             return lines, log
         number = said.removeprefix("line ").split(":")[0]
@@ -183,7 +183,7 @@ def play(programs: Programs, scene: Scene, path: list[int], left: Collection[int
 def play_whole(programs: Programs, scene: Scene) -> Played:
     """The script's own order of steps."""
     lines = scene.whole
-    status, log, said = run([str(programs.trace), "--states"], b"\n".join(lines) + b"\n")
+    status, log, said = run([str(programs.deolmutt), "log", "--states"], b"\n".join(lines) + b"\n")
     if status:
         raise Refused(f"{scene.name}: {said}")
     return compared(programs, scene, lines, read_log(lines, log, scene))

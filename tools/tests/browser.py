@@ -42,6 +42,8 @@ class Browser:
     def open(self) -> str:
         """Opens the session, once the driver listens."""
         args = ["--headless=new", "--no-sandbox", "--disable-gpu", "--disable-dev-shm-usage", f"--user-data-dir={self.folder.name}"]
+        # A page whose address follows each step may change it as often as a test steps.
+        args.append("--disable-ipc-flooding-protection")
         options = {"binary": shutil.which("chromium"), "args": args}
         wanted = {"browserName": "chrome", "goog:chromeOptions": options, "goog:loggingPrefs": {"browser": "ALL", "performance": "ALL"}}
         for _ in range(100):

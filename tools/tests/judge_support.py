@@ -1,11 +1,12 @@
-"""What the tests of `tools/trace`, `tools/explore` and `tools/scenes` share: recorded traces, and logs of them."""
+"""What the tests of `tools/trace`, `tools/check-run`, `tools/explore` and `tools/scenes` share: recorded traces, and logs of them."""
 
 from __future__ import annotations
 
+import json
 import os
 import sys
 from pathlib import Path as FilePath
-from typing import Dict, Iterable, List, Optional, Tuple
+from typing import Any, Dict, Iterable, List, Optional, Tuple
 
 sys.dont_write_bytecode = True
 
@@ -13,12 +14,11 @@ TOOLS = FilePath(__file__).resolve().parent.parent
 RECORDED = FilePath(__file__).resolve().parent / "strace"
 sys.path.insert(0, str(TOOLS))
 
-from judge_lib.claims import Claim  # noqa: E402
+from judge_lib.claims import Claim, read_claims  # noqa: E402
 from judge_lib.folders import File, Folder, Folders  # noqa: E402
 from judge_lib.making import Beginning, Log, Making, make_log  # noqa: E402
 from judge_lib.names import Path  # noqa: E402
-from judge_lib.processes import Processes  # noqa: E402
-from judge_lib.trace_command import read_claims  # noqa: E402
+from judge_lib.processes import Actors, Processes  # noqa: E402
 
 BOX = Folder(b"box", b"/srv/mail/box")
 
@@ -34,10 +34,11 @@ def beginning(files: Iterable[Tuple[str, bytes]]) -> Beginning:
     return Beginning(Folders([BOX], os.path.normpath), [File((Path(b"box", place, name),), 1000) for place, name in files])
 
 
-def log_of(lines: Iterable[str], files: Iterable[Tuple[str, bytes]] = (), claims: Iterable[str] = (), by_program: bool = False) -> Log:
+def log_of(lines: Iterable[str], files: Iterable[Tuple[str, bytes]] = (), claims: Iterable[str] = (), actors: Actors = Actors("one", "a"),
+           start: Optional[Beginning] = None) -> Log:
     """The log of a trace, whose first process is the actor `a`."""
     said: Dict[Optional[str], List[Claim]] = read_claims(list(claims))
-    return make_log(lines, Making(beginning(files), Processes("a", b"/srv/mail", by_program), said, []))
+    return make_log(lines, Making(start or beginning(files), Processes(actors, b"/srv/mail"), said, []))
 
 
 def steps_of(log: Log) -> List[str]:
@@ -59,3 +60,27 @@ def opened(number: int, path: str) -> str:
 def trace(*calls: str) -> List[str]:
     """A trace of lines `PID TEXT`, a second apart."""
     return [f"{call.partition(' ')[0]} {1000 + number}.000000 {call.partition(' ')[2]}\n" for number, call in enumerate(calls)]
+
+
+_TYPES = {"object": dict, "array": list, "string": str, "integer": int, "boolean": bool, "null": type(None)}
+
+
+def check_schema(value: Any, name: str) -> None:
+    """Raises where a value is not as a schema of tools/schemas says. It knows the words that our schemas have."""
+    schema = json.loads((TOOLS / f"schemas/{name}.json").read_text(encoding="utf-8"))
+    _check(value, schema, name)
+
+
+def _check(value: Any, schema: Dict[str, Any], at: str) -> None:
+    assert set(schema) <= {"$schema", "title", "description", "type", "enum", "properties", "required", "additionalProperties", "items"}, at
+    kinds = schema.get("type", list(_TYPES))
+    assert any(type(value) is _TYPES[kind] for kind in ([kinds] if isinstance(kinds, str) else kinds)), f"{at}: {value!r}"
+    assert value in schema.get("enum", [value]), f"{at}: {value!r}"
+    if isinstance(value, dict):
+        own, rest = schema.get("properties", {}), schema.get("additionalProperties", False)
+        assert set(schema.get("required", [])) <= set(value), f"{at} lacks a key"
+        for key, each in value.items():
+            assert key in own or rest, f"{at}: {key}"
+            _check(each, own.get(key, rest), f"{at}.{key}")
+    for each in value if isinstance(value, list) else []:
+        _check(each, schema["items"], f"{at}[]")

@@ -176,7 +176,7 @@ class Rows(unittest.TestCase):
     def test_each_program_has_rows_of_each_status(self):
         for name in FACES:
             with self.subTest(name):
-                statuses = {0, 1, 64, 66, 73} if name == "deolmutt" else {0, 1, 2}
+                statuses = {0, 1, 2, 64, 66, 73} if name == "deolmutt" else {0, 1, 2}
                 self.assertEqual({row.example.status for row in rows_of(name)}, statuses)
 
     def test_the_example_of_a_row_is_right_and_another_end_is_not(self):
@@ -205,10 +205,10 @@ class Rows(unittest.TestCase):
     def test_each_log_of_the_judge_is_a_row(self):
         logs = len(list((TOOLS.parent / "crates/judge_examples/data").glob("*.log")))
         self.assertGreaterEqual(logs, 62)
-        self.assertGreaterEqual(sum(row.words == ["--lines"] for row in rows_of("maildir_judge")), logs)
+        self.assertGreaterEqual(sum(row.words == ["judge", "--lines"] for row in rows_of("deolmutt")), logs)
 
     def test_an_earlier_line_has_to_be_named(self):
-        row = next(row for row in rows_of("maildir_judge") if row.example.printed.startswith(b'{"before":'))
+        row = next(row for row in rows_of("deolmutt") if row.example.printed.startswith(b'{"before":'))
         self.assertFalse(row.is_right(row.example._replace(printed=row.example.printed.replace(b",", b",\n", 1))))
         self.assertFalse(row.is_right(row.example._replace(printed=b"")))
 
@@ -277,7 +277,7 @@ class Words(unittest.TestCase):
                 self.assertEqual(done.stdout, b"")
 
     def test_each_program_is_known(self):
-        self.assertEqual(set(FACES), {"deolmutt", "maildir_cli", "maildir_judge", "maildir_trace"})
+        self.assertEqual(set(FACES), {"deolmutt", "maildir_cli"})
 
 
 if __name__ == "__main__":

@@ -1,6 +1,10 @@
 """The law over histories, evaluated by its definitions: it finds in the logs of judge_examples what the proved judge has to find."""
 
+import contextlib
+import io
+import re
 import sys
+import tempfile
 import unittest
 from pathlib import Path
 
@@ -9,9 +13,17 @@ sys.dont_write_bytecode = True
 TOOLS = Path(__file__).resolve().parent.parent
 sys.path.insert(0, str(TOOLS))
 
+from judge_lib.refused import Refused  # noqa: E402
+from judge_lib.results import Results  # noqa: E402
+from judge_lib.scene import read_scenes  # noqa: E402
+from judge_lib.staging import Outcome  # noqa: E402
 from law_lib.clauses import LAW  # noqa: E402
 from law_lib.logs import findings  # noqa: E402
+from law_lib.owed import OWED  # noqa: E402
+from law_lib.owed_command import broken_in, main  # noqa: E402
 
+PAGE = TOOLS.parent / "docs/LAW.md"
+EXAMPLE = re.compile(r"^\*\*`(\w+)`\.\*\* [^\n]*\n\n((?:    [^\n]*\n)+)", re.MULTILINE)
 LOGS = sorted((TOOLS.parent / "crates/judge_examples/data").glob("*.log"))
 MOST_LINES = 60
 
@@ -33,6 +45,53 @@ class Law(unittest.TestCase):
                 said = "".join(f"{number} {clause}\n" for number, clause in found)
                 self.assertEqual(said, log.with_suffix(".found").read_text())
         self.assertEqual(broken, set(LAW), "each clause is broken by a log")
+
+
+class Owed(unittest.TestCase):
+    def test_each_example_of_the_page_breaks_its_clause_alone(self) -> None:
+        examples = EXAMPLE.findall(PAGE.read_text(encoding="utf-8"))
+        self.assertEqual([clause for clause, _ in examples], list(OWED))
+        for clause, block in examples:
+            log = block.replace("    ", "").encode()
+            with self.subTest(clause):
+                self.assertEqual(findings(log, OWED), [(len(log.splitlines()), clause)])
+
+    def test_what_comes_from_new_may_have_been_read(self) -> None:
+        log = b"file a/new/u 1\n10 p link a/new/u a/new/v ok\n10 p rename a/new/v a/cur/v:2,S ok\n10 p rename a/new/u b/new/u ok\n"
+        self.assertEqual(findings(log, OWED), [])
+
+    def test_overlapping_calls_are_taken_in_the_order_of_lines_or_refused(self) -> None:
+        created, linked = b"10@1..9 d create a/tmp/u ok\n", b"10@2..8 p link a/tmp/u a/new/u ok\n"
+        self.assertEqual(broken_in(created + linked), [("NamedByAnother", "p", [2])])
+        with self.assertRaisesRegex(Refused, "line 1: calls overlap"):
+            broken_in(linked + created)
+
+    def test_the_command_says_who_breaks_what(self) -> None:
+        with tempfile.TemporaryDirectory() as room:
+            log = Path(room, "log")
+            for text, said, status in [
+                ("10 p create a/cur/u:2, ok\n10 p write a/cur/u:2, ok\n10 p write a/cur/u:2, ok\n", "Rewritten by p (2, 3)", 1),
+                ("10 p create a/tmp/u ok\n", "nothing", 0),
+                ("10 p unlink a/tmp/u ok\n", "NotADirectory by p (1)", 1),
+            ]:
+                log.write_text(text)
+                with contextlib.redirect_stdout(io.StringIO()) as printed:
+                    self.assertEqual(main([str(log)]), status)
+                self.assertEqual(printed.getvalue(), f"{log}: {said}\n")
+            log.write_text("file a/tmp/u x\n")
+            with contextlib.redirect_stderr(io.StringIO()):
+                self.assertEqual(main([str(log)]), 2)
+
+    def test_the_table_has_a_row_for_each_program(self) -> None:
+        linked = b"file box/cur/u:2,S 1\n10 s-nail link box/cur/u:2,S box/cur/u:2,FS ok\n"
+        logs = {"s-nail-flag": linked, "s-nail-move": b"", "mlist-beside-mv": b""}
+        with tempfile.TemporaryDirectory() as room:
+            for scene in read_scenes(list(logs)):
+                Results(room).keep(Outcome(scene, "1", 1, True, [], logs[scene.name]))
+            with contextlib.redirect_stdout(io.StringIO()) as printed:
+                self.assertEqual(main(["--scenes", room]), 0)
+        rows = printed.getvalue().splitlines()[4:]
+        self.assertEqual(rows, ["| `s-nail`, s-nail 1 | 2 | `TwoNames` (flags one message, deletes another) |"])
 
 
 if __name__ == "__main__":

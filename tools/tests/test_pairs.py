@@ -23,8 +23,8 @@ from races_lib.scene import Scene, read_line  # noqa: E402
 from races_lib.tree import actors_of, interleavings  # noqa: E402
 
 CHOSEN = options().parse_args([])
-PROGRAMS = Programs(Path(os.environ.get("MAILDIR_TRACE", CHOSEN.trace)), Path(os.environ.get("MAILDIR_CLI", CHOSEN.cli)))
-BUILT = all(os.access(program, os.X_OK) for program in (PROGRAMS.trace, PROGRAMS.cli))
+PROGRAMS = Programs(Path(os.environ.get("DEOLMUTT", CHOSEN.deolmutt)), Path(os.environ.get("MAILDIR_CLI", CHOSEN.cli)))
+BUILT = all(os.access(program, os.X_OK) for program in (PROGRAMS.deolmutt, PROGRAMS.cli))
 
 UNIQUE = "u"
 # The fresh names, of the copy of each job.

@@ -6,6 +6,7 @@ import json
 import math
 import os
 import re
+import shutil
 import subprocess
 import sys
 import tempfile
@@ -15,18 +16,21 @@ from pathlib import Path
 TOOLS = Path(__file__).resolve().parent.parent
 sys.path.insert(0, str(TOOLS))
 
-from races_lib import command, judged, scene  # noqa: E402
+from judge_lib.judge_run import judge, deolmutt  # noqa: E402
+from judge_lib.refused import Refused as JudgeRefused  # noqa: E402
+from races_lib import command, kept, losses, page, record, scene, side, words  # noqa: E402
 from races_lib.count import count  # noqa: E402
 from races_lib.marks import marks_of  # noqa: E402
+from races_lib.races import RACES  # noqa: E402
 from races_lib.play import Played, Programs, Step, play, play_whole, run  # noqa: E402
 from races_lib.refused import Refused  # noqa: E402
 from races_lib.tree import actors_of, interleavings  # noqa: E402
 
 CHOSEN = command.options().parse_args([])
-TRACE = Path(os.environ.get("MAILDIR_TRACE", CHOSEN.trace))
+DEOLMUTT = Path(os.environ.get("DEOLMUTT", CHOSEN.deolmutt))
 CLI = Path(os.environ.get("MAILDIR_CLI", CHOSEN.cli))
-PROGRAMS = Programs(TRACE, CLI)
-BUILT = all(os.access(program, os.X_OK) for program in (TRACE, CLI))
+PROGRAMS = Programs(DEOLMUTT, CLI)
+BUILT = all(os.access(program, os.X_OK) for program in (DEOLMUTT, CLI))
 
 TWO_CLEANS = b"folder i\njob clean i\njob clean i\nfinish 1 1\nfinish 2 1\n"
 EXAMPLES = [file for file in sorted(command.EXAMPLES.glob("*.script")) if 1 < len(re.findall("^(?:job|first) ", file.read_text(), re.M)) <= 3]
@@ -52,7 +56,7 @@ class ScratchTest(unittest.TestCase):
 
     def races(self, *words: object) -> subprocess.CompletedProcess[str]:
         """How the tool ends on these words."""
-        line = [TOOLS / "races", "--trace", TRACE, "--cli", CLI, *words]
+        line = [TOOLS / "races", "--deolmutt", DEOLMUTT, "--cli", CLI, *words]
         return subprocess.run([str(word) for word in line], capture_output=True, text=True, check=False)
 
 
@@ -91,36 +95,164 @@ class Scenes(ScratchTest):
             scene.read_scene(self.folder / "none")
 
 
-class Judged(unittest.TestCase):
-    """What is said of released programs, which the tables of pages have."""
+def has_judge() -> bool:
+    """Whether the judge is built."""
+    try:
+        return bool(deolmutt())
+    except JudgeRefused:
+        return False
 
-    def test_each_row_is_one_of_the_table(self) -> None:
-        table = judged.JUDGED.read_text(encoding="utf-8")
-        for race, scenes in judged.SCENES.items():
-            self.assertTrue((command.EXAMPLES / f"{race}.script").exists())
-            rows = judged.judged(race)["rows"]
-            self.assertEqual([row[3] for row in rows], [f"`tools/scenes {one}`" for one in scenes])
-            for row in rows:
-                self.assertIn("| " + " | ".join(cell.replace("|", "\\|") for cell in row) + " |", table)
-            for one in scenes:
-                self.assertTrue((TOOLS / f"scenes.d/{one}.scene").exists())
 
-    def test_the_words_are_those_of_the_readme(self) -> None:
-        for race in (*judged.SCENES, "two-deliverers", "copy-while-flagged", "clocks-apart"):
-            told = judged.judged(race)["told"]
-            self.assertTrue(told)
-            self.assertIn(f"| {told} |", judged.TOLD.read_text(encoding="utf-8"))
+@unittest.skipUnless(has_judge() and shutil.which("strace"), "deolmutt is not built, or strace is not there")
+class Explored(ScratchTest):
+    """A page of two commands of any programs."""
+
+    def test_two_commands_make_a_page(self) -> None:
+        setup, out = "mkdir -p box/tmp box/new box/cur; echo > 'box/new/<b>'", self.folder / "out.html"
+        move = "mv 'box/new/<b>' 'box/cur/<b>:2,%s'"
+        done = self.races("--explore", setup, move % "F", move % "R", "--claims", "A: flags box <b> +F", "-o", out)
+        self.assertEqual(done.returncode, 0, done.stderr)
+        text = out.read_text(encoding="utf-8")
+        shown = json.loads(re.search(r'id="data">(.*?)</script>', text, re.S)[1])[0]["sides"][0]
+        self.assertNotIn("<b>", text.split('id="data">')[0].split("<h2>")[0])
+        self.assertTrue(all(order[1] == "said" for order in shown["orders"]))
+        self.assertIn("ended with status 1", shown["orders"][0][2])
+
+    def test_what_cannot_be_run_is_refused(self) -> None:
+        done = self.races("--explore", "mkdir -p box/tmp box/new box/cur", "no-such-program", "true", "-o", self.folder / "out.html")
+        self.assertEqual(done.returncode, 1)
+        self.assertIn("races: ", done.stderr)
+
+
+class Words(unittest.TestCase):
+    """What a call does, as readers are told it."""
+
+    # The call, its reply, the names that it shows, and the words.
+    ROWS = """look box/cur/u:2,S|fault||looks at cur/u:2,S
+list box new|ok||reads new/: it is empty
+list box cur|more|u:2,S|reads cur/: u:2,S
+list box cur|ok||reads cur/ to its end
+list box cur|fault||reads no more of cur/
+create box/tmp/v|ok||creates tmp/v
+create box/tmp/v|exists||tries to create tmp/v, but tmp/v is there: EEXIST
+write box/tmp/v|ok||writes to tmp/v
+flush box/tmp/v|ok||flushes tmp/v to the disk
+link box/tmp/v box/new/v|ok||links tmp/v to new/v
+unlink box/tmp/v|fault||tries to unlink tmp/v: the system answers an error
+unlink box/tmp/v|ok||unlinks tmp/v
+unlink box/tmp/v|notfound||tries to unlink tmp/v, but A has unlinked it: ENOENT
+rename box/new/v box/cur/v:2,S|ok||renames new/v to cur/v:2,S
+rename box/cur/u:2,S box/cur/u:2,FS|ok||renames cur/u:2,S to u:2,FS
+rename box/cur/u:2,S box/cur/u:2,RS|notfound||tries to rename cur/u:2,S, but A has renamed it: ENOENT
+look box/cur/u:2,S|notfound||looks for cur/u:2,S, but A has renamed it: ENOENT
+unlink box/cur/none|notfound||tries to unlink cur/none, which is not there: ENOENT"""
+
+    def test_each_call_has_its_words(self) -> None:
+        directories = words.Directories(["box"], {"box/cur/u:2,S": None})
+        for row in self.ROWS.split("\n"):
+            call, reply, names, said = row.split("|")
+            act = words.Act("A", tuple(call.split(" ")), reply, tuple(names.split()))
+            self.assertEqual("".join(words.sentence(act, directories)), said)
+            directories.take(act)
+        self.assertEqual(sorted(directories.paths), ["box/cur/u:2,FS", "box/cur/v:2,S"])
+
+    def test_two_folders_are_told_apart(self) -> None:
+        act = words.Act("A", ("rename", "i/cur/u", "j/cur/u"), "ok")
+        self.assertEqual("".join(words.sentence(act, words.Directories(["i", "j"]))), "renames i/cur/u to j/cur/u")
+
+
+class Orders(unittest.TestCase):
+    """What is counted of orders, and which belong together."""
+
+    def order(self, turns: str, outcome: str) -> side.Order:
+        """An order without steps."""
+        return side.Order(turns, [], [], outcome, "")
+
+    def side(self, *orders: tuple[str, str], is_kept: bool = True) -> side.Side:
+        """A side with these orders."""
+        return side.Side("x", "", "", [], [], [], [], [self.order(*one) for one in orders], is_kept=is_kept)
+
+    def test_orders_that_overlap(self) -> None:
+        for turns, wanted in (("AAB", False), ("BA", False), ("ABA", True), ("ABBA", True), ("ABC", False), ("ABCA", True)):
+            self.assertEqual(self.order(turns, side.GOOD).overlaps(), wanted, turns)
+
+    def test_what_is_counted(self) -> None:
+        both = self.side(("AAB", side.LOST), ("ABAB", side.LOST), ("BAA", side.SAID))
+        told = "In 2 of 3 orders it is lost (in 1 of the 1 that overlap); in 1 of 3 orders a program fails, and says so."
+        self.assertEqual(both.counted("it is lost"), told)
+        self.assertEqual(both.worst(), 1)
+        self.assertEqual(self.side(("A", side.GOOD)).counted(""), "Nothing is lost in 1 of 1 orders.")
+        ours = self.side(("AB", side.SAID), ("BA", side.GOOD), is_kept=False)
+        self.assertEqual(ours.counted(""), "In 1 of 2 orders a job is not done, and says so; in none is anything lost.")
+
+    def test_partners_begin_alike(self) -> None:
+        first = self.side(("AAB", side.LOST), ("ABAB", side.LOST), ("BBA", side.LOST))
+        second = self.side(*((turns, side.GOOD) for turns in ("AABB", "ABABBB", "ABBAAA", "BABAAA", "BBAA")))
+        first.own, second.own = 1, 1
+        self.assertEqual(page.Scene("", "", "", [first, second]).partners(), [0, 1, 4])
+
+
+class Kept(unittest.TestCase):
+    """What is kept of released programs, and what a page makes of it."""
+
+    LOG = """maildir_log 1
+# A ended with status 0
+folder box
+file box/tmp/1795880646.M1P2Q3.vm 1795880646
+1795880646 A list box new more
+1795880646 A list box new ok
+# A looks at box/new/1795880646.M1P2Q3.vm: notfound
+1795880647 A link box/tmp/1795880646.M1P2Q3.vm box/new/1795880646.M1P2Q3.vm ok
+# A ends with status 0
+1795880647 A answer delivered box 1795880646.M1P2Q3.vm
+"""
+
+    def test_names_and_moments_are_fixed(self) -> None:
+        found = [line for _, line in record.steps_of(self.LOG)]
+        self.assertEqual(found[0], "A list box new ok")
+        names: dict[str, str] = {}
+        fixed = [record.fixed(line, names) for line in found]
+        made = "1000.M1P7.host"
+        self.assertEqual(fixed[1:3], [f"A looks at box/new/{made}: notfound", f"A link box/tmp/{made} box/new/{made} ok"])
+        self.assertEqual(record.fixed("imap<12><a+b>: 1795880648.M5P2.vm", names), "imap<7><session>: 1000.M2P7.host")
+        self.assertEqual(record.fixed(f"can't read {tempfile.gettempdir()}/explore-a_1/work/box/cur", names), "can't read box/cur")
+
+    def test_each_race_has_what_is_kept_of_it(self) -> None:
+        scenes = {race.kept for race in RACES if race.kept}
+        self.assertEqual({path.stem for path in kept.KEPT.glob("*.json")}, scenes)
+        for race in RACES:
+            self.assertTrue(race.script.exists())
+            if race.kept:
+                self.assertTrue((TOOLS / f"scenes.d/{race.kept}.scene").exists())
+                made = kept.side_of(kept.read_kept(race.kept), race.names)
+                self.assertNotEqual(made.orders[made.own].outcome, side.GOOD, race.name)
+
+    def test_what_mflag_loses(self) -> None:
+        made = kept.side_of(kept.read_kept("mflag-twice"), losses.Names(("mflag", "mflag")))
+        self.assertEqual([order.turns for order in made.orders], ["AAB", "ABAB", "ABBA", "BAAB", "BABA", "BBA"])
+        self.assertEqual(made.count, "In 6 of 6 orders a flag is lost with status 0 (in 4 of the 4 that overlap).")
+        step = made.orders[1].steps[4]
+        self.assertEqual((step.who, "".join(step.text)), ("B", "tries to rename cur/u:2,S, but A has renamed it: ENOENT"))
+        self.assertEqual([note[1] for note in made.orders[1].steps[5].notes], ["GaveUp", "AnsweredFalsely", "it printed"])
+
+    @unittest.skipUnless(has_judge(), "deolmutt is not built")
+    def test_the_judge_finds_what_is_kept(self) -> None:
+        for race in RACES:
+            one = kept.read_kept(race.kept) if race.kept else {"orders": []}
+            for order in one["orders"]:
+                lines = [kept.raw(one["lines"][number]) for number in order["lines"]]
+                log = "\n".join(["maildir_log 1", *one["head"], *lines, ""]).encode()
+                first = 2 + len(one["head"])
+                found = [[finding.line - first, finding.clause] for finding in judge(log, race.allowed)]
+                self.assertEqual(found, order["broken"], f"{race.kept} {order['turns']}")
+
+    def test_what_is_not_kept_is_refused(self) -> None:
+        with self.assertRaisesRegex(Refused, "tools/races --record none"):
+            kept.read_kept("none")
 
     def test_a_page_that_is_not_what_is_made_is_refused(self) -> None:
         with self.assertRaisesRegex(Refused, "docs/races.html is not what"):
             command.check({command.PAGE: "another"})
-
-    def test_a_race_of_no_table_has_nothing(self) -> None:
-        for race in ("expunge-and-untrash", "two-cleaners", ""):
-            self.assertEqual(judged.judged(race), {"told": "", "ran": "", "rows": []})
-
-    def test_a_bar_in_a_cell_is_no_end_of_it(self) -> None:
-        self.assertEqual(judged.cells("| a \\| b | `c` |"), ("a | b", "`c`"))
 
 
 class Marks(ScratchTest):
@@ -155,7 +287,7 @@ class Marks(ScratchTest):
         self.assertEqual([mark.clause for mark in marks_of(race, played)], ["the listing law"])
 
 
-@unittest.skipUnless(BUILT, "maildir_trace and maildir_cli are not built")
+@unittest.skipUnless(BUILT, "deolmutt and maildir_cli are not built")
 class Pages(ScratchTest):
     """What the tool makes of scripts, by the programs."""
 
@@ -165,7 +297,7 @@ class Pages(ScratchTest):
         done = self.races(self.script(text), "-o", out, *words)
         self.assertEqual(done.returncode, 0, done.stderr)
         page = out.read_text(encoding="utf-8")
-        return page, json.loads(re.search(r'id="data">(.*?)</script>', page, re.S)[1])[0]
+        return page, json.loads(re.search(r'id="data">(.*?)</script>', page, re.S)[1])[0]["sides"][0]
 
     def all_of(self, text: bytes, most: int) -> tuple[list[Played], bool]:
         """The interleavings of a script, at most so many, and whether there are more."""
@@ -194,7 +326,7 @@ class Pages(ScratchTest):
         self.assertEqual(done.returncode, 0)
         self.assertIn("took 3 interleavings of 6", done.stderr)
         _, shown = self.data(TWO_FLAGS, "--most", "3")
-        self.assertEqual((len(shown["paths"]), shown["all"]), (3, "6"))
+        self.assertEqual((len(shown["orders"]), shown["count"]), (3, "Nothing is lost in 3 of 3 orders that were tried; there are 6."))
 
     def test_what_is_taken_does_not_depend_on_the_processors(self) -> None:
         taken = [[actors_of(one) for one in self.all_of(TWO_FLAGS, 4)[0]] for _ in range(3)]
@@ -223,14 +355,6 @@ class Pages(ScratchTest):
         race = scene.read_scene(self.script(text))
         found, has_more = self.all_of(text, 1)
         self.assertEqual((has_more, count(PROGRAMS, race, found)), (True, (math.comb(18, 9), True)))
-
-    def test_a_script_of_an_examples_name_is_not_the_example(self) -> None:
-        copy = self.folder / "two-flaggers.script"
-        copy.write_bytes(TWO_FLAGS)
-        self.races(copy, "-o", self.folder / "copy.html")
-        self.races(command.EXAMPLES / "two-flaggers.script", "-o", self.folder / "own.html")
-        self.assertIn("No released program was looked at.", (self.folder / "copy.html").read_text(encoding="utf-8").split('id="data">')[0])
-        self.assertIn("<code>tools/scenes mflag-twice</code>", (self.folder / "own.html").read_text(encoding="utf-8"))
 
     def test_a_refused_line_is_named(self) -> None:
         done = self.races(self.script(TWO_FLAGS + b"list j\n"), "-o", self.folder / "out.html")
@@ -265,7 +389,7 @@ class Pages(ScratchTest):
         text = b"folder i\njob deliver i u 99 " + element + b"\njob clean i\nfinish 1 1\nfinish 2 1\n"
         page, shown = self.data(text)
         self.assertEqual(len(re.findall("<script", page)), 2)
-        self.assertIn(element.decode(), shown["actors"][0][1])
+        self.assertEqual(shown["actors"][0], ["A", "delivers u"])
         for named, why in ((b" u ", "bad unique"), (b"folder i", "bad folder")):
             done = self.races(self.script(text.replace(named, named.replace(named.strip().split(b" ")[-1], element))), "-o", self.folder / "no.html")
             self.assertEqual((done.returncode, done.stderr), (1, f"races: {self.folder}/race.script: line {1 + (named == b' u ')}: {why}\n"))
@@ -289,7 +413,7 @@ class Pages(ScratchTest):
         other.write_text(f'#!/bin/sh\n"{CLI}" "$@" | sed "s/^cur u/cur v/"\n', encoding="utf-8")
         other.chmod(0o755)
         with self.assertRaisesRegex(Refused, "not what `maildir_cli play` lists"):
-            play_whole(Programs(TRACE, other), scene.read_scene(self.script(TWO_FLAGS)))
+            play_whole(Programs(DEOLMUTT, other), scene.read_scene(self.script(TWO_FLAGS)))
 
 
 if __name__ == "__main__":

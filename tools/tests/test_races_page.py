@@ -1,4 +1,4 @@
-"""docs/races.html in a browser: all interleavings by keyboard alone, what is shown, and no error, request or scroll."""
+"""docs/races.html in a browser: every order of every scene, by keys, touch and links, and no error, request or scroll."""
 
 from __future__ import annotations
 
@@ -8,8 +8,10 @@ import re
 import subprocess
 import sys
 import tempfile
+import time
 import unittest
 from pathlib import Path
+from typing import Any
 
 sys.path.insert(0, str(Path(__file__).resolve().parent))
 sys.path.insert(0, str(Path(__file__).resolve().parent.parent))
@@ -19,24 +21,44 @@ import browser  # noqa: E402
 TOP = Path(__file__).resolve().parents[2]
 PAGE = TOP / "docs/races.html"
 PICTURES = (TOP / "docs/delivery.svg", TOP / "docs/listing.svg")
-TRACE = Path(os.environ.get("MAILDIR_TRACE", TOP / "crates/maildir_trace/out/maildir_trace"))
+DEOLMUTT = Path(os.environ.get("DEOLMUTT", TOP / "crates/deolmutt/out/deolmutt"))
 CLI = Path(os.environ.get("MAILDIR_CLI", TOP / "crates/maildir_cli/out/maildir_cli"))
 ELEMENT = b"<script>alert(1)</script>"
 HOSTILE = b"# %s\nfolder <b>i\njob deliver <b>i <script>alert(1)<script> 99 %s\njob clean <b>i\nfinish 1 1\nfinish 2 1\n" % (ELEMENT, ELEMENT)
-UP, RIGHT, DOWN, HOME, TAB, ENTER = "\ue013", "\ue014", "\ue015", "\ue011", "\ue004", "\ue007"
+LEFT, UP, RIGHT, DOWN, HOME, END, TAB, SPACE = "\ue012", "\ue013", "\ue014", "\ue015", "\ue011", "\ue010", "\ue004", " "
 PLACES = ("tmp", "new", "cur")
+PHONE, TABLET, DESK = (360, 740), (768, 1024), (1440, 900)
 
-# Keeps what the page shows after each key: where it is, the rows of each directory, and what is said of the step.
-KEEP = """
-window.kept = [];
-document.addEventListener('keydown', () => {
-  const rows = {};
-  for (const list of document.querySelectorAll('#columns .state ul')) {
-    rows[list.getAttribute('aria-label')] = [...list.querySelectorAll('li:not(.empty)')].map(item => item.textContent);
-  }
-  const text = id => document.getElementById(id).textContent;
-  window.kept.push([text('place'), document.getElementById('path').value, rows, text('said')]);
+# Opens an address, and steps to the end by keys; gives what each side shows at the beginning and after each step.
+STEP_THROUGH = """
+const shown = () => [...document.querySelectorAll('.run')].map(run => ({
+  rows: Object.fromEntries([...run.querySelectorAll('.state ul')].map(list =>
+    [list.getAttribute('aria-label'), [...list.children].map(item => item.textContent)])),
+  now: run.querySelector('.now').textContent,
+  notes: run.querySelector('.notes').textContent,
+  ending: run.querySelector('.ending').textContent,
+}));
+const stepsOf = run => [...run.querySelectorAll('.steps li')].map(item => item.textContent);
+const state = () => ({ address: location.hash, place: document.getElementById('place').textContent, sides: shown(),
+  said: document.getElementById('said').textContent, width: document.documentElement.scrollWidth });
+const [address, steps] = arguments;
+return new Promise(done => {
+  const begin = () => {
+    const kept = [state()];
+    for (let step = 0; step < steps; step += 1) {
+      document.body.dispatchEvent(new KeyboardEvent('keydown', { key: 'ArrowRight', bubbles: true }));
+      kept.push(state());
+    }
+    done([kept, [...document.querySelectorAll('.run')].map(stepsOf)]);
+  };
+  if (location.hash === address) begin();
+  else { addEventListener('hashchange', begin, { once: true }); location.hash = address; }
 });
+"""
+# Where the bar is, and where the directories of each side are.
+BOXES = """
+const box = one => { const { top, bottom } = one.getBoundingClientRect(); return [top, bottom]; };
+return { bar: box(document.getElementById('bar')), states: [...document.querySelectorAll('.state')].map(box), high: innerHeight };
 """
 
 
@@ -46,23 +68,22 @@ def data_of(page: Path) -> list[dict]:
     return json.loads(re.search(r'id="data">(.*?)</script>', text, re.S)[1])
 
 
-def rows_of(scene: dict, state: int) -> dict[str, list[str]]:
-    """The rows of a state, as the page shows them."""
+def rows_of(side: dict, state: int) -> dict[str, list[str]]:
+    """The names of a state, as the page shows them."""
     return {
-        f"{folder}/{place}": rows
-        for folder, places in zip(scene["folders"], scene["states"][state])
-        for place, rows in zip(PLACES, places)
+        f"{folder}/{place}/": names
+        for folder, places in zip(side["folders"], side["states"][state])
+        for place, names in zip(PLACES, places)
     }
 
 
-# Chooses a scene by its number.
-CHOOSE = "const choice = document.getElementById('scene'); choice.value = arguments[0]; choice.dispatchEvent(new Event('change'));"
+def text_of(side: dict, step: list) -> str:
+    """The sentence of a step."""
+    return f"{side['actors'][step[0]][0]} {''.join(step[1])}"
 
 
-@unittest.skipUnless(browser.is_there(), f"{browser.PACKAGES} are not there")
-@unittest.skipUnless(PAGE.exists(), "docs/races.html is not there")
-class Page(unittest.TestCase):
-    """The page as readers have it, in Chromium."""
+class BrowserTest(unittest.TestCase):
+    """A test with the page in Chromium."""
 
     @classmethod
     def setUpClass(cls) -> None:
@@ -71,117 +92,245 @@ class Page(unittest.TestCase):
         cls.scenes = data_of(PAGE)
 
     def setUp(self) -> None:
-        self.browser.size(1200, 900)
-        self.browser.go(PAGE)
+        self.browser.size(*DESK)
+        self.set_motion("no-preference")
+        self.open("")
 
-    def open_scene(self, number: int) -> None:
-        """Opens a scene and goes to its first interleaving, by keys alone: the second stop of the Tab key is the choice of scenes."""
-        self.browser.go(PAGE)
+    def open(self, address: str) -> None:
+        """Opens the page anew at an address in it."""
+        self.browser.post("/url", {"url": "about:blank"})
+        self.browser.post("/url", {"url": PAGE.resolve().as_uri() + address})
+
+    def set_motion(self, wanted: str) -> None:
+        """What the system asks for."""
+        self.browser.command("Emulation.setEmulatedMedia", features=[{"name": "prefers-reduced-motion", "value": wanted}])
+
+    def text(self, of: str) -> str:
+        """The text of an element."""
+        return self.browser.run("return document.querySelector(arguments[0]).textContent", of)
+
+    def address(self) -> str:
+        """The address in the page."""
+        return self.browser.run("return location.hash")
+
+
+@unittest.skipUnless(browser.is_there(), f"{browser.PACKAGES} are not there")
+@unittest.skipUnless(PAGE.exists(), "docs/races.html is not there")
+class Page(BrowserTest):
+    """The page as readers have it."""
+
+    def check_orders(self, scene: dict, orders: list[int], width: int) -> None:
+        """Steps through an order of each side, and compares what is shown at each step with what the page holds."""
+        sides = scene["sides"]
+        order_of = [side["orders"][number] for side, number in zip(sides, orders)]
+        most = max(len(order[4]) for order in order_of)
+        is_paired = len(sides) < 2 or scene["partners"][orders[0]] == orders[1]
+        words = f"#{scene['name']}/{orders[0] + 1}" + ("" if is_paired else f".{orders[1] + 1}")
+        kept, steps = self.browser.run(STEP_THROUGH, f"{words}/0", most)
+        for side, order, shown in zip(sides, order_of, steps):
+            self.assertEqual(shown, [text_of(side, side["steps"][number]) for number in order[4]])
+        for at, state in enumerate(kept):
+            self.assertEqual((state["address"], state["place"]), (f"{words}/{at}", f"{at} / {most}"))
+            self.assertLessEqual(state["width"], width)
+            for side, order, shown in zip(sides, order_of, state["sides"]):
+                self.check_side(side, order, at, shown)
+                self.assertIn(side["who"], state["said"])
+
+    def check_side(self, side: dict, order: list, at: int, shown: dict[str, Any]) -> None:
+        """What a side shows after so many steps."""
+        steps = [side["steps"][number] for number in order[4]]
+        done = min(at, len(steps))
+        step = steps[done - 1] if done else None
+        self.assertEqual(shown["rows"], rows_of(side, step[4] if step else order[3]))
+        self.assertEqual(shown["now"], text_of(side, step) if step else "The beginning: no step was taken.")
+        self.assertEqual(shown["ending"], order[2] if done == len(steps) else "")
+        for note in step[3] if step else ():
+            for part in note[1:]:
+                self.assertIn(part, shown["notes"])
+
+    def test_each_order_of_each_scene(self) -> None:
+        self.set_motion("reduce")
+        for scene in self.scenes:
+            with self.subTest(scene["name"]):
+                last = [len(side["orders"]) - 1 for side in scene["sides"]]
+                for number in range(max(last) + 1):
+                    self.check_orders(scene, [min(number, one) for one in last], DESK[0])
+
+    def test_the_first_and_the_worst_order_at_three_widths(self) -> None:
+        self.set_motion("reduce")
+        for width, height in (PHONE, TABLET, DESK):
+            self.browser.size(width, height)
+            for scene in self.scenes:
+                with self.subTest(f"{scene['name']} at {width}"):
+                    for first in {0, scene["sides"][0]["own"]}:
+                        second = [scene["partners"][first]] if len(scene["sides"]) > 1 else []
+                        self.check_orders(scene, [first, *second], width)
+
+    def test_it_opens_where_the_loss_is_seen(self) -> None:
+        mflag, ours = self.scenes[0]["sides"]
+        self.assertEqual(self.address().split("/")[:2], ["#two-flaggers", str(mflag["own"] + 1)])
+        self.assertEqual(self.text(".ending.lost"), "The flag R is lost. mflag (B) ended with status 0.")
+        self.assertEqual([order[1] for order in mflag["orders"]], ["lost"] * 6)
+        self.assertEqual([order[1] for order in ours["orders"]], ["good"] * 6)
+        self.assertIn("Nothing is lost", self.text(".ending.good"))
+        self.assertEqual(self.browser.run("return document.querySelectorAll('.dot.lost[role]').length"), 6)
+
+    def test_a_link_opens_what_it_says(self) -> None:
+        self.open("#listing-beside-move/1.2/1")
+        self.assertEqual((self.address(), self.text("#place").split()[0]), ("#listing-beside-move/1.2/1", "1"))
+        self.assertTrue(self.browser.run("return document.title").startswith("A listing beside a move: mlist and Deolmutt"))
+        for wrong in ("#none/1/1", "#", "#two-flaggers/x/y", "#%3Cb%3E/-1/-1", "#two-flaggers"):
+            self.open(wrong)
+            self.assertTrue(self.address().startswith("#two-flaggers/2/"), wrong)
+        self.open("#two-flaggers/99/99")
+        self.assertEqual(self.address(), "#two-flaggers/6/5")
+
+    def test_keys(self) -> None:
+        self.open("#two-flaggers/2/0")
+        ways = {"2/2": RIGHT * 2, "2/1": LEFT, "3/1": DOWN, "1/1": UP * 2, "1/5": END, "1/0": HOME}
+        for address, keys in ways.items():
+            self.browser.press(*keys)
+            self.assertEqual(self.address(), f"#two-flaggers/{address}")
+
+    def test_the_dots_are_reached_by_keys(self) -> None:
+        self.open("#two-flaggers/2/3")
         self.browser.press(TAB, TAB)
-        self.assertEqual(self.browser.run("return document.activeElement.id"), "scene")
-        self.browser.press(HOME, *[DOWN] * number)
-        self.assertEqual(self.browser.run("return document.getElementById('scene').value"), str(number))
-        while self.browser.run("return document.activeElement.tagName") != "BUTTON":
+        self.assertIn("order 2, ABAB: lost", self.browser.run("return document.activeElement.ariaLabel"))
+        self.browser.press(RIGHT)
+        self.assertEqual(self.address(), "#two-flaggers/3/3")
+        for _ in range(20):
             self.browser.press(TAB)
-        self.browser.press(*[UP] * len(self.scenes[number]["paths"]))
-        self.browser.run(KEEP)
+            if "nothing lost" in (self.browser.run("return document.activeElement.ariaLabel") or ""):
+                break
+        self.browser.press(RIGHT)
+        self.assertRegex(self.address(), r"#two-flaggers/3\.\d/3")
+        self.assertEqual(self.browser.run("return document.querySelectorAll('[aria-checked=true]').length"), 2)
 
-    def check_path(self, scene: dict, number: int) -> None:
-        """Steps through an interleaving, and compares what is shown at each step."""
-        path = scene["paths"][number]
-        self.browser.press(HOME, *[RIGHT] * len(path))
-        kept = self.browser.run("return window.kept.splice(0)")
-        self.assertEqual(len(kept), len(path) + 1)
-        for at, (place, shown, rows, said) in enumerate(kept):
-            self.assertEqual((place, shown), (f"step {at} of {len(path)}", str(number + 1)))
-            step = scene["steps"][path[at - 1]] if at else None
-            self.assertEqual(rows, rows_of(scene, step[9] if step else scene["first"]))
-            for part in (step[1], step[2], step[4], step[5], step[7], step[8]) if step else ():
-                self.assertIn(part, said)
+    def test_a_scene_is_chosen_by_keys(self) -> None:
+        self.browser.press(TAB)
+        self.assertEqual(self.browser.run("return document.activeElement.id"), "scene")
+        self.browser.press(DOWN)
+        self.assertTrue(self.address().startswith("#tag-beside-rename/"))
 
-    def test_all_interleavings_are_reached_by_keys(self) -> None:
-        for number, scene in enumerate(self.scenes):
-            with self.subTest(scene["title"]):
-                self.open_scene(number)
-                for path in range(len(scene["paths"])):
-                    self.check_path(scene, path)
-                    self.browser.press(DOWN)
-                    self.browser.run("window.kept.splice(0)")
+    def test_a_click_on_a_dot_and_on_a_step(self) -> None:
+        self.browser.run("document.querySelectorAll('.dot[role]')[4].click()")
+        self.assertTrue(self.address().startswith("#two-flaggers/5/"))
+        self.browser.run("document.querySelectorAll('.steps li')[1].click()")
+        self.assertEqual(self.address(), "#two-flaggers/5/2")
+        self.assertEqual(self.browser.run("return document.querySelectorAll('[aria-current=step]').length"), 2)
 
-    def test_an_actor_is_chosen_by_its_button(self) -> None:
-        self.browser.run("document.querySelectorAll('#turns button')[1].focus()")
-        self.browser.press(ENTER)
-        self.assertIn("job 2", self.browser.run("return document.getElementById('said').textContent"))
+    def touch(self, *path: tuple[float, float]) -> None:
+        """A finger that goes this way."""
+        kinds = ["touchStart", *["touchMove"] * (len(path) - 2), "touchEnd"] if len(path) > 1 else ["touchStart", "touchEnd"]
+        for kind, (x, y) in zip(kinds, path if len(path) > 1 else path * 2):
+            points = [] if kind == "touchEnd" else [{"x": x, "y": y}]
+            self.browser.command("Input.dispatchTouchEvent", type=kind, touchPoints=points)
 
-    def test_a_point_of_the_diagram_is_gone_to_by_a_click(self) -> None:
-        before = self.browser.run("return document.getElementById('path').value")
-        self.browser.run("document.querySelector('#lattice circle:not(.on)').dispatchEvent(new MouseEvent('click', { bubbles: true }))")
-        self.assertNotEqual(self.browser.run("return document.getElementById('path').value"), before)
-        self.assertRegex(self.browser.run("return document.getElementById('place').textContent"), "^step [1-9]")
-        self.assertEqual(self.browser.run("return document.querySelectorAll('#lattice circle.here').length"), 1)
+    def test_touch(self) -> None:
+        self.browser.size(*PHONE)
+        self.browser.command("Emulation.setTouchEmulationEnabled", enabled=True)
+        self.addCleanup(self.browser.command, "Emulation.setTouchEmulationEnabled", enabled=False)
+        self.open("#two-flaggers/2/2")
+        self.touch((300, 300), (200, 305), (80, 308), (80, 308))
+        self.assertEqual(self.address(), "#two-flaggers/2/3")
+        self.touch((80, 300), (200, 305), (300, 308), (300, 308))
+        self.assertEqual(self.address(), "#two-flaggers/2/2")
+        corner = "const { left, top } = document.getElementById('forward').getBoundingClientRect(); return [left + 5, top + 5]"
+        x, y = self.browser.run(corner)
+        self.touch((x, y))
+        self.assertEqual(self.address(), "#two-flaggers/2/3")
+
+    def test_on_a_phone_the_directories_are_in_sight(self) -> None:
+        self.browser.size(*PHONE)
+        for name in ("two-flaggers", "listing-beside-move"):
+            self.open(f"#{name}")
+            self.browser.run("document.getElementById('play').click(); document.getElementById('play').click()")
+            for _ in range(3):
+                self.browser.run("document.getElementById('forward').click()")
+            time.sleep(0.8)
+            boxes = self.browser.run(BOXES)
+            self.assertLessEqual(boxes["bar"][1], boxes["high"])
+            for top, bottom in boxes["states"]:
+                self.assertTrue(0 <= top and bottom <= boxes["bar"][0], boxes)
+
+    def test_play_goes_to_the_end(self) -> None:
+        self.browser.run("document.getElementById('play').click()")
+        self.assertEqual(self.text("#place"), "0 / 6")
+        self.assertIn("Pause", self.text("#play"))
+        end = time.monotonic() + 20
+        while self.text("#place") != "6 / 6" and time.monotonic() < end:
+            time.sleep(0.2)
+        self.assertEqual((self.text("#place"), self.text("#play")), ("6 / 6", "▶ Play"))
+
+    def test_pause_stops_it(self) -> None:
+        self.browser.press(SPACE)
+        time.sleep(1.6)
+        self.browser.press(SPACE)
+        place = self.text("#place")
+        self.assertNotEqual(place, "0 / 6")
+        time.sleep(1.6)
+        self.assertEqual(self.text("#place"), place)
+
+    def test_a_name_that_moves_slides_unless_motion_is_off(self) -> None:
+        for setting, wanted in (("no-preference", True), ("reduce", False)):
+            self.set_motion(setting)
+            self.open("#listing-beside-move/3/0")
+            forward = "document.getElementById('forward').click(); return document.getAnimations().length > 0"
+            self.assertEqual(any([self.browser.run(forward) for _ in range(3)]), wanted)
+
+    def test_the_log_that_is_downloaded(self) -> None:
+        self.open("#two-flaggers/2/0")
+        taken = "const made = URL.createObjectURL; let blob; URL.createObjectURL = one => { blob = one; return made.call(URL, one); };"
+        clicked = "document.querySelectorAll('.made button')[arguments[0]].click(); URL.createObjectURL = made; return blob.text();"
+        lines = self.browser.run(taken + clicked, 0).splitlines()
+        self.assertEqual(lines[:3], ["maildir_log 1", "folder box", "file box/cur/u:2,S 1000"])
+        self.assertIn("1000 B rename box/cur/u:2,S box/cur/u:2,RS notfound", lines)
+        self.assertIn("1 B rename i/cur/u:2,FS i/cur/u:2,FRS ok", self.browser.run(taken + clicked, 1).splitlines())
 
     def test_no_error_and_no_request(self) -> None:
         self.browser.log("browser"), self.browser.log("performance")
         self.browser.go(PAGE)
         for _ in range(4):
-            self.browser.press(RIGHT)
+            self.browser.press(LEFT)
         self.assertEqual(self.browser.log("browser"), [])
         sent = [json.loads(entry["message"])["message"] for entry in self.browser.log("performance")]
         asked = [one["params"]["request"]["url"] for one in sent if one["method"] == "Network.requestWillBeSent"]
-        self.assertEqual([url for url in asked if not url.startswith("data:")], [PAGE.resolve().as_uri()])
+        self.assertEqual([url.split("#")[0] for url in asked if not url.startswith("data:")], [PAGE.resolve().as_uri()])
 
-    def test_nothing_is_wider_than_a_phone(self) -> None:
-        for width in (360, 1200):
-            self.browser.size(width, 740)
-            for number in range(len(self.scenes)):
-                self.browser.run(CHOOSE, str(number))
-                self.browser.run("document.getElementById('end').click()")
-                self.assertLessEqual(self.browser.run("return document.documentElement.scrollWidth"), width)
-
-    def test_what_released_programs_do_is_beside_the_scene(self) -> None:
-        for number, scene in enumerate(self.scenes):
-            self.browser.run(CHOOSE, str(number))
-            shown = self.browser.run("return document.getElementById('judged').textContent")
-            judged = scene["judged"]
-            for text in (judged["told"], judged["ran"], *(cell for row in judged["rows"] for cell in row)):
-                self.assertIn(text.replace("`", "").lower(), shown.lower())
-            self.assertEqual("No released program was looked at." in shown, not judged["told"])
-
-    @unittest.skipUnless(os.access(TRACE, os.X_OK) and os.access(CLI, os.X_OK), "maildir_trace and maildir_cli are not built")
+    @unittest.skipUnless(os.access(DEOLMUTT, os.X_OK) and os.access(CLI, os.X_OK), "deolmutt and maildir_cli are not built")
     def test_markup_in_a_script_does_nothing(self) -> None:
         with tempfile.TemporaryDirectory() as folder:
             script, page = Path(folder) / "<i>.script", Path(folder) / "out.html"
             script.write_bytes(HOSTILE)
-            subprocess.run([TOP / "tools/races", "--trace", TRACE, "--cli", CLI, script, "-o", page], capture_output=True, check=True)
+            subprocess.run([TOP / "tools/races", "--deolmutt", DEOLMUTT, "--cli", CLI, script, "-o", page], capture_output=True, check=True)
             self.browser.log("browser")
             self.browser.go(page)
-            for key in (*[RIGHT] * 4, DOWN, HOME):
+            shown = ""
+            for key in (HOME, *[RIGHT] * 4, DOWN, END):
                 self.browser.press(key)
-                self.assertEqual(self.browser.run("return document.querySelectorAll('b, i:not(.dot i), script:not(#data)').length"), 1)
+                self.assertEqual(self.browser.run("return document.querySelectorAll('i:not(.dot), script:not(#data)').length"), 1)
+                shown += self.browser.run("return document.body.innerText")
             self.assertEqual(self.browser.log("browser"), [])
-            shown = self.browser.run("return document.getElementById('stepper').innerText")
-            for text in (ELEMENT.decode(), "<script>alert(1)<script>", "<b>i/tmp", "<i>"):
+            for text in (ELEMENT.decode(), "<script>alert(1)<script>", "<b>i/tmp"):
                 self.assertIn(text, shown)
 
     def test_a_reader_without_scripts_has_tables(self) -> None:
         self.browser.command("Emulation.setScriptExecutionDisabled", value=True)
         try:
-            self.browser.go(PAGE)
+            self.open("")
             shown = self.browser.command("Runtime.evaluate", expression="document.body.innerText")["result"]["value"]
         finally:
             self.browser.command("Emulation.setScriptExecutionDisabled", value=False)
         for scene in self.scenes:
-            self.assertIn(scene["about"], shown)
-            for row in scene["judged"]["rows"]:
-                self.assertIn(row[3].replace("`", ""), shown)
+            for text in (scene["about"], *(text for side in scene["sides"] for text in (side["count"], side["orders"][side["own"]][2]))):
+                self.assertIn(text, shown)
 
     def test_all_that_takes_keys_has_a_name(self) -> None:
         nodes = self.browser.command("Accessibility.getFullAXTree")["nodes"]
-        roles = ("button", "combobox", "spinbutton", "region", "group", "status", "link", "image")
         named = [(node["role"]["value"], node.get("name", {}).get("value")) for node in nodes if not node["ignored"]]
-        lacking = [role for role, name in named if role in roles and role != "status" and not name]
-        self.assertEqual(lacking, [])
-        self.assertTrue({"button", "combobox", "spinbutton", "region", "group", "status", "main", "image"} <= {role for role, _ in named})
+        roles = {"button", "combobox", "radio", "radiogroup", "group", "article", "image", "list", "link"}
+        self.assertEqual([role for role, name in named if role in roles - {"list", "group"} and not name], [])
+        self.assertTrue({"button", "combobox", "radio", "radiogroup", "article", "status", "main", "link"} <= {role for role, _ in named})
 
 
 def luminance(colour: str) -> float:
@@ -205,9 +354,8 @@ def whole(colour: str) -> str:
 class Colours(unittest.TestCase):
     """The colours of the page and of the pictures."""
 
-    GROUNDS = {"text": "ground box effect-box lost-box again-box here-box", "soft": "ground box", "link": "ground"} | {
-        kind: f"ground box {kind}-box here-box" for kind in ("effect", "lost", "again", "here")
-    }
+    GROUNDS = {"text": "ground box good-box lost-box said-box", "soft": "ground box", "link": "ground", "ground": "first second third text"}
+    GROUNDS |= {kind: f"ground box {kind}-box" for kind in ("good", "lost", "said")}
 
     def check_colours(self, scheme: str, least: float, text: str, grounds: str) -> None:
         """The contrast of a colour on those of them that the scheme has."""
@@ -221,7 +369,7 @@ class Colours(unittest.TestCase):
         style = (TOP / "tools/races_lib/page.css").read_text(encoding="utf-8")
         schemes = re.findall(r":root \{(.*?)\}", style, re.S)
         for picture in PICTURES:
-            schemes += re.findall(r"svg\{(--.*?)\}", picture.read_text(encoding="utf-8"))
+            schemes += re.findall(r"svg\{(--.*?)\}", picture.read_text(encoding="utf-8"), re.S)
         self.assertEqual(len(schemes), 6)
         for scheme in schemes:
             for text, grounds in self.GROUNDS.items():
@@ -235,8 +383,12 @@ class Reach(unittest.TestCase):
     def test_the_page_is_below_a_megabyte_and_takes_nothing_from_elsewhere(self) -> None:
         text = PAGE.read_text(encoding="utf-8")
         self.assertLess(len(text.encode()), 1_000_000)
-        self.assertEqual(re.findall(r'(?:src|href)="(?!data:|THEOREM\.md|JUDGED\.md)[^"]*"', text), [])
+        self.assertEqual(re.findall(r'(?:src|href)="(?!data:|THEOREM\.md|JUDGED?\.md)[^"]*"', text), [])
         self.assertNotRegex(text, r"@import|url\(|fetch\(|XMLHttpRequest")
+
+    def test_other_sites_have_a_picture_of_it(self) -> None:
+        self.assertIn('<meta property="og:image" content="races.png">', PAGE.read_text(encoding="utf-8"))
+        self.assertEqual((TOP / "docs/races.png").read_bytes()[:8], b"\x89PNG\r\n\x1a\n")
 
     def test_the_readme_begins_with_it(self) -> None:
         head = (TOP / "README.md").read_text(encoding="utf-8").splitlines()[:15]

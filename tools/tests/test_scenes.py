@@ -10,12 +10,13 @@ from unittest import mock
 
 from judge_support import TOOLS
 
-from judge_lib import outcomes
+from judge_lib import outcomes, results
 from judge_lib.claims import read_claim
-from judge_lib.judge_run import judge, judge_program
+from judge_lib.judge_run import judge, deolmutt
 from judge_lib.refused import Refused
+from judge_lib.results import Results
 from judge_lib.scene import FOLDER, read_scene, read_scenes
-from judge_lib.staging import Found, Outcome
+from judge_lib.staging import Found, Outcome, check_expected
 
 TRACED = """\
 package  p
@@ -38,6 +39,8 @@ needs    o
 explore  q
 beside   t
 user     not root
+status   A: 0
+status   B: 0 1
 """
 
 
@@ -55,12 +58,12 @@ class Scenes(unittest.TestCase):
 
     def test_words(self):
         traced = self.read(TRACED)
-        self.assertEqual((traced.name, traced.runs, traced.setup, traced.status, traced.beside), ("one", "q", ["a", "b"], 1, None))
+        self.assertEqual((traced.name, traced.runs, traced.setup, traced.status, traced.beside), ("one", "q", ["a", "b"], ["1"], None))
         explored = self.read(EXPLORED)
         self.assertEqual((explored.packages(), explored.beside, explored.is_unprivileged), (["p", "o"], "t", True))
 
     def test_wrong_files(self):
-        added = [TRACED + line for line in ("trace    again", "beside   t", "colour   red", "x")]
+        added = [TRACED + line for line in ("trace    again", "beside   t", "colour   red", "x", "stops    never", "status   B: x")]
         for text in ["", *added, EXPLORED.replace("beside", "setup")]:
             with self.assertRaises(Refused, msg=text):
                 self.read(text)
@@ -88,8 +91,9 @@ class Scenes(unittest.TestCase):
 
     def test_repeated(self):
         traced = "tools/trace --actor q --claims 'done box u' --fail unlink:error=EIO -o log sh -c 'q r < s'"
-        self.assertEqual(outcomes.repeated(self.read(TRACED))[1:], ["a", "b", traced, "maildir_judge < log"])
-        self.assertEqual(outcomes.repeated(self.read(EXPLORED))[1:], ["tools/explore --setup '' \\", "  q t"])
+        self.assertEqual(outcomes.repeated(self.read(TRACED))[1:], ["a", "b", traced, "deolmutt judge log"])
+        self.assertEqual(outcomes.repeated(self.read(EXPLORED))[1:], ["tools/explore --setup '' \\",
+                                                                       "  --status 'A: 0' --status 'B: 0 1' --stop-at names q t"])
 
     def test_rows(self):
         found = [Found("Gone", 2, "q unlink box/cur/u|v ok", "it goes")]
@@ -101,17 +105,40 @@ class Scenes(unittest.TestCase):
                 "| `q`, p 3 | does it | `Gone` in 2 of 4 interleavings, it goes: `q unlink box/cur/u\\|v ok` (no claims) | `tools/scenes one` |",
                 "| `q`, p 3 | does it | nothing in 4 interleavings, and there are more (no claims) | `tools/scenes one` |"])
 
+    def test_a_status_that_nobody_expected_fails_a_scene(self):
+        traced, explored = self.read(TRACED), self.read(EXPLORED)
+        check_expected(traced, {"q": 1}, "")
+        check_expected(explored, {"A": 0, "B": 1}, "")
+        for scene, statuses in ((traced, {"q": 0}), (explored, {"A": 1, "B": 0}), (explored, {"A": 0, "B": None})):
+            with self.assertRaisesRegex(Refused, "which the scene doesn't expect: said"):
+                check_expected(scene, statuses, "said")
+
+    def test_a_run_goes_on(self):
+        """What a scene showed is taken again, unless the scene or a package is another since then."""
+        scene, kept = self.read(EXPLORED), Results(str(self.room / "logs"))
+        outcome = Outcome(scene, "3", 4, True, [Found("Gone", 2, "q unlink box/cur/u ok", "it goes")], b"log\n")
+        with mock.patch.object(results, "version_of", return_value="3"):
+            self.assertIsNone(kept.former(scene))
+            kept.keep(outcome)
+            self.assertEqual(kept.former(scene), outcome)
+            self.assertIsNone(kept.former(scene._replace(command="other")))
+        with mock.patch.object(results, "version_of", return_value="4"):
+            self.assertIsNone(kept.former(scene))
+        with mock.patch.object(results, "version_of", return_value=None):
+            self.assertEqual(kept.former(scene), outcome, "its packages had to go for others")
+        self.assertEqual((self.room / "logs/one.log").read_bytes(), b"log\n")
+
     def test_judge(self):
         """The program is one that prints `LINE CLAUSE`, and whose status is 0, 1 or 2."""
         program = self.room / "judge"
-        program.write_text("#!/bin/sh\n[ \"$1\" = --lines ] || exit 9\nread first\n[ \"$first\" = log ] || { echo bad >&2; exit 2; }\necho '3 Gone'\nexit 1\n")
+        program.write_text("#!/bin/sh\n[ \"$*\" = 'judge --lines' ] || exit 9\nread first\n[ \"$first\" = log ] || { echo bad >&2; exit 2; }\necho '3 Gone'\nexit 1\n")
         program.chmod(0o755)
-        with mock.patch.dict(os.environ, {"MAILDIR_JUDGE": str(program)}):
+        with mock.patch.dict(os.environ, {"DEOLMUTT": str(program)}):
             self.assertEqual(judge(b"log\n"), [(3, "Gone")])
             with self.assertRaisesRegex(Refused, "status 2: bad"):
                 judge(b"no log\n")
-        with mock.patch.dict(os.environ, {"MAILDIR_JUDGE": "/nowhere"}), self.assertRaisesRegex(Refused, "/nowhere: is no program"):
-            judge_program()
+        with mock.patch.dict(os.environ, {"DEOLMUTT": "/nowhere"}), self.assertRaisesRegex(Refused, "/nowhere: is no program"):
+            deolmutt()
 
     def test_program(self):
         run = subprocess.run([sys.executable, TOOLS / "scenes", "--list", "mdeliver"], capture_output=True, text=True, check=False)

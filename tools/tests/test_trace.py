@@ -6,10 +6,12 @@ import sys
 import tempfile
 import unittest
 
-from judge_support import BOX, TOOLS, log_of, opened, quoted, recorded, steps_of, trace
+from judge_support import BOX, TOOLS, beginning, log_of, opened, quoted, recorded, steps_of, trace
 
 from judge_lib.claims import read_claim
-from judge_lib.folders import files_of, found_folders, named_folders
+from judge_lib.folders import Folders, check_made, files_of, found_folders, named_folders
+from judge_lib.making import Beginning, Making
+from judge_lib.processes import Actors, Processes
 from judge_lib.refused import Refused
 
 BOX_AT = BOX.directory.decode()
@@ -39,7 +41,7 @@ class Recorded(unittest.TestCase):
 
     def test_programs_are_actors(self):
         """A rename that must not replace is said by the call that gives its reply."""
-        log = log_of(recorded("mv"), [("cur", b"u:2,S"), ("new", b"w")], by_program=True)
+        log = log_of(recorded("mv"), [("cur", b"u:2,S"), ("new", b"w")], actors=Actors("program", "a"))
         self.assertEqual(steps_of(log), ["mv.1 link box/new/w box/cur/u:2,S exists", "mv.2 rename box/new/w box/cur/w:2, ok"])
         self.assertEqual(log.statuses, {"mv.1": 0, "mv.2": 0, "sh.1": 3})
 
@@ -120,6 +122,7 @@ class WhatAStatusClaims(unittest.TestCase):
         self.assertEqual(self.answers("flags box u +F", 0, gained), ["a answer flags FS box u"])
         self.assertEqual(self.answers("flags box u -S", 0, gained), ["a answer flags F box u"])
         self.assertEqual(self.answers("flags box u =", 0, gained), ["a answer flags - box u"])
+        self.assertEqual(self.answers("flags box u +R", 0), ["a answer flags RS box u"], "it made no call")
         lost = f"1 {rename('box/cur/u:2,FS', 'box/cur/u:2,S')}) = 0"
         self.assertEqual(self.answers("flags box u +F", 0, gained, lost), ["a answer flags FS box u"])
 
@@ -147,6 +150,92 @@ class WhatAStatusClaims(unittest.TestCase):
                 read_claim(text)
 
 
+class WhoIsAnActor(unittest.TestCase):
+    """A shell has a child made a file by its redirection, write to it, and another one name it."""
+
+    MADE = f"openat(AT_FDCWD, {quoted('box/tmp/v')}, O_WRONLY|O_CREAT, 0600) = {opened(1, BOX_AT + '/tmp/v')}"
+    SHELL = trace(f"1 execve({quoted('/bin/sh')}, [], []) = 0", "1 clone(child_stack=NULL, flags=SIGCHLD <unfinished ...>", f"2 {MADE}",
+                  "1 <... clone resumed>) = 2", f"2 execve({quoted('/bin/cat')}, [], []) = 0", f"2 write({opened(1, BOX_AT + '/tmp/v')}, \"\"..., 5) = 5",
+                  "2 +++ exited with 0 +++", "1 vfork() = 3", f"3 execve({quoted('/bin/ln')}, [], []) = 0",
+                  f"3 link({quoted('box/tmp/v')}, {quoted('box/new/v')}) = 0", "3 +++ exited with 0 +++", "1 +++ exited with 0 +++")
+    NAMES = "box/tmp/v", "box/tmp/v", "box/tmp/v box/new/v"
+
+    def actors(self, actors, *claims):
+        return [line.split(" ")[0] for line in steps_of(log_of(self.SHELL, claims=claims, actors=actors)) if " answer " not in line]
+
+    def test_who_opened_a_file_writes_to_it(self):
+        self.assertEqual(self.actors(Actors("program", "sh")), ["sh.1", "sh.1", "ln.1"])
+
+    def test_who_claims_speaks_for_all_that_it_starts(self):
+        speaking = Actors("program", "sh", speaking=frozenset(["sh.1"]))
+        self.assertEqual(self.actors(speaking, "sh.1: delivered box"), ["sh.1"] * 3)
+        self.assertEqual(steps_of(log_of(self.SHELL, claims=["sh.1: delivered box"], actors=speaking))[-1], "sh.1 answer delivered box v")
+
+    def test_children_forks_and_the_whole(self):
+        self.assertEqual(self.actors(Actors("one", "sh")), ["sh"] * 3)
+        self.assertEqual(self.actors(Actors("child", "sh")), ["sh.1", "sh.1", "sh.2"])
+        self.assertEqual(self.actors(Actors("child", "sh", ("in", "out"))), ["in", "in", "out"])
+        self.assertEqual(self.actors(Actors("fork", "sh")), ["sh.2", "sh.2", "sh.3"])
+
+    def test_threads(self):
+        lines = trace("1 clone3({flags=CLONE_VM|CLONE_FILES|CLONE_THREAD}, 88) = 2", f"2 unlink({quoted('box/cur/u')}) = 0",
+                      f"1 unlink({quoted('box/cur/v')}) = 0")
+        files = [("cur", b"u"), ("cur", b"v")]
+        for how, wanted in (("fork", ["a.1", "a.1"]), ("thread", ["a.2", "a.1"])):
+            self.assertEqual([line.split(" ")[0] for line in steps_of(log_of(lines, files, actors=Actors(how, "a")))], wanted)
+
+    def test_a_number_that_another_process_gets(self):
+        lines = trace("1 clone(flags=SIGCHLD) = 2", f"2 chdir({quoted('/srv/mail/box/cur')}) = 0", "2 +++ exited with 0 +++", "1 clone(flags=SIGCHLD) = 2",
+                      f"2 unlink({quoted('box/cur/u')}) = 0")
+        self.assertEqual(steps_of(log_of(lines, [("cur", b"u")])), ["a unlink box/cur/u ok"])
+
+    def test_claims_of_nobody(self):
+        making = Making(beginning([]), Processes(Actors("one", "a"), b"/srv/mail"), {"b": [read_claim("b: done box u")]}, [])
+        for _ in making.feed(trace("1 +++ exited with 0 +++")):
+            pass
+        self.assertIn(b"# nobody is b, of whom something is claimed", making.log().head)
+
+
+class WholeOrNot(unittest.TestCase):
+    def test_a_maildir_that_the_command_makes(self):
+        """What comes before its directories is left out; what is done in one shows that it is there."""
+        box = BOX._replace(is_to_be_made=True)
+        start = Beginning(Folders([box], os.path.normpath), [])
+        made = f"openat(AT_FDCWD, {quoted('box/tmp/v')}, O_WRONLY|O_CREAT, 0600)"
+        log = log_of(trace(f"1 {made} = -1 ENOENT (No such file or directory)", f"1 mkdir({quoted('box/tmp')}, 0700) = 0",
+                           f"1 {made} = {opened(3, BOX_AT + '/tmp/v')}", f"1 {rename('box/tmp/v', 'box/new/v')}) = -1 ENOENT (No such)",
+                           f"1 {rename('box/tmp/v', 'box/new/v')}) = 0"), start=start)
+        self.assertEqual(steps_of(log), ["a create box/tmp/v ok", "a rename box/tmp/v box/new/v ok"])
+
+    def test_a_trace_cut_in_the_middle(self):
+        whole = recorded("mdeliver")
+        for size in range(0, sum(map(len, whole)), 97):
+            cut = "".join(whole)[:size].splitlines(keepends=True)
+            self.assertNotIn("answer", " ".join(steps_of(log_of(cut, claims=["delivered box"]))[:-1]), size)
+
+    def test_a_clone_of_bytes_is_a_write(self):
+        place = opened(3, BOX_AT + "/tmp/v")
+        made = f"1 openat(AT_FDCWD, {quoted('box/tmp/v')}, O_WRONLY|O_CREAT, 0600) = {place}"
+        log = log_of(trace(made, f"1 ioctl({place}, BTRFS_IOC_CLONE or FICLONE, {opened(4, '/x')}) = -1 EOPNOTSUPP (Operation not supported)",
+                           f"1 ioctl({place}, BTRFS_IOC_CLONE or FICLONE, {opened(4, '/x')}) = 0", f"1 ioctl({place}, TCGETS, 0x7) = 0",
+                           f"1 copy_file_range({opened(4, '/x')}, NULL, {place}, NULL, 5, 0) = 5"))
+        self.assertEqual(steps_of(log)[1:], ["a write box/tmp/v ok"] * 2)
+
+    def test_nothing_is_kept_of_calls_that_are_over(self):
+        def made(many):
+            lines = []
+            making = Making(beginning([]), Processes(Actors("one", "a"), b"/srv/mail"), {}, [], lines.append)
+            for number in range(many):
+                path = f"box/tmp/{number}"
+                for _ in making.feed(trace(f"1 openat(AT_FDCWD, {quoted(path)}, O_WRONLY|O_CREAT, 0600) = {opened(3, '/srv/mail/' + path)}",
+                                           f"1 close({opened(3, '/srv/mail/' + path)}) = 0", f"1 unlink({quoted(path)}) = 0")):
+                    pass
+            self.assertEqual(len(lines), 2 * many)
+            kept = [making._directories, making._taking, making._processes, making._resolver, making._claims]
+            return sum(len(value) for each in kept for value in vars(each).values() if hasattr(value, "__len__"))
+        self.assertEqual(made(200), made(2000))
+
+
 class Tree(unittest.TestCase):
     """What is there at the beginning, and how the program ends."""
 
@@ -169,11 +258,14 @@ class Tree(unittest.TestCase):
 
     def test_folders(self):
         self.assertEqual([folder.name for folder in named_folders([b"box", b"far=deep/box"], self.base)], [b"box", b"far"])
-        for words in [[b"none"], [b"box", b"deep/box"]]:
+        self.assertTrue(named_folders([b"none"], self.base)[0].is_to_be_made)
+        for words in [[b"deep"], [b"box", b"deep/box"]]:
             with self.assertRaises(Refused):
                 named_folders(words, self.base)
         with self.assertRaises(Refused):
             found_folders(self.base)
+        with self.assertRaisesRegex(Refused, "none: is no maildir, and the command made none there"):
+            check_made(named_folders([b"none"], self.base))
         self.assertEqual([folder.name for folder in found_folders(os.path.join(self.base, b"deep"))], [b"box"])
 
     def run_tool(self, *words, path=os.environ["PATH"]):

@@ -4,8 +4,8 @@ pub mod Changes
 pub mod Keys
 pub mod Escapes
 pub mod Mailbox
-pub mod Complaints
 pub mod Lines
 pub mod Rows
 pub mod Drafts
 pub mod Folders
+pub mod Notes

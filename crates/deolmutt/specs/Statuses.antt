@@ -1,13 +1,14 @@
 -- The statuses that the program ends with.
 use Rattle.std.specs.Prelude.{ℕ}
 use Rattle.deolmutt.specs.declared.status.Status.{Status}
-use Rattle.deolmutt.specs.declared.status.Status.TheVariants.{Done, Refused, Usage, DataError, NoInput}
+use Rattle.deolmutt.specs.declared.status.Status.TheVariants.{Done, Refused, Unjudged, Usage, DataError, NoInput}
 use Rattle.deolmutt.specs.declared.status.Status.TheVariants.{CannotCreate, InputOutput, TryAgain, NoPermission}
 
--- the numbers of sysexits.h, and 1 for scripts
+-- the numbers of sysexits.h, and those of scripts and of logs below them
 abbrev pub number_of : Status → ℕ
 number_of Done = 0
 number_of Refused = 1
+number_of Unjudged = 2
 number_of Usage = 64
 number_of DataError = 65
 number_of NoInput = 66

@@ -10,10 +10,10 @@ use Rattle.deolmutt.specs.declared.status.Status.{Status}
 use Rattle.deolmutt.specs.declared.status.Status.TheVariants.{Done, Usage, DataError, NoInput}
 use Rattle.deolmutt.specs.declared.status.Status.TheVariants.{CannotCreate, InputOutput, TryAgain, NoPermission}
 use Rattle.deolmutt.specs.declared.trouble.Trouble.{Trouble}
-use Rattle.deolmutt.specs.declared.trouble.Trouble.TheVariants.{Unflushed, BadKey, BadChange, BadFolder, SameMaildir, NotThere}
+use Rattle.deolmutt.specs.declared.trouble.Trouble.TheVariants.{Unflushed, BadKey, BadChange, BadFolder, BadClause, SameMaildir, NotThere}
 use Rattle.deolmutt.specs.declared.trouble.Trouble.TheVariants.{NotTrashed, OtherInfo, TooLong, NotText, NotAFile, NoMailbox}
-use Rattle.deolmutt.specs.declared.trouble.Trouble.TheVariants.{Flawed, NoMaildir, NoDirectory, NameTaken, CannotMake, Unread, Unwritten}
-use Rattle.deolmutt.specs.declared.trouble.Trouble.TheVariants.{Lost, TimedOut, TmpGone, Fault, NoName, NoMemory}
+use Rattle.deolmutt.specs.declared.trouble.Trouble.TheVariants.{Flawed, NoMaildir, NoDirectory, NoLog, NameTaken, CannotMake}
+use Rattle.deolmutt.specs.declared.trouble.Trouble.TheVariants.{Unread, Unwritten, Lost, TimedOut, TmpGone, Fault, NoName, NoMemory}
 use Rattle.deolmutt.specs.declared.trouble.Trouble.TheVariants.{NoRights}
 
 -- the status of a command that ends so
@@ -22,6 +22,7 @@ status_of Unflushed = Done
 status_of BadKey = Usage
 status_of BadChange = Usage
 status_of BadFolder = Usage
+status_of BadClause = Usage
 status_of SameMaildir = Usage
 status_of NotThere = DataError
 status_of NotTrashed = DataError
@@ -33,6 +34,7 @@ status_of NoMailbox = DataError
 status_of Flawed = DataError
 status_of NoMaildir = NoInput
 status_of NoDirectory = NoInput
+status_of NoLog = NoInput
 status_of NameTaken = CannotCreate
 status_of CannotMake = CannotCreate
 status_of Unread = InputOutput
@@ -51,6 +53,7 @@ text_of Unflushed = codes "delivered, but the directory could not be flushed"
 text_of BadKey = codes "not the name of a message, nor its path in this maildir"
 text_of BadChange = codes "not a change of flags, as +FS-T"
 text_of BadFolder = codes "not the name of a folder"
+text_of BadClause = codes "not the name of a clause that may be allowed"
 text_of SameMaildir = codes "the message is there already"
 text_of NotThere = codes "no such message"
 text_of NotTrashed = codes "the message has not the flag T"
@@ -62,6 +65,7 @@ text_of NoMailbox = codes "no line 'From ' begins the first message"
 text_of Flawed = codes "the maildir has flaws"
 text_of NoMaildir = codes "no such maildir"
 text_of NoDirectory = codes "no such directory"
+text_of NoLog = codes "it can't be opened"
 text_of NameTaken = codes "the name is taken"
 text_of CannotMake = codes "it can't be made"
 text_of Unread = codes "reading failed"

@@ -1,9 +1,11 @@
 //! Errands on the messages that words name.
+//!
+//! What a hint allows is done at once. All else waits, until one reading of the maildir serves many.
 use crate::boxes::maildirs;
 use crate::delivering::fresh;
 use crate::escape::unescaped;
 use crate::failure::Failure;
-use crate::key::{Key, parse_key};
+use crate::key::parse_key;
 use crate::lines::{Line, Lines};
 use crate::order::Act;
 use crate::progress::Progress;
@@ -11,8 +13,9 @@ use crate::session::{Host, Session};
 use crate::status::Status;
 use crate::trouble::{Trouble, trouble_of};
 use md_disk::{Disk, Namer, run_errand};
-use md_jobs::{DirReply, Purpose};
+use md_jobs::{Answer, Purpose};
 use md_name::{Bytes, Flags};
+use std::mem::replace;
 
 /// How often a message is looked for whose name is gone by the time of the act.
 pub(crate) const TRIES: u64 = 16;
@@ -20,8 +23,11 @@ pub(crate) const TRIES: u64 = 16;
 // How many fresh names a copy tries where each is taken.
 const NAMES: u32 = 16;
 
-// From so many keys on the maildir is read once for all of them.
-const MANY: usize = 4;
+// So many errands that wait read the maildir each for itself, and more of them once for all.
+const FEW: usize = 3;
+
+// So many errands wait at most.
+const MOST_WAITING: usize = 4_096;
 
 // The most bytes of a line that has a key.
 const MOST_KEY: usize = 65_536;
@@ -38,20 +44,10 @@ pub(crate) fn acted<R: Host>(
     keys: &[&str],
 ) -> Result<Status, Failure> {
     let mut acting = Acting::new(session, maildir, act, to)?;
-    if keys.len() >= MANY || keys.contains(&FROM_INPUT) {
-        acting.read_ahead(session)?;
-    }
-    let mut worst = Status::Done;
-    for word in keys {
-        let status = if *word == FROM_INPUT {
-            acting.run_lines(session)?
-        } else {
-            acting.run(session, word.as_bytes())
-        };
-        worst = worst.worse(status);
-    }
+    let taken = acting.take_words(session, keys);
+    let done = acting.run_waiting(session);
     acting.progress.end(session);
-    Ok(worst)
+    Ok(taken?.worse(done))
 }
 
 // What is done with messages of a maildir.
@@ -62,8 +58,8 @@ struct Acting<'r, R: Host> {
     act: Act,
     // Of copies alone.
     namer: Option<Namer>,
-    // Whether the maildir was read for all messages.
-    has_read: bool,
+    // The words whose messages are to be looked for.
+    waiting: Vec<Bytes>,
     progress: Progress,
 }
 
@@ -87,38 +83,34 @@ impl<'r, R: Host> Acting<'r, R> {
             maildir: String::from_str(session.alloc, maildir)?,
             act,
             namer,
-            has_read: false,
+            waiting: Vec::new(session.alloc),
             progress: Progress::new(session),
         })
     }
 
-    // Reads the maildir for all messages. Where that can't be done, each errand reads it.
-    fn read_ahead(&mut self, session: &Session<'_, R>) -> Result<(), Failure> {
-        let reply = self.disk.read_ahead(session.alloc, 0)?;
-        self.has_read = reply == DirReply::Ok;
-        Ok(())
-    }
-
-    // Where a path says that the message is, it is looked for first.
-    fn hint(&mut self, session: &Session<'_, R>, key: &Key<'_>) -> Result<(), Failure> {
-        match key.place {
-            Some(place) if !self.has_read => {
-                let name = Bytes::copied(session.alloc, key.name)?;
-                Ok(self.disk.hint(session.alloc, 0, place, name)?)
-            }
-            _ => Ok(()),
+    // The messages that words name.
+    fn take_words(&mut self, session: &Session<'_, R>, words: &[&str]) -> Result<Status, Failure> {
+        let mut worst = Status::Done;
+        for word in words {
+            let status = if *word == FROM_INPUT {
+                self.take_lines(session)?
+            } else {
+                self.take(session, word.as_bytes())
+            };
+            worst = worst.worse(status);
         }
+        Ok(worst)
     }
 
     // The messages that the lines of standard input name.
-    fn run_lines(&mut self, session: &Session<'_, R>) -> Result<Status, Failure> {
+    fn take_lines(&mut self, session: &Session<'_, R>) -> Result<Status, Failure> {
         let mut lines = Lines::new(session.alloc, session.host.reader())?;
         let mut line = Vec::new(session.alloc);
         let mut worst = Status::Done;
         for _ in 0..u64::MAX {
             let status = match lines.next(&mut line, MOST_KEY) {
                 Ok(Line::End) => break,
-                Ok(Line::Whole) => self.run_line(session, line.as_slice())?,
+                Ok(Line::Whole) => self.take_line(session, line.as_slice())?,
                 Ok(Line::TooLong) => session.tell(b"-", &Failure::from(Trouble::BadKey)),
                 Err(error) => return Err(Failure::of(session.alloc, Trouble::Unread, &error)),
             };
@@ -128,12 +120,60 @@ impl<'r, R: Host> Acting<'r, R> {
     }
 
     // The message that a line names.
-    fn run_line(&mut self, session: &Session<'_, R>, line: &[u8]) -> Result<Status, Failure> {
+    fn take_line(&mut self, session: &Session<'_, R>, line: &[u8]) -> Result<Status, Failure> {
         let column = line.strip_suffix(b"\n").unwrap_or(line);
         match unescaped(session.alloc, column)? {
-            Some(word) => Ok(self.run(session, word.as_slice())),
+            Some(word) => Ok(self.take(session, word.as_slice())),
             None => Ok(session.tell(column, &Failure::from(Trouble::BadKey))),
         }
+    }
+
+    // The message that a word names. What is not done by a hint waits.
+    fn take(&mut self, session: &Session<'_, R>, word: &[u8]) -> Status {
+        if matches!(self.try_hint(session, word), Ok(true)) {
+            self.progress.step(session);
+            return Status::Done;
+        }
+        if let Err(failure) = self.push_waiting(session, word) {
+            return session.tell(word, &failure);
+        }
+        if self.waiting.len() < MOST_WAITING {
+            return Status::Done;
+        }
+        self.run_waiting(session)
+    }
+
+    // Does what a word asks for, if a hint is right, and no directory is to be read. Its path is a hint, and so are names that were read.
+    fn try_hint(&mut self, session: &Session<'_, R>, word: &[u8]) -> Result<bool, Failure> {
+        let Some(key) = parse_key(self.maildir.as_bytes(), word) else {
+            return Ok(false);
+        };
+        if let Some(place) = key.place {
+            let name = Bytes::copied(session.alloc, key.name)?;
+            self.disk.hint(0, place, name);
+        }
+        self.disk.only_hints(true);
+        let answer = self.answer(session, key.unique, 1);
+        self.disk.only_hints(false);
+        Ok(trouble_of(answer?).is_none())
+    }
+
+    fn push_waiting(&mut self, session: &Session<'_, R>, word: &[u8]) -> Result<(), Failure> {
+        Ok(self.waiting.push(Bytes::copied(session.alloc, word)?)?)
+    }
+
+    // The messages of all words that wait. Where the maildir can't be read for all, each errand reads it.
+    fn run_waiting(&mut self, session: &Session<'_, R>) -> Status {
+        let words = replace(&mut self.waiting, Vec::new(session.alloc));
+        if words.len() > FEW {
+            let _read = self.disk.read_ahead(session.alloc, 0);
+        }
+        let mut worst = Status::Done;
+        for word in &words {
+            worst = worst.worse(self.run(session, word.as_slice()));
+        }
+        self.disk.outdate();
+        worst
     }
 
     // The message that a word names.
@@ -150,12 +190,8 @@ impl<'r, R: Host> Acting<'r, R> {
         let Some(key) = parse_key(self.maildir.as_bytes(), word) else {
             return Err(Failure::from(Trouble::BadKey));
         };
-        self.hint(session, &key)?;
         for _ in 0..NAMES {
-            let purpose = self.purpose(session)?;
-            let unique = Bytes::copied(session.alloc, key.unique)?;
-            let answer = run_errand(session.alloc, &mut self.disk, 0, unique, purpose, TRIES)?;
-            match trouble_of(answer) {
+            match trouble_of(self.answer(session, key.unique, TRIES)?) {
                 None => return Ok(()),
                 Some(Trouble::NameTaken) if self.namer.is_some() => {}
                 Some(trouble) => {
@@ -164,6 +200,18 @@ impl<'r, R: Host> Acting<'r, R> {
             }
         }
         Err(Failure::from(Trouble::NameTaken))
+    }
+
+    // What an errand on a message is answered.
+    fn answer(
+        &mut self,
+        session: &Session<'_, R>,
+        unique: &[u8],
+        tries: u64,
+    ) -> Result<Answer, Failure> {
+        let purpose = self.purpose(session)?;
+        let unique = Bytes::copied(session.alloc, unique)?;
+        Ok(run_errand(session.alloc, &mut self.disk, 0, unique, purpose, tries)?)
     }
 
     // What an errand is for. A copy's has a fresh name.

@@ -1,5 +1,5 @@
 //! Messages that are delivered.
-use crate::boxes::maildirs;
+use crate::boxes::{must_be_maildir, target};
 use crate::escape::push_escaped;
 use crate::failure::Failure;
 use crate::files::{message_of, names_of, path_in};
@@ -34,7 +34,8 @@ pub(crate) fn delivered<R: Host>(
         None => String::from_str(session.alloc, maildir)?,
     };
     let mut sending = Sending {
-        disk: maildirs(session, &[folder.as_str()], how.flushes)?,
+        disk: target(session, folder.as_str(), how.flushes)?,
+        folder,
         namer: session.namer()?,
         prints: how.prints,
         progress: Progress::new(session),
@@ -46,7 +47,10 @@ pub(crate) fn delivered<R: Host>(
     };
     sending.progress.end(session);
     if sending.disk.is_unflushed() {
-        session.tell(folder.as_bytes(), &Failure::from(Trouble::Unflushed));
+        session.tell(
+            sending.folder.as_bytes(),
+            &Failure::from(Trouble::Unflushed),
+        );
     }
     Ok(status)
 }
@@ -60,6 +64,8 @@ fn input<R: Host>(session: &Session<'_, R>) -> Result<Lines<R::Reader>, Failure>
 #[derive(Drop)]
 struct Sending<'r, R: Host> {
     disk: Disk<'r, R>,
+    // The path of the maildir.
+    folder: String,
     namer: Namer,
     prints: bool,
     progress: Progress,
@@ -77,10 +83,18 @@ impl<'r, R: Host> Sending<'r, R> {
             match trouble_of(answer) {
                 None => return self.sent(session, name.as_slice()),
                 Some(Trouble::NameTaken) => {}
-                Some(trouble) => return Err(Failure::caused(alloc, trouble, self.disk.cause())),
+                Some(trouble) => return Err(self.failure(session, trouble)),
             }
         }
         Err(Failure::from(Trouble::NameTaken))
+    }
+
+    // Why a message was not delivered: where the maildir lacks a directory, that.
+    fn failure(&self, session: &Session<'_, R>, trouble: Trouble) -> Failure {
+        match must_be_maildir(session, self.folder.as_str()) {
+            Ok(()) => Failure::caused(session.alloc, trouble, self.disk.cause()),
+            Err(failure) => failure,
+        }
     }
 
     // A message was delivered under this name.

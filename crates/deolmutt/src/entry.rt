@@ -2,20 +2,19 @@
 use crate::acting::acted;
 use crate::boxes::{maildirs, make};
 use crate::checking::checked;
-use crate::complaint::complaint;
 use crate::delivering::delivered;
 use crate::failure::Failure;
-use crate::options::options;
+use crate::judge::judged;
+use crate::options::{PROGRAM, options};
 use crate::order::{Mistake, Order, Work, read_order};
 use crate::output::print;
-use crate::scripts::scripted;
+use crate::scripts::{logged, scripted};
 use crate::session::{Host, Session};
 use crate::showing::{listed, read};
 use crate::status::Status;
 use crate::trouble::{Trouble, trouble_of};
-use crate::usage::{Advice, explained};
 use md_disk::clean;
-use md_runs::run_named;
+use md_runs::{Advice, complaint, explained, run_named};
 use std::random::RandomSource;
 use std::sync::Wait;
 use std::thread::Threads;
@@ -33,51 +32,63 @@ pub(crate) fn program<R: Host + Threads + Wait + Sync + RandomSource>(
 }
 
 // What is done for words that name no run.
-fn without_run<R: Host>(session: &Session<'_, R>, words: &[&str]) -> Status {
+fn without_run<R: Host + RandomSource>(session: &Session<'_, R>, words: &[&str]) -> Status {
     let parsed = match options(session.alloc) {
         Ok(options) => options.try_get_matches_from(words),
-        Err(_) => return session.tell(b"words", &Failure::from(Trouble::NoMemory)),
+        Err(_) => return no_memory(session),
     };
     match parsed {
         Ok(matches) => match read_order(session.alloc, &matches) {
             Ok(order) => perform(session, order),
-            Err(Mistake::Wrong { word, trouble }) => {
-                session.tell(word.as_bytes(), &Failure::from(trouble))
-            }
-            Err(Mistake::Unexpected) => unexpected(session),
-            Err(Mistake::NoMemory) => session.tell(b"words", &Failure::from(Trouble::NoMemory)),
+            Err(mistake) => mistaken(session, mistake),
         },
-        Err(error) => match explained(session.alloc, &error) {
-            Ok(Advice::Shown(text)) => match print(session, text.as_bytes()) {
-                Ok(()) => Status::Done,
-                Err(failure) => session.tell(b"standard output", &failure),
-            },
-            Ok(Advice::Refused(line)) => {
-                session.say(line.as_slice());
-                Status::Usage
-            }
-            Err(_) => session.tell(b"words", &Failure::from(Trouble::NoMemory)),
+        Err(error) => match explained(session.alloc, PROGRAM, &error) {
+            Ok(advice) => advised(session, &advice),
+            Err(_) => no_memory(session),
         },
     }
 }
 
 // The options allow a `--` behind the words of a run.
-fn unexpected<R: Host>(session: &Session<'_, R>) -> Status {
-    match complaint(session.alloc, "a word is unexpected", "") {
-        Ok(line) => {
-            session.say(line.as_slice());
-            Status::Usage
+fn mistaken<R: Host>(session: &Session<'_, R>, mistake: Mistake<'_>) -> Status {
+    match mistake {
+        Mistake::Wrong { word, trouble } => session.tell(word.as_bytes(), &Failure::from(trouble)),
+        Mistake::Unexpected => {
+            match complaint(session.alloc, PROGRAM, "a word is unexpected", "") {
+                Ok(line) => advised(session, &Advice::Refused(line)),
+                Err(_) => no_memory(session),
+            }
         }
-        Err(_) => session.tell(b"words", &Failure::from(Trouble::NoMemory)),
+        Mistake::NoMemory => no_memory(session),
     }
 }
 
+fn advised<R: Host>(session: &Session<'_, R>, advice: &Advice) -> Status {
+    match advice {
+        Advice::Shown(text) => match print(session, text.as_bytes()) {
+            Ok(()) => Status::Done,
+            Err(failure) => session.tell(b"standard output", &failure),
+        },
+        Advice::Refused(line) => {
+            session.say(line.as_slice());
+            Status::Usage
+        }
+    }
+}
+
+fn no_memory<R: Host>(session: &Session<'_, R>) -> Status {
+    session.tell(b"words", &Failure::from(Trouble::NoMemory))
+}
+
 // Does what is asked for.
-fn perform<R: Host>(session: &Session<'_, R>, order: Order<'_>) -> Status {
-    let Order { maildir, work } = order;
-    match perform_work(session, maildir, work) {
-        Ok(status) => status,
-        Err(failure) => session.tell(maildir.as_bytes(), &failure),
+fn perform<R: Host + RandomSource>(session: &Session<'_, R>, order: Order<'_>) -> Status {
+    match order {
+        Order::Mail { maildir, work } => match perform_work(session, maildir, work) {
+            Ok(status) => status,
+            Err(failure) => session.tell(maildir.as_bytes(), &failure),
+        },
+        Order::Judge(how) => judged(session, &how),
+        Order::Log { with_states } => logged(session, with_states),
     }
 }
 

@@ -14,8 +14,8 @@ pub(crate) fn push_escaped(text: &mut Vec<u8>, bytes: &[u8]) -> Result<(), Alloc
     push_bytes(text, bytes, is_text(bytes))
 }
 
-// Whether bytes are UTF-8.
-fn is_text(bytes: &[u8]) -> bool
+/// Whether bytes are UTF-8.
+pub(crate) fn is_text(bytes: &[u8]) -> bool
     ensures { result ≡ is_text bytes.now }
 {
     match std::str::from_utf8(bytes) {
@@ -81,8 +81,8 @@ fn push_json_byte(text: &mut Vec<u8>, byte: u8, are_text: bool) -> Result<(), Al
     }
 }
 
-// Appends a mark, and a byte by its two digits.
-fn push_hex(text: &mut Vec<u8>, mark: &[u8], byte: u8) -> Result<(), AllocError>
+/// Appends a mark, and a byte by its two digits.
+pub(crate) fn push_hex(text: &mut Vec<u8>, mark: &[u8], byte: u8) -> Result<(), AllocError>
     ensures { OnOk result (text.new.items ≡ text.old.items ++ (mark.now ++ hex byte)) }
 {
     text.extend_from_slice(mark)?;

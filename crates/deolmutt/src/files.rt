@@ -81,7 +81,12 @@ pub(crate) fn opened<R: Host>(session: &Session<'_, R>, path: &str) -> io::Resul
     if !session.host.symlink_metadata(path)?.is_file() {
         return Ok(None);
     }
+    Ok(Some(open_to_read(session, path)?))
+}
+
+/// Any file, to be read.
+pub(crate) fn open_to_read<R: Host>(session: &Session<'_, R>, path: &str) -> io::Result<R::File> {
     let mut how = OpenOptions::new();
     how.read(true);
-    Ok(Some(session.host.open_file(&how, path)?))
+    session.host.open_file(&how, path)
 }

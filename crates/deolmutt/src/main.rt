@@ -1,5 +1,6 @@
 //! `deolmutt` delivers, lists, reads and changes the mail of maildirs by the jobs of `md_jobs`, beside any other programs that keep to the
-//! maildir format; and it plays, indexes and runs scripts over a store in memory, as `maildir_cli`.
+//! maildir format; it plays, indexes and runs scripts over a store in memory, as `maildir_cli`; and it judges logs of directory calls, and
+//! makes them of scripts.
 //!
 //! What it does for its words, and the statuses that it ends with, is in `entry`. Here its words are read.
 #![tactic(auto)]
@@ -8,14 +9,15 @@ mod acting;
 mod boxes;
 mod change;
 mod checking;
-mod complaint;
 mod delivering;
 mod entry;
 mod escape;
 mod failure;
 mod files;
+mod judge;
 mod key;
 mod lines;
+mod log;
 mod mailbox;
 mod messages;
 mod options;
@@ -28,7 +30,6 @@ mod session;
 mod showing;
 mod status;
 mod trouble;
-mod usage;
 
 use entry::program;
 use session::Session;

@@ -1,8 +1,14 @@
 //! The subcommands of the program, and its help.
 
+mod logs;
+
 use clap::{Arg, ArgAction, Command, value_parser};
+use logs::{judge, log};
 use md_runs::{MOST_THREADS, MOST_WORKERS};
 use std::alloc::{AllocError, Global};
+
+/// The name of the program.
+pub(crate) const PROGRAM: &str = "deolmutt";
 
 const ABOUT: &str =
     "Delivers, lists, reads and changes the mail of maildirs, beside other programs that do so at the same time. \
@@ -15,10 +21,11 @@ With - keys are read from standard input, a line each, as `list` prints them.
 
 Status:
   0   all was done
-  1   a line of the script was refused, or its run: `line N: TEXT` on standard error says which
+  1   a line of the script was refused, or its run: `line N: TEXT` on standard error says which; `judge` found something
+  2   `judge` was given no log, or it could not be read: `line N: TEXT` says which line is wrong
   64  the words are wrong
   65  no such message, it has not the flag T, its flags can't be read, or it is longer than 16777216 bytes; `check` found flaws
-  66  no such maildir, or no such directory of messages
+  66  no such maildir, no such directory of messages, or no such log
   73  a name is taken, or can't be made
   74  a message could not be read, or what was read not be written
   75  a call of the system failed: it may be tried again
@@ -34,18 +41,19 @@ Examples:
   deolmutt deliver Mail --folder Archive --many < old.mbox
   deolmutt deliver Mail --from letters
   deolmutt play < script
+  deolmutt log < script | deolmutt judge
 
 `man -l docs/deolmutt.1` has the manual.";
 
 /// The command line: a subcommand and its words.
 pub(crate) fn options<'a>(alloc: Global) -> Result<Command<'a>, AllocError> {
-    Command::new(alloc, "deolmutt")
+    Command::new(alloc, PROGRAM)
         .version("0.1.0")
         .about(ABOUT)
         .after_help(AFTER)
         .no_binary_name(true)
         .subcommand_required(true)
-        .bin_name("deolmutt")?
+        .bin_name(PROGRAM)?
         .subcommand(on_box(
             alloc,
             "make",
@@ -97,7 +105,9 @@ pub(crate) fn options<'a>(alloc: Global) -> Result<Command<'a>, AllocError> {
             "index",
             "Prints the header summaries of the script's files that are messages, made by N workers, 1 to 64",
             count(alloc, "How many workers, 1 to 64", MOST_WORKERS as i64),
-        )?)
+        )?)?
+        .subcommand(log(alloc)?)?
+        .subcommand(judge(alloc)?)
 }
 
 // A run of a script that wants a number.
@@ -229,8 +239,8 @@ fn many<'a>(alloc: Global, name: &'a str, help: &'a str) -> Arg<'a> {
         .num_args(1..)
 }
 
-// An option without a value.
-fn switch<'a>(alloc: Global, name: &'a str, help: &'a str) -> Arg<'a> {
+/// An option without a value.
+pub(crate) fn switch<'a>(alloc: Global, name: &'a str, help: &'a str) -> Arg<'a> {
     Arg::new(alloc, name)
         .long(name)
         .help(help)

@@ -3,18 +3,22 @@ ghost use Rattle.std.specs.Prelude.{◌≡◌};
 ghost use Rattle.deolmutt.specs.Folders.{is_folder};
 
 use crate::change::{Change, parse_change, parse_letters};
+use crate::judge::{Judging, read_judging};
 use crate::row::Shape;
 use crate::trouble::Trouble;
 use clap::ArgMatches;
 use md_name::Flags;
-use std::alloc::{AllocError, Global};
+use std::alloc::{AllocError, AllocFailed, Global};
 
 /// What a command line asks for.
 #[derive(Drop)]
-pub(crate) struct Order<'a> {
-    /// The path of the maildir, without slashes at its end.
-    pub(crate) maildir: &'a str,
-    pub(crate) work: Work<'a>,
+pub(crate) enum Order<'a> {
+    /// Work on the maildir of this path, which has no slashes at its end.
+    Mail { maildir: &'a str, work: Work<'a> },
+    /// The judging of a log.
+    Judge(Judging<'a>),
+    /// The log of a script, with the names of each directory or without.
+    Log { with_states: bool },
 }
 
 /// What is to be done with a maildir.
@@ -83,6 +87,12 @@ impl<'a> From<AllocError> for Mistake<'a> {
     }
 }
 
+impl<'a, T: Drop> From<AllocFailed<T>> for Mistake<'a> {
+    fn from(_error: AllocFailed<T>) -> Mistake<'a> {
+        Mistake::NoMemory
+    }
+}
+
 /// What words ask for that the options have read.
 pub(crate) fn read_order<'a>(
     alloc: Global,
@@ -91,12 +101,18 @@ pub(crate) fn read_order<'a>(
     let Some((name, words)) = matches.subcommand() else {
         return Err(wrong("", Trouble::NoMaildir));
     };
-    if matches!(name, "play" | "threads" | "index") {
-        return Err(Mistake::Unexpected);
+    match name {
+        "play" | "threads" | "index" => Err(Mistake::Unexpected),
+        "judge" => Ok(Order::Judge(read_judging(alloc, words)?)),
+        "log" => Ok(Order::Log {
+            with_states: words.get_flag("states"),
+        }),
+        _ => {
+            let maildir = path(words.get_str("BOX").unwrap_or(""))?;
+            let work = read_work(alloc, name, maildir, words)?;
+            Ok(Order::Mail { maildir, work })
+        }
     }
-    let maildir = path(words.get_str("BOX").unwrap_or(""))?;
-    let work = read_work(alloc, name, maildir, words)?;
-    Ok(Order { maildir, work })
 }
 
 fn read_work<'a>(

@@ -1,12 +1,13 @@
-//! Runs of the script on standard input.
+//! Runs of the script on standard input, and its log.
 ghost use Rattle.std.specs.Prelude.{ℕ, List};
 ghost use Rattle.md_runs.specs.Runs.{WordsName};
 
+use crate::log::trace;
 use crate::session::{Host, Session};
 use crate::status::Status;
 use md_dirs::HashSeed;
-use md_runs::{Run, RunFault, run_index, run_threads};
-use md_script::{Reader, Writer, play_last};
+use md_runs::{Run, RunFault, perform};
+use md_script::{Reader, Writer};
 use std::io;
 use std::random::RandomSource;
 use std::sync::Wait;
@@ -20,47 +21,36 @@ pub(crate) fn scripted<R: Host + Threads + Wait + Sync + RandomSource>(
 ) -> Status
     requires { (words : List (List ℕ)) × WordsName words run }
 {
-    match perform(session, run) {
+    let (host, alloc) = (session.host, session.alloc);
+    let mut source = Reader::new(host.reader());
+    let mut sink = Writer::new(io::writer(host));
+    match perform(host, alloc, seed(host), run, &mut source, &mut sink) {
         Ok(()) => Status::Done,
         Err(fault) => refused(session, fault),
     }
 }
 
-fn perform<R: Host + Threads + Wait + Sync + RandomSource>(
+/// Plays the script for the log of its directory calls, which is printed on standard output, with the names of each directory or without.
+/// Where it is refused, that is told as of a run.
+pub(crate) fn logged<R: Host + RandomSource>(
     session: &Session<'_, R>,
-    run: Run,
-) -> Result<(), RunFault>
-    requires { (words : List (List ℕ)) × WordsName words run }
-{
+    with_states: bool,
+) -> Status {
     let (host, alloc) = (session.host, session.alloc);
-    let seed = HashSeed::drawn(host).unwrap_or(HashSeed::fixed());
     let mut source = Reader::new(host.reader());
     let mut sink = Writer::new(io::writer(host));
-    match run {
-        Run::Play => Ok(play_last(alloc, seed, &mut source, &mut sink)?),
-        Run::Threads(count) => run_threads(
-            host,
-            alloc,
-            seed,
-            count as usize,
-            &mut source,
-            &mut sink,
-        ),
-        Run::Index(count) => Ok(run_index(
-            host,
-            alloc,
-            seed,
-            count as usize,
-            &mut source,
-            &mut sink,
-        )?),
+    match trace(alloc, seed(host), &mut source, &mut sink, with_states) {
+        Ok(()) => Status::Done,
+        Err(error) => refused(session, RunFault::from(error)),
     }
 }
 
+// By what names are hashed.
+fn seed<R: RandomSource>(host: &R) -> HashSeed {
+    HashSeed::drawn(host).unwrap_or(HashSeed::fixed())
+}
+
 fn refused<R: Host>(session: &Session<'_, R>, fault: RunFault) -> Status {
-    match format!(in session.alloc; "{fault}\n") {
-        Ok(line) => session.say(line.as_bytes()),
-        Err(_) => session.say(b"line 0: no memory\n"),
-    }
+    session.refuse(fault.line(), fault.text());
     Status::Refused
 }

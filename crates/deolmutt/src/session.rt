@@ -56,6 +56,14 @@ impl<'r, R: Host> Session<'r, R> {
         failure.trouble.status()
     }
 
+    /// Says of a line of a script or a log why it is refused; the line 0 is none. Where memory for that is wanting, that is said.
+    pub(crate) fn refuse(&self, line: u64, why: &str) {
+        match format!(in self.alloc; "line {line}: {why}\n") {
+            Ok(said) => self.say(said.as_bytes()),
+            Err(_) => self.say(b"line 0: no memory\n"),
+        }
+    }
+
     /// Says a line on standard error. Where that can't be written, nothing is left to be done.
     pub(crate) fn say(&self, line: &[u8]) {
         let text = std::str::from_utf8(line).unwrap_or("");

@@ -7,8 +7,10 @@ ghost use Rattle.deolmutt.specs.Statuses.{number_of};
 pub(crate) enum Status {
     /// All of it was done, 0.
     Done,
-    /// A line of a script was refused, or its run, 1.
+    /// A line of a script was refused, or its run; or a log breaks the law, 1.
     Refused,
+    /// A log is none, or was not read, or what was found not printed, 2.
+    Unjudged,
     /// The words are wrong, 64 (EX_USAGE).
     Usage,
     /// The message can't be had, or is not as the command wants it, 65 (EX_DATAERR).
@@ -33,6 +35,7 @@ impl Status {
         match self {
             Status::Done => 0,
             Status::Refused => 1,
+            Status::Unjudged => 2,
             Status::Usage => 64,
             Status::DataError => 65,
             Status::NoInput => 66,

@@ -17,6 +17,7 @@ pub(crate) enum Trouble {
     BadKey,
     BadChange,
     BadFolder,
+    BadClause,
     SameMaildir,
     /// The message can't be had, or is not as the command wants it.
     NotThere,
@@ -31,6 +32,8 @@ pub(crate) enum Trouble {
     NoMaildir,
     /// There is no such directory of messages.
     NoDirectory,
+    /// A log can't be opened.
+    NoLog,
     /// A name can't be made.
     NameTaken,
     CannotMake,
@@ -55,9 +58,11 @@ impl Trouble {
     {
         match self {
             Trouble::Unflushed => Status::Done,
-            Trouble::BadKey | Trouble::BadChange | Trouble::BadFolder | Trouble::SameMaildir => {
-                Status::Usage
-            }
+            Trouble::BadKey
+            | Trouble::BadChange
+            | Trouble::BadFolder
+            | Trouble::BadClause
+            | Trouble::SameMaildir => Status::Usage,
             Trouble::NotThere
             | Trouble::NotTrashed
             | Trouble::OtherInfo
@@ -66,7 +71,7 @@ impl Trouble {
             | Trouble::NotAFile
             | Trouble::NoMailbox
             | Trouble::Flawed => Status::DataError,
-            Trouble::NoMaildir | Trouble::NoDirectory => Status::NoInput,
+            Trouble::NoMaildir | Trouble::NoDirectory | Trouble::NoLog => Status::NoInput,
             Trouble::NameTaken | Trouble::CannotMake => Status::CannotCreate,
             Trouble::Unread | Trouble::Unwritten => Status::InputOutput,
             Trouble::Lost
@@ -88,6 +93,7 @@ impl Trouble {
             Trouble::BadKey => "not the name of a message, nor its path in this maildir",
             Trouble::BadChange => "not a change of flags, as +FS-T",
             Trouble::BadFolder => "not the name of a folder",
+            Trouble::BadClause => "not the name of a clause that may be allowed",
             Trouble::SameMaildir => "the message is there already",
             Trouble::NotThere => "no such message",
             Trouble::NotTrashed => "the message has not the flag T",
@@ -99,6 +105,7 @@ impl Trouble {
             Trouble::Flawed => "the maildir has flaws",
             Trouble::NoMaildir => "no such maildir",
             Trouble::NoDirectory => "no such directory",
+            Trouble::NoLog => "it can't be opened",
             Trouble::NameTaken => "the name is taken",
             Trouble::CannotMake => "it can't be made",
             Trouble::Unread => "reading failed",

@@ -1,23 +1,20 @@
 -- What the program does for the words of its command line: its status, and what it read, printed and said on standard error.
-use Rattle.std.specs.Prelude.{◌≡◌, ℕ, ◌⊎◌, List, [], ◌++◌, Result, Ok, Err, codes}
+use Rattle.std.specs.Prelude.{◌≡◌, ℕ, ◌⊎◌, List, ◌++◌, Result, Ok, Err, codes}
 use Rattle.std.specs.Fmt.{decimal}
-use Rattle.std.specs.Str.Iter.{LacksByte}
 use Rattle.md_script.specs.declared.error.PlayKind.TheVariants.{NoMemory}
-use Rattle.md_script.specs.declared.error.PlayError.{PlayError}
 use Rattle.md_script.specs.declared.sink.Put.{Put}
 use Rattle.md_script.specs.Kinds.{at_no_line}
-use Rattle.md_script.specs.Play.{Plays, Writes}
+use Rattle.md_script.specs.Play.{Writes}
 use Rattle.md_script.specs.Sinks.{Sink, Puts}
 use Rattle.md_script.specs.Sources.{Source}
 use Rattle.md_script.specs.Texts.{line_end}
 use Rattle.md_runs.specs.declared.fault.RunFault.{RunFault}
 use Rattle.md_runs.specs.declared.fault.RunFault.TheVariants as fault
 use Rattle.md_runs.specs.declared.words.Run.{Run}
-use Rattle.md_runs.specs.declared.words.Run.TheVariants.{Play, Threads, Index}
+use Rattle.md_runs.specs.Complaints.{IsComplaint}
 use Rattle.md_runs.specs.Faults.{refused_line, refusal_text}
-use Rattle.md_runs.specs.Indexes.{Indexes}
+use Rattle.md_runs.specs.Performing.{Performs}
 use Rattle.md_runs.specs.Runs.{WordsName, WordsNameNone}
-use Rattle.md_runs.specs.Threading.{RunsThreads}
 
 -- standard input, standard output and standard error
 pub record Streams : Type 0 where
@@ -43,18 +40,6 @@ abbrev pub Reported : Sink → Sink → Result (Unit {0}) RunFault → ℕ → T
 Reported before after (Ok done) status = (status ≡ 0) × (after ≡ before)
 Reported before after (Err fault) status = (status ≡ 1) × Tells before after (refusal_line fault)
 
--- of a run that is refused as a script is
-abbrev pub OfScript : (Result (Unit {0}) PlayError → Type 0) → Result (Unit {0}) RunFault → Type 0
-OfScript Answers (Ok done) = Answers (Ok done)
-OfScript Answers (Err (fault.Play e)) = Answers (Err e)
-OfScript Answers (Err other) = ⊥
-
--- what a run reads, prints and answers
-abbrev pub Performs : Run → Source → Source → Sink → Sink → Result (Unit {0}) RunFault → Type 0
-Performs Play old new before after = OfScript (Plays old new before after)
-Performs (Threads n) old new before after = RunsThreads old new before after
-Performs (Index n) old new before after = OfScript (Indexes old new before after)
-
 -- of a text that is written, where out of memory or a fault is no line's
 abbrev pub WritesText : Sink → Sink → List ℕ → Result (Unit {0}) RunFault → Type 0
 WritesText before after text (Ok done) = Writes before after text (Ok done)
@@ -78,24 +63,12 @@ pub record Helped (words : List (List ℕ)) (old new : Streams) (status : ℕ) :
   pub shown : WritesText old.output new.output text answer
   pub reported : Reported old.errors new.errors answer status
 
--- nothing, or one more line
-abbrev pub IsTip : List ℕ → Type 0
-IsTip tip = (tip ≡ []) ⊎ ((text : List ℕ) × LacksByte 10 text × (tip ≡ text ++ line_end))
-
--- A line that says what is wrong with words, and where help is; a second may name a subcommand that was meant.
-pub record IsComplaint (lines : List ℕ) : Type 0 where
-  pub why : List ℕ
-  pub in_line : LacksByte 10 why
-  pub tip : List ℕ
-  pub is_tip : IsTip tip
-  pub are : lines ≡ codes "maildir_cli: " ++ why ++ codes "; try 'maildir_cli --help'\n" ++ tip
-
 -- The words name no run. Standard error is told why, and the status is 2.
 pub record Misspelled (words : List (List ℕ)) (old new : Streams) (status : ℕ) : Type 0 where
   pub unnamed : WordsNameNone words
   pub idle : Idle old new
   pub lines : List ℕ
-  pub complain : IsComplaint lines
+  pub complain : IsComplaint (codes "maildir_cli") lines
   pub told : Tells old.errors new.errors lines
   pub refused : status ≡ 2
 

@@ -1,13 +1,12 @@
 //! The program: what it does for the words of its command line.
-ghost use Rattle.std.specs.Prelude.{map, ℕ, List};
-ghost use Rattle.md_runs.specs.Runs.{WordsName};
-ghost use Rattle.maildir_cli.specs.Program.{Ends, Performs, Reported, WritesText};
+ghost use Rattle.std.specs.Prelude.{map};
+ghost use Rattle.maildir_cli.specs.Program.{Ends, Reported, WritesText};
 
-use crate::command::{Answer, command};
+use crate::options::advice;
 use crate::refusal::refusal_line;
 use md_dirs::HashSeed;
-use md_runs::{Run, RunFault, run_index, run_threads};
-use md_script::{PlayKind, Sink, Source, play_last, write_whole};
+use md_runs::{Advice, RunFault, perform, run_named};
+use md_script::{PlayKind, Sink, Source, write_whole};
 use std::alloc::Global;
 use std::sync::Wait;
 use std::thread::Threads;
@@ -24,8 +23,8 @@ const BAD_WORDS: u8 = 2;
 /// Does what the words after the program's name ask for, and gives the status that it ends with. Names are hashed by the seed.
 ///
 /// `play`, `threads N` and `index N` run the script that the source gives and print on the sink: the status is 0, or 1 where the run is
-/// refused, and then one line `line N: TEXT` goes to the errors. Help and the version go to the sink. Wrong words are answered with one line
-/// to the errors and the status 2. Memory that is refused before a run is one more refusal, of the line 0.
+/// refused, and then one line `line N: TEXT` goes to the errors. Help and the version go to the sink. Wrong words are answered with one
+/// line to the errors and the status 2. Memory that is refused before a run is one more refusal, of the line 0.
 pub fn program<R: Threads + Wait + Sync, S: Source, T: Sink, E: Sink>(
     rt: &R,
     alloc: Global,
@@ -40,33 +39,16 @@ pub fn program<R: Threads + Wait + Sync, S: Source, T: Sink, E: Sink>(
         (record { input = S.state source.new; output = T.state sink.new; errors = E.state errors.new })
         result }
 {
-    match command(alloc, words) {
-        Ok(run) => report(errors, perform(rt, alloc, seed, run, source, sink)),
-        Err(Answer::Shown(text)) => report(errors, show(sink, &text)),
-        Err(Answer::Refused(line)) => {
+    if let Some(run) = run_named(words) {
+        return report(errors, perform(rt, alloc, seed, run, source, sink));
+    }
+    match advice(alloc, words) {
+        Ok(Advice::Shown(text)) => report(errors, show(sink, &text)),
+        Ok(Advice::Refused(line)) => {
             let _told = errors.put(&line);
             BAD_WORDS
         }
-        Err(Answer::NoMemory) => report(errors, Err(RunFault::from(PlayKind::NoMemory))),
-    }
-}
-
-/// Makes a run of the script that the source gives.
-fn perform<R: Threads + Wait + Sync, S: Source, T: Sink>(
-    rt: &R,
-    alloc: Global,
-    seed: HashSeed,
-    run: Run,
-    source: &mut S,
-    sink: &mut T,
-) -> Result<(), RunFault>
-    requires { (words : List (List ℕ)) × WordsName words run }
-    ensures { Performs run (S.state source.old) (S.state source.new) (T.state sink.old) (T.state sink.new) result }
-{
-    match run {
-        Run::Play => Ok(play_last(alloc, seed, source, sink)?),
-        Run::Threads(count) => run_threads(rt, alloc, seed, count as usize, source, sink),
-        Run::Index(count) => Ok(run_index(rt, alloc, seed, count as usize, source, sink)?),
+        Err(_) => report(errors, Err(RunFault::from(PlayKind::NoMemory))),
     }
 }
 

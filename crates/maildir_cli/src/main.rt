@@ -6,8 +6,6 @@
 //! streams opened.
 #![tactic(auto)]
 
-mod command;
-mod complaint;
 mod entry;
 mod options;
 mod refusal;

@@ -1,8 +1,12 @@
-//! The subcommands of the program, and its help.
+//! The subcommands of the program, its help, and what words are answered with that name no run.
+ghost use Rattle.std.specs.Prelude.{IfOk, codes};
+ghost use Rattle.md_runs.specs.Advising.{IsAdvice};
 
 use clap::{Arg, ArgAction, Command, value_parser};
-use md_runs::{MOST_THREADS, MOST_WORKERS};
+use md_runs::{Advice, MOST_THREADS, MOST_WORKERS, complaint, explained};
 use std::alloc::{AllocError, Global};
+
+const PROGRAM: &str = "maildir_cli";
 
 const ABOUT: &str =
     "Plays scripts over a Maildir store in memory, and prints what each directory call of its jobs did; \
@@ -23,8 +27,19 @@ Example:
 
 docs/SCRIPT.md has the language, and `man -l docs/maildir_cli.1` the manual.";
 
-/// The command line: a subcommand, and for two of them a number.
-pub(crate) fn options<'a>(alloc: Global) -> Result<Command<'a>, AllocError> {
+/// What words that name no run are answered with.
+pub(crate) fn advice<'a>(alloc: Global, words: &'a [&'a str]) -> Result<Advice, AllocError>
+    ensures { IfOk result (IsAdvice (codes "maildir_cli")) }
+{
+    match options(alloc)?.try_get_matches_from(words) {
+        // The options allow a `--` after a number too.
+        Ok(_) => Ok(Advice::Refused(complaint(alloc, PROGRAM, "a word is unexpected", "")?)),
+        Err(error) => explained(alloc, PROGRAM, &error),
+    }
+}
+
+// The command line: a subcommand, and for two of them a number.
+fn options<'a>(alloc: Global) -> Result<Command<'a>, AllocError> {
     let play = Command::new(alloc, "play").about("Plays the script on standard input");
     let threads = Command::new(alloc, "threads").about(
         "Runs the script's jobs by N threads, 1 to 16, and prints their answers and the folders",
@@ -32,13 +47,13 @@ pub(crate) fn options<'a>(alloc: Global) -> Result<Command<'a>, AllocError> {
     let index = Command::new(alloc, "index").about(
         "Prints the header summaries of the script's files that are messages, made by N workers, 1 to 64",
     );
-    Command::new(alloc, "maildir_cli")
+    Command::new(alloc, PROGRAM)
         .version("0.1.0")
         .about(ABOUT)
         .after_help(AFTER)
         .no_binary_name(true)
         .subcommand_required(true)
-        .bin_name("maildir_cli")?
+        .bin_name(PROGRAM)?
         .subcommand(play)?
         .subcommand(threads.arg(count(alloc, "How many threads, 1 to 16", MOST_THREADS as i64))?)?
         .subcommand(index.arg(count(alloc, "How many workers, 1 to 64", MOST_WORKERS as i64))?)

@@ -16,9 +16,11 @@ use Rattle.md_core.specs.Stepping.{AsAlone}
 use Rattle.md_core.specs.Tasks.Task.{Task}
 use Rattle.md_core.proofs.Induction.Good.{Settles, own_effect}
 use Rattle.md_core.proofs.Lists.Places.{at_place}
+use Rattle.md_core.proofs.Machines.Errand.Table.Calls.{each-new}
 use Rattle.md_beside.specs.Story.{Story, Step, Who, ours, another, step_at, after_did, state, state_after, box, standing, standing_from, standing_after, is_by}
 use Rattle.md_beside.specs.Beside.{IsStepOf, IsAnswered, TakesEffect, Acts}
-use Rattle.md_beside.proofs.OneEffect.{HasHad, had-still, had-next}
+use Rattle.md_beside.proofs.EachMoment.{each-moment}
+use Rattle.md_beside.proofs.OneEffect.{HasHad, had-nothing, had-still, had-next}
 
 -- ---- how far a job is
 
@@ -65,7 +67,7 @@ module _ (t : Story) (job : ℕ) (c : Call) (k : ℕ) (x : Step) (is : step_at t
       ∙ ap (λ (b : Bool). cond b (standing_after job (state t k) x (standing t job c k)) (standing t job c k)) (not-by job x.who not-own)
 
   -- which is no step of its own
-  pub not-its : (x.who ≡ ours job → ⊥) → IsStepOf t job k → ⊥
+  not-its : (x.who ≡ ours job → ⊥) → IsStepOf t job k → ⊥
   not-its not-own own =
       let e : Some own.step ≡ Some x = sym own.at ∙ is in
       let one : own.step ≡ x = cc in not-own (ap (λ (y : Step). y.who) (sym one) ∙ own.own)
@@ -89,7 +91,7 @@ Had t k job (working task) = HasHad t job k (own_effect job task)
 Had t k job (answered a) = (had : Option Effect) × HasHad t job k had × Settles had a
 
 module _ (t : Story) (job k : ℕ) where
-  pub had-beside : (IsStepOf t job k → ⊥) → (st : Standing) → Had t k job st → Had t (suc k) job st
+  had-beside : (IsStepOf t job k → ⊥) → (st : Standing) → Had t k job st → Had t (suc k) job st
   had-beside not-its (working task) had = had-still t job k not-its (own_effect job task) had
   had-beside not-its (answered a) had = (had.0, had-still t job k not-its had.0 had.1, had.2)
 
@@ -109,13 +111,27 @@ module _ (t : Story) (job k : ℕ) where
     had-own affects first settles had =
         had-after after.answer (had-next t job k x is who after.effect (own_effect job task) affects first had) settles
 
+-- at the beginning none
+had-first : (t : Story) (job : ℕ) (c : Call) → Had t 0 job (standing t job c 0)
+unfolding standing_from
+had-first t job c = each-new (λ c' st. Had t 0 job st) (λ folder u body chunk. had-nothing t job 0)
+    (λ folder u p tries. had-nothing t job 0) (λ folder. had-nothing t job 0) c
+
 -- ---- by the end
 
-module _ (t : Story) (job : ℕ) (c : Call)
-    (alone-at : (k : ℕ) (x : Step) → step_at t k ≡ Some x → x.who ≡ ours job → AsAlone c x.effect (box t k) (box t (suc k)))
-    (had-at : (k : ℕ) → k ≤ length t.steps → Had t k job (standing t job c k))
-    (answered-here : (k : ℕ) (x : Step) → step_at t k ≡ Some x → x.who ≡ ours job → (a : Answer) → x.answer ≡ Some a →
-    standing t job c (suc k) ≡ answered a) where
+-- what a step of the job's own does
+pub record OwnStep (t : Story) (k job : ℕ) (x : Step) (c : Call) : Type 0 where
+  pub as_alone : AsAlone c x.effect (box t k) (box t (suc k))
+  pub answers : (a : Answer) → x.answer ≡ Some a → standing t job c (suc k) ≡ answered a
+  pub had : Had t k job (standing t job c k) → Had t (suc k) job (standing t job c (suc k))
+
+module _ (t : Story) (job : ℕ) (c : Call) (own : (k : ℕ) (x : Step) → step_at t k ≡ Some x → x.who ≡ ours job → OwnStep t k job x c) where
+  had-at : (k : ℕ) → k ≤ length t.steps → Had t k job (standing t job c k)
+  had-at = each-moment t (λ k. Had t k job (standing t job c k)) (had-first t job c)
+      (λ k x is had. by-who x.who job (λ who. (own k x is who).had had)
+      (λ not-own. subst (Had t (suc k) job) (sym (stands-beside t job c k x is not-own))
+      (had-beside t job k (not-its t job c k x is not-own) (standing t job c k) had)))
+
   answered-at : (a : Answer) (k : ℕ) → standing t job c k ≡ answered a → (n : ℕ) → k ≤ n → n ≤ length t.steps →
       standing t job c n ≡ answered a
   answered-at a k was zero above low =
@@ -132,7 +148,7 @@ module _ (t : Story) (job : ℕ) (c : Call)
   had-all a gave =
       let x = gave.last.step in
       let within = slice_get_within t.steps gave.k x gave.last.at in
-      let then = answered-here gave.k x gave.last.at gave.last.own a gave.answer in
+      let then = (own gave.k x gave.last.at gave.last.own).answers a gave.answer in
       let end = answered-at a (suc gave.k) then (length t.steps) (omega (arith, within)) (omega arith) in
       subst (Had t (length t.steps) job) end (had-at (length t.steps) (omega arith))
 
@@ -150,7 +166,7 @@ module _ (t : Story) (job : ℕ) (c : Call)
       as_alone =
           let there : alone c (box t had.0) ≡ record { answer = e.answer; after = box t (suc had.0) } =
           subst (λ (o : Option Effect). AsAlone c o (box t had.0) (box t (suc had.0))) had.3
-          (alone-at had.0 had.1.step had.1.at had.1.own) in
+          (own had.0 had.1.step had.1.at had.1.own).as_alone in
           there ∙ ap (λ (b : Answer). record { answer = b; after = box t (suc had.0) }) says;
     };
     only = λ k own some. had.4 k own (within-all k own) some;

@@ -1,5 +1,5 @@
--- Clauses that the own steps of a delivery don't break, by what each does to paths.
-use Rattle.std.proofs.Common.{ℕ, suc, ◌≡◌, ◌≢◌, inl, inr, List, Some, None, true, refl, sym, ap, subst, ◌∙◌}
+-- Clauses that the own steps of our jobs don't break, by what each does to paths; and those of a delivery.
+use Rattle.std.proofs.Common.{ℕ, suc, ◌≡◌, ◌≢◌, inl, inr, List, Some, None, true, sym, ap, subst, ◌∙◌}
 use Rattle.md_dirs.proofs.Sound.{by_path}
 use Rattle.md_dirs.specs.State.{State, file_at}
 use Rattle.md_dirs.specs.declared.paths.Path.{Path}
@@ -19,7 +19,7 @@ use Rattle.md_log.specs.declared.line.Deed.TheVariants as deed
 use Rattle.md_log.specs.declared.line.Reply.{Reply}
 use Rattle.md_log.specs.declared.line.Reply.TheVariants as said
 use Rattle.md_log.specs.declared.line.Step.{Step as Seen}
-use Rattle.md_law.specs.Clauses.{MakesMessage, WritesSeen, ShowsCut, SeenBeforeWhole, Overwritten, Mixed, TwoNames, Gone, UsedAgain, MovedBack, CleanedEarly}
+use Rattle.md_law.specs.Clauses.{NotADirectory, MakesMessage, WritesSeen, ShowsCut, SeenBeforeWhole, Overwritten, Mixed, NotFlushed, TwoNames, Gone, UsedAgain, MovedBack, CleanedEarly, Unlisted}
 use Rattle.md_law.specs.Files.{Names, Writes, IsMaker, WasInCur}
 use Rattle.md_law.specs.History.{History, opening, next, at, IsCall, IsBy, Once}
 use Rattle.md_law.specs.Law.{Breaks}
@@ -27,26 +27,59 @@ use Rattle.md_law.specs.Messages.{IsSeen, IsThere, IsMessageAt}
 use Rattle.md_law.specs.Owed as owed
 use Rattle.md_law.specs.Owed.{InTwoFolders}
 use Rattle.md_beside.specs.Story.{Story, Step, Did, asked, ours, step_at, state, history, actor_seen, call_seen, reply_seen, step_seen}
-use Rattle.md_beside.specs.Beside.{IsStory, BringsAbout}
+use Rattle.md_beside.specs.Beside.{IsStory, BringsAbout, Owes}
 use Rattle.md_beside.proofs.Fresh.{NeverThere, NeverUsed, IsWhole}
-use Rattle.md_beside.proofs.Histories.{next_at, path-history, path-next}
+use Rattle.md_beside.proofs.Histories.{next_at, history-next, path-history, path-next}
 use Rattle.md_beside.proofs.OneMaker.{maker-still}
-use Rattle.md_beside.proofs.Replies.{IsNoReading, call-made, is-directory, lists-nothing, gives-up-nothing, answers-nothing}
+use Rattle.md_beside.proofs.Replies.{call-made, gives-up-nothing, answers-nothing}
 
--- What a step of ours keeps that may bring this name about and no other, by what it does to paths: clauses of the law, what is owed, and
--- the names of others.
-pub record KeepsPaths (t : Story) (k : ℕ) (x : Step) (u : List ℕ) : Type 0 where
+-- What a step of ours keeps that may bring its own names about and no other, by what it does to paths: clauses of the law, but those that
+-- it may break, what is owed, and the names of others.
+pub record KeepsPaths (t : Story) (k : ℕ) (x : Step) (own : List ℕ → Type 0) (may : Clause → Type 0) : Type 0 where
   pub whole : SeenBeforeWhole (next_at t k x) → ⊥
   pub unmixed : owed.Mixed (next_at t k x) → ⊥
   pub unwritten : owed.Rewritten (next_at t k x) → ⊥
   pub unmade : owed.MadeAgain (next_at t k x) → ⊥
   pub one_file : owed.UsedAgain (next_at t k x) → ⊥
   pub unnamed : owed.NamedByAnother (next_at t k x) → ⊥
+  pub not_back : owed.MovedBack (next_at t k x) → ⊥
   pub there : Gone (next_at t k x) → ⊥
-  pub unused : UsedAgain (next_at t k x) → ⊥
-  pub not_back : MovedBack (next_at t k x) → ⊥
-  pub not_early : CleanedEarly (next_at t k x) → ⊥
-  pub brings : (v : List ℕ) → v ≢ u → BringsAbout t k v → ⊥
+  pub unused : (may clause.UsedAgain → ⊥) → UsedAgain (next_at t k x) → ⊥
+  pub in_place : (may clause.MovedBack → ⊥) → MovedBack (next_at t k x) → ⊥
+  pub not_early : (may clause.CleanedEarly → ⊥) → CleanedEarly (next_at t k x) → ⊥
+  pub brings : (v : List ℕ) → (own v → ⊥) → BringsAbout t k v → ⊥
+
+-- what it keeps that hangs on more than paths
+pub record KeepsRest (t : Story) (k : ℕ) (x : Step) (may : Clause → Type 0) : Type 0 where
+  pub rightly : NotADirectory (next_at t k x) → ⊥
+  pub flushed : (may clause.NotFlushed → ⊥) → NotFlushed (next_at t k x) → ⊥
+  pub listed : (may clause.Unlisted → ⊥) → Unlisted (next_at t k x) → ⊥
+
+-- one that breaks none of these, and brings one name about
+abbrev pub KeepsAll : Story → ℕ → Step → List ℕ → Type 0
+KeepsAll t k x u = KeepsPaths t k x (λ v. v ≡ u) (λ b. ⊥)
+
+-- a step keeps what one keeps that may do more
+pub widens : (t : Story) (k : ℕ) (x : Step) (own own' : List ℕ → Type 0) (may may' : Clause → Type 0) → ((v : List ℕ) → own v → own' v) →
+    ((b : Clause) → may b → may' b) → KeepsPaths t k x own may → KeepsPaths t k x own' may'
+widens t k x own own' may may' its wide keeps = record {
+  whole = keeps.whole;
+  unmixed = keeps.unmixed;
+  unwritten = keeps.unwritten;
+  unmade = keeps.unmade;
+  one_file = keeps.one_file;
+  unnamed = keeps.unnamed;
+  not_back = keeps.not_back;
+  there = keeps.there;
+  unused = λ not. keeps.unused (λ m. not (wide clause.UsedAgain m));
+  in_place = λ not. keeps.in_place (λ m. not (wide clause.MovedBack m));
+  not_early = λ not. keeps.not_early (λ m. not (wide clause.CleanedEarly m));
+  brings = λ v not. keeps.brings v (λ o. not (its v o));
+}
+
+-- what breaks no clause of messages that were in cur does what is owed
+back-by : (h : History) → (MovedBack h → ⊥) → owed.MovedBack h → ⊥
+back-by h not back = not (back.0, back.1, back.2, back.3, back.4, back.5)
 
 -- what was so once of one thing was so of what follows from it
 pub once-map : (P Q : History → Type 0) → ((m : History) → P m → Q m) → (h : History) → Once P h → Once Q h
@@ -101,7 +134,7 @@ WritesOwn t k x job = (n : ℕ) (r : Reply) → Writes (next_at t k x) n r
     → (Once (λ m. IsSeen (at m) n) (history t k) → ⊥) × IsMaker (history t k) (t.actor job) n
 
 -- who writes to no file but its own mixes nothing
-pub mixed-done : (h : History) → (owed.Mixed h → ⊥) → Mixed h → ⊥
+mixed-done : (h : History) → (owed.Mixed h → ⊥) → Mixed h → ⊥
 mixed-done h not (actor, n, by, writes, made) = not (actor, n, by, (said.Ok, (λ e. cc), writes), made)
 
 module _ (t : Story) (story : IsStory t) (k : ℕ) (x : Step) (is : step_at t k ≡ Some x) where
@@ -117,14 +150,14 @@ module _ (t : Story) (story : IsStory t) (k : ℕ) (x : Step) (is : step_at t k 
 
   -- ---- by what md_core says of the directories
 
-  pub overwrites-nothing : NoneOverwritten (state t k) (state t (suc k)) → Overwritten h → ⊥
+  overwrites-nothing : NoneOverwritten (state t k) (state t (suc k)) → Overwritten h → ⊥
   overwrites-nothing none (p, m, n, was, now, differ) = differ (sym (none p m n (before p m was) (after p n now)))
 
-  pub no_two_names : HasOnePath (state t (suc k)) → TwoNames h → ⊥
+  no_two_names : HasOnePath (state t (suc k)) → TwoNames h → ⊥
   no_two_names one (p, q, m, n, adds, differ, first, second) =
       differ (one p q m n (after p m first.0) (after q n second.0) first.1.0 second.1.0 (sym second.1.2))
 
-  pub not_in_two_folders : HasOnePath (state t (suc k)) → InTwoFolders h → ⊥
+  not_in_two_folders : HasOnePath (state t (suc k)) → InTwoFolders h → ⊥
   not_in_two_folders one (p, q, m, n, adds, differ, first, second) =
       differ (ap (λ (r : Path). r.folder) (one p q m n (after p m first.0) (after q n second.0) first.1.0 second.1.0 (sym second.1.2)))
 
@@ -225,7 +258,7 @@ module _ (t : Story) (story : IsStory t) (k : ℕ) (x : Step) (is : step_at t k 
       brings-none v not (p, n, used, now, none) =
           none p used (sym (other p (λ one. not (sym used ∙ ap name_used one ∙ tmp-key tmp place))) ∙ now)
 
-      pub keeps-in_tmp : KeepsPaths t k x tmp.name
+      pub keeps-in_tmp : KeepsAll t k x tmp.name
       keeps-in_tmp = record {
         whole = whole-by h (makes-none on) (writes-unseen own) shows-none;
         unmixed = writes-unmixed own;
@@ -233,10 +266,11 @@ module _ (t : Story) (story : IsStory t) (k : ℕ) (x : Step) (is : step_at t k 
         unmade = made-none;
         one_file = used-none;
         unnamed = names-made;
+        not_back = back-by h names-none;
         there = takes-none;
-        unused = adds-none;
-        not_back = names-none;
-        not_early = cleans-own;
+        unused = λ _. adds-none;
+        in_place = λ _. names-none;
+        not_early = λ _. cleans-own;
         brings = brings-none;
       }
 
@@ -303,7 +337,7 @@ module _ (t : Story) (story : IsStory t) (k : ℕ) (x : Step) (is : step_at t k 
       brings-its_own v not (p, n, used, now, none) =
           none p used (sym (other p (λ one. not (sym used ∙ ap name_used one ∙ message-key target message ∙ plain))) ∙ now)
 
-      pub keeps-link : KeepsPaths t k x tmp.name
+      pub keeps-link : KeepsAll t k x tmp.name
       keeps-link = record {
         whole = whole-by h (makes-none on) (writes-unseen own) shows-whole;
         unmixed = writes-unmixed own;
@@ -311,28 +345,46 @@ module _ (t : Story) (story : IsStory t) (k : ℕ) (x : Step) (is : step_at t k 
         unmade = links-none;
         one_file = links-new;
         unnamed = names-linked;
+        not_back = back-by h names-new;
         there = takes-no_message;
-        unused = adds-new;
-        not_back = names-new;
-        not_early = cleans-none;
+        unused = λ _. adds-new;
+        in_place = λ _. names-new;
+        not_early = λ _. cleans-none;
         brings = brings-its_own;
       }
 
   -- ---- all clauses
 
-  pub breaks-none : (a : Asked) (u : List ℕ) → x.did ≡ asked a → IsNoReading a → KeepsPaths t k x u →
-      NoneOverwritten (state t k) (state t (suc k)) →
-      HasOnePath (state t (suc k)) → (b : Clause) → b ≢ clause.NotFlushed → Breaks b h → ⊥
-  breaks-none a u did plain keeps none one clause.NotADirectory but broken = is-directory t story k x is a did plain broken
-  breaks-none a u did plain keeps none one clause.Overwritten but broken = overwrites-nothing none broken
-  breaks-none a u did plain keeps none one clause.SeenBeforeWhole but broken = keeps.whole broken
-  breaks-none a u did plain keeps none one clause.Mixed but broken = mixed-done h keeps.unmixed broken
-  breaks-none a u did plain keeps none one clause.NotFlushed but broken = but refl
-  breaks-none a u did plain keeps none one clause.TwoNames but broken = no_two_names one broken
-  breaks-none a u did plain keeps none one clause.Gone but broken = keeps.there broken
-  breaks-none a u did plain keeps none one clause.UsedAgain but broken = keeps.unused broken
-  breaks-none a u did plain keeps none one clause.MovedBack but broken = keeps.not_back broken
-  breaks-none a u did plain keeps none one clause.CleanedEarly but broken = keeps.not_early broken
-  breaks-none a u did plain keeps none one clause.Unlisted but broken = lists-nothing t story k x is a did plain broken
-  breaks-none a u did plain keeps none one clause.GaveUp but broken = gives-up-nothing t k x broken
-  breaks-none a u did plain keeps none one clause.AnsweredFalsely but broken = answers-nothing t k x broken
+  module _ (own : List ℕ → Type 0) (may : Clause → Type 0) (keeps : KeepsPaths t k x own may) (one : HasOnePath (state t (suc k))) where
+    pub owes-by : (CleanedEarly h → ⊥) → (owed.WrittenLate h → ⊥) → Owes (history t (suc k))
+    owes-by early in_time = subst Owes (sym (history-next t k x is)) (record {
+      one_name = no_two_names one;
+      unmixed = keeps.unmixed;
+      unnamed = keeps.unnamed;
+      uncleaned = early;
+      unwritten = keeps.unwritten;
+      not_back = keeps.not_back;
+      one_folder = not_in_two_folders one;
+      unused = keeps.one_file;
+      unmade = keeps.unmade;
+      in_time = in_time;
+    })
+
+    module _ (rest : KeepsRest t k x may) (none : NoneOverwritten (state t k) (state t (suc k))) where
+      keeps-clause : (b : Clause) → (may b → ⊥) → Breaks b h → ⊥
+      keeps-clause clause.NotADirectory not broken = rest.rightly broken
+      keeps-clause clause.Overwritten not broken = overwrites-nothing none broken
+      keeps-clause clause.SeenBeforeWhole not broken = keeps.whole broken
+      keeps-clause clause.Mixed not broken = mixed-done h keeps.unmixed broken
+      keeps-clause clause.NotFlushed not broken = rest.flushed not broken
+      keeps-clause clause.TwoNames not broken = no_two_names one broken
+      keeps-clause clause.Gone not broken = keeps.there broken
+      keeps-clause clause.UsedAgain not broken = keeps.unused not broken
+      keeps-clause clause.MovedBack not broken = keeps.in_place not broken
+      keeps-clause clause.CleanedEarly not broken = keeps.not_early not broken
+      keeps-clause clause.Unlisted not broken = rest.listed not broken
+      keeps-clause clause.GaveUp not broken = gives-up-nothing t k x broken
+      keeps-clause clause.AnsweredFalsely not broken = answers-nothing t k x broken
+
+      pub breaks-none : (b : Clause) → (may b → ⊥) → Breaks b (history t (suc k)) → ⊥
+      breaks-none b not broken = keeps-clause b not (subst (Breaks b) (history-next t k x is) broken)

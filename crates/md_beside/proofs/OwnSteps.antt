@@ -34,7 +34,7 @@ use Rattle.md_beside.specs.Beside.{IsStory}
 use Rattle.md_beside.proofs.OwnPath.{append-paths, after, number, created as made-file}
 use Rattle.md_beside.proofs.Fresh.{NeverThere, NeverUsed, IsWhole, StageFresh, never-next, whole-next, held-next}
 use Rattle.md_beside.proofs.Histories.{next_at, history-next, path-history}
-use Rattle.md_beside.proofs.KeepsPaths.{KeepsPaths, WritesOwn, IsOn, on-tmp, keeps-in_tmp, keeps-link, call-is}
+use Rattle.md_beside.proofs.KeepsPaths.{KeepsAll, WritesOwn, IsOn, on-tmp, keeps-in_tmp, keeps-link, call-is}
 use Rattle.md_beside.proofs.Replies.{IsNoReading}
 use Rattle.md_beside.proofs.StaysBeside.{IsMine, StageMine}
 
@@ -65,11 +65,11 @@ module _ (s : State) (p : Path) (now : ℕ) where
   unlink-itself reply.NotFound n there = there
   unlink-itself reply.Fault n there = there
 
-  named-others : (o : Option ℕ) (q : Path) → q ≢ p → file_at (with_path p s o) q ≡ file_at s q
+  pub named-others : (o : Option ℕ) (q : Path) → q ≢ p → file_at (with_path p s o) q ≡ file_at s q
   named-others None q differ = refl
   named-others (Some n) q differ = maps.beside_put path_total path_exact s.names p q n differ
 
-  named-itself : (o : Option ℕ) → file_at s p ≡ None → file_at (with_path p s o) p ≡ o
+  pub named-itself : (o : Option ℕ) → file_at s p ≡ None → file_at (with_path p s o) p ≡ o
   named-itself None free = free
   named-itself (Some n) free = maps.at_put path_total path_exact s.names p p n refl
 
@@ -103,7 +103,7 @@ module _ (t : Story) (story : IsStory t) (k job : ℕ) (x : Step) (is : step_at 
       ((q : Path) → q ≢ d.tmp → file_at (state t (suc k)) q ≡ file_at (state t k) q) →
       ((n : ℕ) → file_at (state t k) d.tmp ≡ Some n → (IsMaker (history t k) (t.actor job) n → ⊥) → ⊥) →
       ((n : ℕ) → file_at (state t (suc k)) d.tmp ≡ Some n → file_at (state t k) d.tmp ≢ Some n →
-      IsMaker (next_at t k x) (t.actor job) n × NeverUsed t k d.tmp.name) → KeepsPaths t k x d.tmp.name
+      IsMaker (next_at t k x) (t.actor job) n × NeverUsed t k d.tmp.name) → KeepsAll t k x d.tmp.name
   on-path a did on own other made makes = keeps-in_tmp t story k x is job who a did d.tmp in_tmp on own other made makes
 
   -- the create names a file that it makes
@@ -123,7 +123,7 @@ module _ (t : Story) (story : IsStory t) (k job : ℕ) (x : Step) (is : step_at 
   created-itself did unused never reply.Fault replied n now not =
       absurd (not (sym (paths (create d.tmp) reply.Fault did replied d.tmp) ∙ now))
 
-  creates : x.did ≡ asked (create d.tmp) → IsUnused (state t k) d.tmp.name → NeverUsed t k d.tmp.name → KeepsPaths t k x d.tmp.name
+  creates : x.did ≡ asked (create d.tmp) → IsUnused (state t k) d.tmp.name → NeverUsed t k d.tmp.name → KeepsAll t k x d.tmp.name
   creates did unused never = on-path (create d.tmp) did refl (λ n e writes. absurd (writes-nothing (create d.tmp) did tt n e writes))
       (λ q differ. paths (create d.tmp) x.reply did refl q ∙ create-others (state t k) d.tmp x.at.clock x.reply q differ)
       (λ n there not. let none = unused d.tmp (tmp-key d.tmp in_tmp) in cc)
@@ -131,7 +131,7 @@ module _ (t : Story) (story : IsStory t) (k job : ℕ) (x : Step) (is : step_at 
 
   unlinks : x.did ≡ asked (unlink d.tmp) →
       ((n : ℕ) → file_at (state t k) d.tmp ≡ Some n → (IsMaker (history t k) (t.actor job) n → ⊥) → ⊥) →
-      KeepsPaths t k x d.tmp.name
+      KeepsAll t k x d.tmp.name
   unlinks did made = on-path (unlink d.tmp) did refl (λ n e writes. absurd (writes-nothing (unlink d.tmp) did tt n e writes))
       (λ q differ. paths (unlink d.tmp) x.reply did refl q ∙ unlink-others (state t k) d.tmp x.at.clock x.reply q differ) made
       (λ n now not. absurd (not (unlink-itself (state t k) d.tmp x.at.clock x.reply n (sym (paths (unlink d.tmp) x.reply did refl d.tmp)
@@ -150,7 +150,7 @@ module _ (t : Story) (story : IsStory t) (k job : ℕ) (x : Step) (is : step_at 
         ((fresh n there).0, mine.made n there)
 
     appends : ((n : ℕ) → file_at (state t k) d.tmp ≡ Some n → IsWhole t k n) → (bytes : List ℕ) → x.did ≡ asked (append d.tmp bytes) →
-        KeepsPaths t k x d.tmp.name
+        KeepsAll t k x d.tmp.name
     appends fresh bytes did = on-path (append d.tmp bytes) did refl (own fresh bytes did)
         (λ q differ. paths (append d.tmp bytes) x.reply did refl q ∙ append-others (state t k) d.tmp x.at.clock bytes x.reply q) made
         (λ n now not. absurd (not (sym (paths (append d.tmp bytes) x.reply did refl d.tmp
@@ -169,12 +169,12 @@ module _ (t : Story) (story : IsStory t) (k job : ℕ) (x : Step) (is : step_at 
 
       refused : (r : DirReply) → x.reply ≡ r →
           ((q : Path) → file_at (after_did (asked (link d.tmp (target d))) x.at.clock r (state t k)) q ≡ file_at (state t k) q) →
-          KeepsPaths t k x d.tmp.name
+          KeepsAll t k x d.tmp.name
       refused r replied same = on-path (link d.tmp (target d)) did tt nothing
           (λ q differ. paths (link d.tmp (target d)) r did replied q ∙ same q) made
           (λ n now not. absurd (not (sym (paths (link d.tmp (target d)) r did replied d.tmp ∙ same d.tmp) ∙ now)))
 
-      links : (r : DirReply) → x.reply ≡ r → KeepsPaths t k x d.tmp.name
+      links : (r : DirReply) → x.reply ≡ r → KeepsAll t k x d.tmp.name
       links reply.Ok replied = keeps-link t story k x is job who (link d.tmp (target d)) did d.tmp in_tmp
           (target d) refl message unique.plain free
           (paths (link d.tmp (target d)) reply.Ok did replied (target d)
@@ -189,13 +189,13 @@ module _ (t : Story) (story : IsStory t) (k job : ℕ) (x : Step) (is : step_at 
   writing : (in_time more : Bool) (start from : ℕ) → StageFits (state t k) d (Writing start from) → IsMine t k job d.tmp →
       StageFresh t k job d.tmp (Writing start from) →
       x.did ≡ asked (cond in_time (cond more (append_turn d start from) (link_turn job d)) (unlink_turn d (refused_by TimedOut))).asked →
-      KeepsPaths t k x d.tmp.name
+      KeepsAll t k x d.tmp.name
   writing true true start from fits mine fresh did = appends mine fresh.1 (piece d from) did
   writing true false start from fits mine fresh did = links mine fits.1 fresh.0 fresh.1 did x.reply refl
   writing false more start from fits mine fresh did = unlinks did (made mine)
 
   pub keeps-paths : (stage : Stage) → StageFits (state t k) d stage → StageMine t k job d.tmp stage → StageFresh t k job d.tmp stage →
-      x.did ≡ asked (stage_turn job d x.at stage).asked → KeepsPaths t k x d.tmp.name
+      x.did ≡ asked (stage_turn job d x.at stage).asked → KeepsAll t k x d.tmp.name
   keeps-paths Start fits mine fresh did = creates did fits fresh.2
   keeps-paths (Writing start from) fits mine fresh did =
       writing (is_in_time start x.at.own) (nat_lt from (length d.body)) start from fits mine fresh did

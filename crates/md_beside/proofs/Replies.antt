@@ -1,7 +1,8 @@
 -- Clauses on replies, listings and answers: a step of ours that reads no directory breaks none.
-use Rattle.std.proofs.Common.{ℕ, ◌≡◌, ◌⊎◌, inl, inr, Bool, true, false, cond, List, Option, Some, None, refl, sym, ap, subst, ◌∙◌}
+use Rattle.std.proofs.Common.{ℕ, ◌≡◌, ◌⊎◌, inl, inr, Bool, true, false, cond, List, Option, Some, None, refl, sym, ap, subst, ◌∙◌, ◌==◌}
 use Rattle.std.specs.Str.{bytes_eq}
 use Rattle.md_dirs.specs.State.{State}
+use Rattle.md_dirs.specs.declared.paths.Place.TheVariants.{Tmp}
 use Rattle.md_dirs.specs.declared.calls.DirError.{DirError}
 use Rattle.md_dirs.specs.declared.calls.DirError.TheVariants as error
 use Rattle.md_jobs.specs.Asked.{Asked, create, append, link, rename, unlink, list, ask_of}
@@ -82,12 +83,31 @@ either : {A : Type 0} (b : Bool) (x y : A) → x ≡ y → cond b x y ≡ y
 either true x y same = same
 either false x y same = refl
 
-read-same : (h : History) (s : State) (a : Asked) (r : Reply) (y : Seen) (actor : List ℕ) (folder : ℕ) → IsNoReading a →
-    y.call ≡ call_seen s (asked a) r → read_of (next h y) actor folder ≡ read_of h actor folder
+tmp-reading : (s : State) (folder f : ℕ) (r : DirReply) (read : Read) →
+    with_call folder (call_seen s (asked (list f Tmp)) (reply_seen r)) read ≡ read
+tmp-reading s folder f reply.Ok read = either (f == folder) read read refl
+tmp-reading s folder f reply.Exists read = refl
+tmp-reading s folder f reply.NotFound read = refl
+tmp-reading s folder f reply.Fault read = refl
+
+read-same : (h : History) (y : Seen) (actor : List ℕ) (folder : ℕ) → ((read : Read) → with_call folder y.call read ≡ read) →
+    read_of (next h y) actor folder ≡ read_of h actor folder
 unfolding read_of
-read-same h s a r y actor folder plain call =
+read-same h y actor folder keeps =
     either (bytes_eq y.actor actor) (with_call folder y.call (read_of h actor folder)) (read_of h actor folder)
-    (ap (λ (c : Told). with_call folder c (read_of h actor folder)) call ∙ no-reading s folder a r (read_of h actor folder) plain)
+    (keeps (read_of h actor folder))
+
+-- a call that reads neither new nor cur completes no listing
+lists-neither : (t : Story) (k : ℕ) (x : Step) →
+    ((folder : ℕ) (read : Read) → with_call folder (call_seen (state t k) x.did (reply_seen x.reply)) read ≡ read) →
+    Unlisted (next_at t k x) → ⊥
+lists-neither t k x keeps (begun, actor, folder, unique, listing, there, shown) =
+    listing.more (sym (read-same (history t k) (step_seen t.actor (state t k) x) actor folder (keeps folder)) ∙ listing.ends)
+
+pub lists-tmp : (t : Story) (k : ℕ) (x : Step) (f : ℕ) → x.did ≡ asked (list f Tmp) → Unlisted (next_at t k x) → ⊥
+lists-tmp t k x f did = lists-neither t k x (λ folder read.
+    ap (λ (d : Did). with_call folder (call_seen (state t k) d (reply_seen x.reply)) read) did
+    ∙ tmp-reading (state t k) folder f x.reply read)
 
 -- ---- answers
 
@@ -123,9 +143,8 @@ module _ (t : Story) (story : IsStory t) (k : ℕ) (x : Step) (is : step_at t k 
       (subst (IsWrongCall (next_at t k x) actor) (sym (call-made t k x c call) ∙ made) wrong)
 
   pub lists-nothing : Unlisted (next_at t k x) → ⊥
-  lists-nothing (begun, actor, folder, unique, listing, there, shown) =
-      listing.more (sym (read-same (history t k) (state t k) a (reply_seen x.reply) (step_seen t.actor (state t k) x) actor folder plain made)
-      ∙ listing.ends)
+  lists-nothing = lists-neither t k x (λ folder read.
+      ap (λ (c : Told). with_call folder c read) made ∙ no-reading (state t k) folder a (reply_seen x.reply) read plain)
 
 -- no step of a story is an answer
 pub gives-up-nothing : (t : Story) (k : ℕ) (x : Step) → GaveUp (next_at t k x) → ⊥

@@ -1,5 +1,5 @@
 -- A run of our jobs is a story, in which no other program takes a step.
-use Rattle.std.proofs.Common.{ℕ, zero, suc, ◌≡◌, ◌≢◌, ◌≤◌, ◌+◌, ◌⊎◌, inl, inr, List, [], ◌∷◌, Option, Some, None, Bool, cond, refl, sym, ap, subst, ◌∙◌, arith, length, map, take, slice_get}
+use Rattle.std.proofs.Common.{ℕ, zero, suc, ◌≡◌, ◌≢◌, ◌≤◌, ◌+◌, ◌⊎◌, List, [], ◌∷◌, Option, Some, None, Bool, cond, refl, sym, ap, subst, ◌∙◌, arith, length, map, take, slice_get}
 use Rattle.std.proofs.lemmas.List.{take-map, length-map, take_all}
 use Rattle.std.proofs.lemmas.Option.{slice_get-map}
 use Rattle.std.specs.Option.{option_map}
@@ -11,7 +11,6 @@ use Rattle.md_jobs.specs.Asked.{ask_of, reply_by, state_by}
 use Rattle.md_jobs.specs.Turn.{After, rows_for}
 use Rattle.md_jobs.specs.declared.call.Call.{Call}
 use Rattle.md_jobs.specs.declared.step.DirReply.TheVariants as reply
-use Rattle.md_core.specs.Interleaving.{IsDelivery}
 use Rattle.md_core.specs.Machine.{Machine, Standing, working, job_at, new_job, turn_of}
 use Rattle.md_core.specs.Runs.{Run, machine_at, stamp_of}
 use Rattle.md_core.specs.Stepping.{IsRun}
@@ -29,14 +28,13 @@ use Rattle.md_core.proofs.Traces.Same.{state-same, many-steps}
 use Rattle.md_core.proofs.Traces.Stands.{turn-of}
 use Rattle.md_core.proofs.Worlds.Loading.Loaded.{first-clock}
 use Rattle.md_log.specs.declared.clause.Clause.{Clause}
-use Rattle.md_log.specs.declared.clause.Clause.TheVariants as clause
 use Rattle.md_law.specs.Law.{Breaks}
 use Rattle.md_beside.specs.Story.{Story, Step, ours, another, asked, step_at, state, state_after, history, standing, standing_from, standing_after, is_by, IsTurn}
 use Rattle.md_beside.specs.Beside.{IsStory, reply_due}
-use Rattle.md_beside.specs.Changing.{IsChange}
+use Rattle.md_beside.specs.Jobs.{MayBreak}
 use Rattle.md_beside.specs.Runs.{step_told, story_of, AreNames}
 use Rattle.md_beside.proofs.Acting.{standing-more, itself, not-by}
-use Rattle.md_beside.proofs.Deliveries.{keep-promises}
+use Rattle.md_beside.proofs.Jobs.{keep-promises}
 
 -- the directories after some steps of a run, as the story has them
 told-after : (s : State) (steps : List Taken) → state_after s (map step_told steps) ≡ trace.state_after s steps
@@ -213,26 +211,13 @@ module _ (r : Run) (actor : ℕ → List ℕ) (run : IsRun r) (names : AreNames 
     foreign = λ k job x name is who. absurd (no-other k x name is who);
   }
 
-  pub both-lawful : ((i : ℕ) (c : Call) → slice_get r.calls i ≡ Some c → IsDelivery c ⊎ IsChange c) → (k : ℕ) (x : Step) (b : Clause) →
-      step_at t k ≡ Some x → b ≢ clause.NotFlushed → Breaks b (history t (suc k)) → ⊥
-  both-lawful kinds k x b is but broken =
-      let y = taken k x is in
-      let who : x.who ≡ ours y.0.job = ap (λ (z : Step). z.who) (sym y.2) in
-      let turned = turns k y.0.job x is who in
-      let promises = keep-promises t is-story
-      (λ n i z name c u at by. absurd (no-other n z name at by))
-      (λ n z name at by. absurd (no-other n z name at by))
-      (λ n job z c at by of. each job c of)
-      y.0.job turned.call turned.of in
-      elim (each y.0.job turned.call turned.of) [
-        | inl delivery ↦ (promises.0 delivery).lawful k x b is who but broken
-        | inr change ↦ (promises.1 change).lawful k x b is who broken
-      ]
-    where
-      each : (job : ℕ) (c : Call) → call_at r.calls job ≡ Some c → IsDelivery c ⊎ IsChange c
-      each zero c of = cc
-      each (suc i) c of = kinds i c of
-
-  pub are-lawful : ((i : ℕ) (c : Call) → slice_get r.calls i ≡ Some c → IsDelivery c) → (k : ℕ) (x : Step) (b : Clause) →
-      step_at t k ≡ Some x → b ≢ clause.NotFlushed → Breaks b (history t (suc k)) → ⊥
-  are-lawful deliveries = both-lawful (λ i c of. inl (deliveries i c of))
+  pub are-lawful : (k job : ℕ) (x : Step) (c : Call) (b : Clause) → step_at t k ≡ Some x → x.who ≡ ours job →
+      call_at r.calls job ≡ Some c → (MayBreak t c b → ⊥) → Breaks b (history t (suc k)) → ⊥
+  are-lawful k job x c b is who of not =
+      (keep-promises t is-story
+      (λ n job' z name c' u at by. absurd (no-other n z name at by))
+      (record {
+        to_jobs = λ n z name at by. absurd (no-other n z name at by);
+        to_deliveries = λ job' c' of' works delivery n z name at by. absurd (no-other n z name at by);
+      })
+      job c of (k, record { step = x; at = is; own = who })).lawful k x b is who not

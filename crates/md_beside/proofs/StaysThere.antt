@@ -1,10 +1,11 @@
--- The file of a delivery is there while the delivery is in time, if clocks are no more than 4 hours apart and others leave young files.
+-- If clocks are no more than 4 hours apart, the file of a delivery is young while the delivery is in time; and it is there if others leave
+-- young files.
 use Rattle.std.proofs.Common.{ℕ, suc, ◌≡◌, ◌≢◌, ◌<◌, ◌≤◌, ◌+◌, ◌-◌, ◌⊎◌, inl, inr, ◌++◌, [], List, Option, Some, None, Bool, true, false, cond, nat_lt, is_some, refl, sym, ap, subst, ◌∙◌, arith, length}
 use Rattle.std.proofs.lemmas.Bool.{cases_lt}
 use Rattle.std.proofs.lemmas.Bool.Decides.{nat_tests}
 use Rattle.lists.proofs.Maps as maps
 use Rattle.md_dirs.proofs.PathOrder.{path_total, path_exact}
-use Rattle.md_dirs.proofs.Sound.{number-within, file_by-last, file_by-set_same}
+use Rattle.md_dirs.proofs.Sound.{some_file, number-within, file_by-last, file_by-set_same}
 use Rattle.md_dirs.specs.State.{State, IsSound, file_at, file_by, has_folder}
 use Rattle.md_dirs.specs.Calls.{empty_file, file_with_more, after_append}
 use Rattle.md_dirs.specs.declared.calls.DirError.TheVariants.{Exists, NotFound}
@@ -36,26 +37,35 @@ use Rattle.md_beside.proofs.Histories.{next_at, state-more, history-next, at-his
 use Rattle.md_beside.proofs.KeepsPaths.{on-tmp}
 use Rattle.md_beside.proofs.KeptBytes.{kept-file}
 use Rattle.md_beside.proofs.Others.{IsOther}
-use Rattle.md_beside.proofs.OwnPath.{after}
+use Rattle.md_beside.proofs.OwnPath.{append-paths, after}
 use Rattle.md_beside.proofs.OwnSteps.{IsNoWrite, writes-nothing}
 use Rattle.md_beside.proofs.StaysBeside.{IsMine, StageMine, before, named, not-its}
 use Rattle.md_beside.proofs.WithoutBytes.{file-bare}
 
--- the file is there, and no older than the delivery, but for the 4 hours; or the delivery is out of time by any of our clocks
-abbrev pub IsThere : Story → ℕ → Path → ℕ → Type 0
-IsThere t k tmp start = (n : ℕ) × (file : File) × (file_at (state t k) tmp ≡ Some n) × (file_by (state t k).files n ≡ Some file)
-    × (start ≤ file.stamp + 14400)
+-- the file is no older than the delivery, but for the 4 hours, where it is there
+abbrev IsYoung : Story → ℕ → Path → ℕ → Type 0
+IsYoung t k tmp start = (n : ℕ) (file : File) → file_at (state t k) tmp ≡ Some n → file_by (state t k).files n ≡ Some file
+    → start ≤ file.stamp + 14400
+
+-- it is there; or the delivery is out of time by any of our clocks
+abbrev pub IsThere : Story → ℕ → Path → Type 0
+IsThere t k tmp = (n : ℕ) × (file_at (state t k) tmp ≡ Some n)
 
 abbrev pub IsLate : Story → ℕ → ℕ → Type 0
 IsLate t k start = start + 100800 ≤ now (history t k)
 
+-- nobody takes a young file of tmp
+abbrev pub IsSpared : Story → Type 0
+IsSpared t = (k : ℕ) (x : Step) → step_at t k ≡ Some x → CleanedEarly (next_at t k x) → ⊥
+
 abbrev pub StageThere : Story → ℕ → Path → Stage → Type 0
-StageThere t k tmp (Writing start from) = (start ≤ now (history t k) + 14400) × (IsThere t k tmp start ⊎ IsLate t k start)
+StageThere t k tmp (Writing start from) = (start ≤ now (history t k) + 14400) × IsYoung t k tmp start
+    × (IsSpared t → IsThere t k tmp ⊎ IsLate t k start)
 StageThere t k tmp (Undo refusal) = refused_by refusal ≢ answer.TmpGone
 StageThere t k tmp stage = Unit {0}
 
 module _ (t : Story) (story : IsStory t) (k : ℕ) (x : Step) (is : step_at t k ≡ Some x) where
-  clock-at : now (history t (suc k)) ≡ x.at.clock
+  pub clock-at : now (history t (suc k)) ≡ x.at.clock
   clock-at = ap (λ (h : History). now h) (history-next t k x is) ∙ clock-next t story k x is
 
   late-next : (start : ℕ) → IsLate t k start → IsLate t (suc k) start
@@ -69,15 +79,12 @@ module _ (t : Story) (story : IsStory t) (k : ℕ) (x : Step) (is : step_at t k 
   -- ---- a step of another
 
   module _ (job : ℕ) (tmp : Path) (place : tmp.place ≡ Tmp) (other : IsOther t k x job tmp.name) (sound : IsSound (state t k))
-      (mine : IsMine t k job tmp) (spares : CleanedEarly (next_at t k x) → ⊥) (start : ℕ) where
+      (mine : IsMine t k job tmp) (start : ℕ) (young : IsYoung t k tmp start) where
     -- the file stays as it was if it stays there
-    there-still : IsThere t k tmp start → (m : ℕ) → file_at (state t (suc k)) tmp ≡ Some m → IsThere t (suc k) tmp start
-    there-still (n, file, was, by, young) m now-there =
-        let both : Some m ≡ Some n = sym (before t story k x is job tmp other place sound mine m now-there) ∙ was in
-        let one : m ≡ n = cc in
-        let here : file_at (state t (suc k)) tmp ≡ Some n = now-there ∙ ap Some one in
+    file-still : (n : ℕ) → file_at (state t (suc k)) tmp ≡ Some n → file_by (state t (suc k)).files n ≡ file_by (state t k).files n
+    file-still n there =
+        let was = before t story k x is job tmp other place sound mine n there in
         let more = state-more t.image t.steps k x is in
-        let kept : file_by (state t (suc k)).files n ≡ file_by (state t k).files n =
         ap (λ (s : State). file_by s.files n) more
         ∙ kept-file (state t k) n (number-within (state t k) sound tmp n was) x.did x.at.clock x.reply
         (λ p e call answered at. other.owes.unmixed (
@@ -87,48 +94,59 @@ module _ (t : Story) (story : IsStory t) (k : ℕ) (x : Step) (is : step_at t k 
           (e, answered, (p, (step_seen t.actor (state t k) x, refl, call), path-history t story k p ∙ at)),
           not-its t story k x is job tmp other place sound mine n was,
         ))
-        tmp (sym (ap (λ (s : State). file_at s tmp) more) ∙ here) in
-        (n, file, here, kept ∙ by, young)
+        tmp (sym (ap (λ (s : State). file_at s tmp) more) ∙ there)
 
-    -- and if it goes, it was not young
-    gone-late : IsThere t k tmp start → file_at (state t (suc k)) tmp ≡ None → IsLate t (suc k) start
-    gone-late (n, file, was, by, young) gone = elim (cases_lt (now (next_at t k x) - file.stamp) 129600) [
-      | inl early ↦ absurd (spares (
-        other.actor,
-        tmp,
-        n,
-        record file { bytes = [] },
-        other.by,
-        place,
-        (path-history t story k tmp ∙ was, λ still. let none = path-next t story k x is tmp ∙ gone in cc),
-        λ (seen : IsSeen (at (next_at t k x)) n). named t story k x is job tmp other place sound mine seen.0 n was
-            (sym (path-next t story k x is seen.0) ∙ seen.1)
-            (λ here. not_tmp seen.0 tmp place seen.2 (mine.only.of_file n seen.0 was here)),
-        not-its t story k x is job tmp other place sound mine n was,
-        ap (λ (s : State). file_by s.files n) (at-history t story k) ∙ file-bare (state t k).files n ∙ ap bare_file by,
-        early,
-      ))
-      | inr old ↦
-          let clock : now (history t (suc k)) ≡ now (next_at t k x) = ap (λ (h : History). now h) (history-next t k x is) in
-          omega (arith, old, young, clock)
-    ]
+    young-still : IsYoung t (suc k) tmp start
+    young-still n file there by =
+        young n file (before t story k x is job tmp other place sound mine n there) (sym (file-still n there) ∙ by)
 
-    there-next : IsThere t k tmp start ⊎ IsLate t k start → IsThere t (suc k) tmp start ⊎ IsLate t (suc k) start
-    there-next (inr late) = inr (late-next start late)
-    there-next (inl there) = by (file_at (state t (suc k)) tmp) refl
-      where
-        by : (o : Option ℕ) → file_at (state t (suc k)) tmp ≡ o → IsThere t (suc k) tmp start ⊎ IsLate t (suc k) start
-        by (Some m) here = inl (there-still there m here)
-        by None gone = inr (gone-late there gone)
+    module _ (spares : CleanedEarly (next_at t k x) → ⊥) where
+      -- if it goes, it was not young
+      gone-late : IsThere t k tmp → file_at (state t (suc k)) tmp ≡ None → IsLate t (suc k) start
+      gone-late (n, was) gone = elim (cases_lt (now (next_at t k x) - here.0.stamp) 129600) [
+        | inl early ↦ absurd (spares (
+          other.actor,
+          tmp,
+          n,
+          record here.0 { bytes = [] },
+          other.by,
+          place,
+          (path-history t story k tmp ∙ was, λ still. let none = path-next t story k x is tmp ∙ gone in cc),
+          λ (seen : IsSeen (at (next_at t k x)) n). named t story k x is job tmp other place sound mine seen.0 n was
+              (sym (path-next t story k x is seen.0) ∙ seen.1)
+              (λ there. not_tmp seen.0 tmp place seen.2 (mine.only.of_file n seen.0 was there)),
+          not-its t story k x is job tmp other place sound mine n was,
+          ap (λ (s : State). file_by s.files n) (at-history t story k) ∙ file-bare (state t k).files n ∙ ap bare_file here.1,
+          early,
+        ))
+        | inr old ↦
+            let clock : now (history t (suc k)) ≡ now (next_at t k x) = ap (λ (h : History). now h) (history-next t k x is) in
+            let low = young n here.0 was here.1 in
+            omega (arith, old, low, clock)
+      ]
+        where
+          here : (file : File) × (file_by (state t k).files n ≡ Some file)
+          here = some_file (file_by (state t k).files n) (sound.filed tmp n was)
+
+      there-next : IsThere t k tmp ⊎ IsLate t k start → IsThere t (suc k) tmp ⊎ IsLate t (suc k) start
+      there-next (inr late) = inr (late-next start late)
+      there-next (inl there) = by (file_at (state t (suc k)) tmp) refl
+        where
+          by : (o : Option ℕ) → file_at (state t (suc k)) tmp ≡ o → IsThere t (suc k) tmp ⊎ IsLate t (suc k) start
+          by (Some m) here = inl (m, here)
+          by None gone = inr (gone-late there gone)
 
   pub there-stays : (job : ℕ) (tmp : Path) (place : tmp.place ≡ Tmp) (other : IsOther t k x job tmp.name) (sound : IsSound (state t k)) →
-      (CleanedEarly (next_at t k x) → ⊥) → (stage : Stage) → StageMine t k job tmp stage → StageThere t k tmp stage →
+      (stage : Stage) → StageMine t k job tmp stage → StageThere t k tmp stage →
       StageThere t (suc k) tmp stage
-  there-stays job tmp place other sound spares Start mine there = tt
-  there-stays job tmp place other sound spares (Writing start from) mine (begun, there) =
-      (begun-next start begun, there-next job tmp place other sound mine spares start there)
-  there-stays job tmp place other sound spares Linked mine there = tt
-  there-stays job tmp place other sound spares (Undo refusal) mine there = there
+  there-stays job tmp place other sound Start mine there = tt
+  there-stays job tmp place other sound (Writing start from) mine (begun, young, there) = (
+    begun-next start begun,
+    young-still job tmp place other sound mine start young,
+    λ spare. there-next job tmp place other sound mine start young (spare k x is) (there spare),
+  )
+  there-stays job tmp place other sound Linked mine there = tt
+  there-stays job tmp place other sound (Undo refusal) mine there = there
 
   -- ---- a step of its own
 
@@ -142,33 +160,46 @@ module _ (t : Story) (story : IsStory t) (k : ℕ) (x : Step) (is : step_at t k 
     no-late a did none late = let writes = late.2 in
         writes-nothing t story k job x is who sound d in_tmp unique a did none late.0 writes.0 writes.2
 
-    created : x.did ≡ asked (create d.tmp) → x.reply ≡ reply.Ok → IsThere t (suc k) d.tmp x.at.own
-    created did ok =
-        let after-it = path-after (create d.tmp) reply.Ok did ok in (
-          length (state t k).files,
-          empty_file x.at.clock,
-          ap (λ (s : State). file_at s d.tmp) after-it ∙ maps.at_put path_total path_exact (state t k).names d.tmp d.tmp
-              (length (state t k).files) refl,
-          ap (λ (s : State). file_by s.files (length (state t k).files)) after-it
-              ∙ file_by-last (state t k).files (Some (empty_file x.at.clock)),
-          apart.0,
-        )
+    module _ (did : x.did ≡ asked (create d.tmp)) (ok : x.reply ≡ reply.Ok) where
+      created : file_at (state t (suc k)) d.tmp ≡ Some (length (state t k).files)
+      created = ap (λ (s : State). file_at s d.tmp) (path-after (create d.tmp) reply.Ok did ok)
+          ∙ maps.at_put path_total path_exact (state t k).names d.tmp d.tmp (length (state t k).files) refl
 
-    appended : (bytes : List ℕ) (start : ℕ) → x.did ≡ asked (append d.tmp bytes) → x.reply ≡ reply.Ok → start ≤ now (history t k) + 14400 →
-        IsThere t k d.tmp start → IsThere t (suc k) d.tmp start
-    appended bytes start did ok begun (n, file, was, by, young) =
-        let after-it = path-after (append d.tmp bytes) reply.Ok did ok
-        ∙ ap (after_append bytes x.at.clock (state t k)) was in
-        let rises = clock-before t story k x is in (
-          n,
-          record { bytes = file.bytes ++ bytes; stamp = x.at.clock },
-          ap (λ (s : State). file_at s d.tmp) after-it ∙ was,
-          ap (λ (s : State). file_by s.files n) after-it
-              ∙ file_by-set_same (state t k).files n (file_with_more bytes x.at.clock (file_by (state t k).files n))
-              (number-within (state t k) sound d.tmp n was)
-              ∙ ap (file_with_more bytes x.at.clock) by,
-          omega (arith, begun, rises),
-        )
+      created-young : IsYoung t (suc k) d.tmp x.at.own
+      created-young n file there by =
+          let both : Some n ≡ Some (length (state t k).files) = sym there ∙ created in
+          let one : n ≡ length (state t k).files = cc in
+          let made : Some file ≡ Some (empty_file x.at.clock) =
+          sym by ∙ ap (λ (m : ℕ). file_by (state t (suc k)).files m) one
+          ∙ ap (λ (s : State). file_by s.files (length (state t k).files)) (path-after (create d.tmp) reply.Ok did ok)
+          ∙ file_by-last (state t k).files (Some (empty_file x.at.clock)) in
+          let stamp : file.stamp ≡ x.at.clock = (let same : file ≡ empty_file x.at.clock = cc in ap (λ (f : File). f.stamp) same) in
+          let low = apart.0 in
+          omega (arith, stamp, low)
+
+    module _ (bytes : List ℕ) (did : x.did ≡ asked (append d.tmp bytes)) (ok : x.reply ≡ reply.Ok) where
+      appended : file_at (state t (suc k)) d.tmp ≡ file_at (state t k) d.tmp
+      appended = ap (λ (s : State). file_at s d.tmp) (path-after (append d.tmp bytes) reply.Ok did ok)
+          ∙ append-paths bytes x.at.clock (state t k) (file_at (state t k) d.tmp) d.tmp
+
+      appended-young : (start : ℕ) → start ≤ now (history t k) + 14400 → IsYoung t (suc k) d.tmp start
+      appended-young start begun n file there by =
+          let was : file_at (state t k) d.tmp ≡ Some n = sym appended ∙ there in
+          let here = some_file (file_by (state t k).files n) (sound.filed d.tmp n was) in
+          let after-it = path-after (append d.tmp bytes) reply.Ok did ok
+          ∙ ap (after_append bytes x.at.clock (state t k)) was in
+          let written : Some file ≡ Some (record { bytes = here.0.bytes ++ bytes; stamp = x.at.clock }) =
+          sym by ∙ ap (λ (s : State). file_by s.files n) after-it
+          ∙ file_by-set_same (state t k).files n (file_with_more bytes x.at.clock (file_by (state t k).files n))
+          (number-within (state t k) sound d.tmp n was)
+          ∙ ap (file_with_more bytes x.at.clock) here.1 in
+          let stamp : file.stamp ≡ x.at.clock =
+          (let same : file ≡ record { bytes = here.0.bytes ++ bytes; stamp = x.at.clock } = cc in ap (λ (f : File). f.stamp) same) in
+          let rises = clock-before t story k x is in
+          omega (arith, begun, rises, stamp)
+
+      appended-there : IsThere t k d.tmp → IsThere t (suc k) d.tmp
+      appended-there (n, was) = (n, appended ∙ was)
 
     -- after a turn with which the delivery goes on
     abbrev Goes : Turn Delivery → DirReply → Type 0
@@ -177,9 +208,14 @@ module _ (t : Story) (story : IsStory t) (k : ℕ) (x : Step) (is : step_at t k 
 
     goes-writing : (in_time more : Bool) (start from : ℕ) → StageThere t k d.tmp (Writing start from) → (r : DirReply) → x.reply ≡ r →
         Goes (cond in_time (cond more (append_turn d start from) (link_turn job d)) (unlink_turn d (refused_by TimedOut))) r
-    goes-writing true true start from (begun, inl there) reply.Ok ok did on =
-        (begun-next start begun, inl (appended (piece d from) start did ok begun there))
-    goes-writing true true start from (begun, inr late) reply.Ok ok did on = (begun-next start begun, inr (late-next start late))
+    goes-writing true true start from (begun, young, there) reply.Ok ok did on = (
+      begun-next start begun,
+      appended-young (piece d from) did ok start begun,
+      λ spare. elim (there spare) [
+        | inl here ↦ inl (appended-there (piece d from) did ok here)
+        | inr late ↦ inr (late-next start late)
+      ],
+    )
     goes-writing true true start from there reply.Exists ok did on = cc
     goes-writing true true start from there reply.NotFound ok did on = cc
     goes-writing true true start from there reply.Fault ok did on = λ e. cc
@@ -191,7 +227,8 @@ module _ (t : Story) (story : IsStory t) (k : ℕ) (x : Step) (is : step_at t k 
 
     pub there-goes : (stage : Stage) → StageThere t k d.tmp stage → (r : DirReply) → x.reply ≡ r → Goes (stage_turn job d x.at stage) r
     there-goes Start there reply.Ok ok did on =
-        let same = clock-at in let low = apart.0 in (omega (arith, same, low), inl (created did ok))
+        let same = clock-at in let low = apart.0 in
+        (omega (arith, same, low), created-young did ok, λ spare. inl (length (state t k).files, created did ok))
     there-goes Start there reply.Exists ok did on = cc
     there-goes Start there reply.NotFound ok did on = cc
     there-goes Start there reply.Fault ok did on = cc
@@ -203,9 +240,9 @@ module _ (t : Story) (story : IsStory t) (k : ℕ) (x : Step) (is : step_at t k 
     -- ---- no answer that it was gone
 
     -- in time the file is there
-    in-time : (start from : ℕ) → is_in_time start x.at.own ≡ true → StageThere t k d.tmp (Writing start from) → IsThere t k d.tmp start
-    in-time start from timely (begun, inl there) = there
-    in-time start from timely (begun, inr late) =
+    in-time : (start : ℕ) → is_in_time start x.at.own ≡ true → IsThere t k d.tmp ⊎ IsLate t k start → IsThere t k d.tmp
+    in-time start timely (inl there) = there
+    in-time start timely (inr late) =
         let rises = clock-before t story k x is in
         let low = apart.1 in
         let less : x.at.own - start < 86400 = grind (arith, nat_tests, timely) in
@@ -244,18 +281,17 @@ module _ (t : Story) (story : IsStory t) (k : ℕ) (x : Step) (is : step_at t k 
     writes-young : (start from : ℕ) → is_in_time start x.at.own ≡ true → StageThere t k d.tmp (Writing start from) →
         x.did ≡ asked (append d.tmp (piece d from)) → WrittenLate (next_at t k x) → ⊥
     writes-young start from timely there did (n, file, writes, by, late) =
-        let here = in-time start from timely there in
         let on = on-tmp t story k x is job who
         (append d.tmp (piece d from)) did d.tmp in_tmp refl deed.Write writes.2.0 writes.0 writes.2.1 in
         let was : file_at (state t k) d.tmp ≡ Some n = ap (file_at (state t k)) (sym on) ∙ sym (path-history t story k writes.2.0)
         ∙ writes.2.2 in
-        let one : here.0 ≡ n = (let both : Some here.0 ≡ Some n = sym here.2 ∙ was in cc) in
+        let here = some_file (file_by (state t k).files n) (sound.filed d.tmp n was) in
         let bare : bare_file (file_by (state t k).files n) ≡ Some file =
         sym (ap (λ (s : State). file_by s.files n) (at-history t story k) ∙ file-bare (state t k).files n) ∙ by in
-        let its : bare_file (Some here.1) ≡ Some file = ap bare_file (sym (ap (file_by (state t k).files) (sym one) ∙ here.3)) ∙ bare in
-        let stamp : here.1.stamp ≡ file.stamp = (let e : record here.1 { bytes = [] } ≡ file = cc in ap (λ (f : File). f.stamp) e) in
+        let its : bare_file (Some here.0) ≡ Some file = ap bare_file (sym here.1) ∙ bare in
+        let stamp : here.0.stamp ≡ file.stamp = (let e : record here.0 { bytes = [] } ≡ file = cc in ap (λ (f : File). f.stamp) e) in
         let less : x.at.own - start < 86400 = grind (arith, nat_tests, timely) in
-        let young = here.4 in
+        let young = there.1 n here.0 was here.1 in
         let clock = clock-next t story k x is in
         let low = apart.1 in
         omega (arith, late, stamp, less, young, clock, low)
@@ -280,29 +316,30 @@ module _ (t : Story) (story : IsStory t) (k : ℕ) (x : Step) (is : step_at t k 
     abbrev Ends : Turn Delivery → DirReply → Type 0
     Ends turn r = x.did ≡ asked turn.asked → (turn.follows r rows).answer ≡ Some answer.TmpGone → ⊥
 
-    ends-writing : (in_time more : Bool) (start from : ℕ) → is_in_time start x.at.own ≡ in_time →
-        StageThere t k d.tmp (Writing start from) →
-        (r : DirReply) → x.reply ≡ r →
-        Ends (cond in_time (cond more (append_turn d start from) (link_turn job d)) (unlink_turn d (refused_by TimedOut))) r
-    ends-writing true true start from timely there reply.Ok ok did gone = cc
-    ends-writing true true start from timely there reply.Exists ok did gone = cc
-    ends-writing true true start from timely there reply.NotFound ok did gone =
-        let here = in-time start from timely there in
-        append-found (piece d from) here.0 here.2 (due (append d.tmp (piece d from)) did ok)
-    ends-writing true true start from timely there reply.Fault ok did gone = cc
-    ends-writing true false start from timely there reply.Ok ok did gone = cc
-    ends-writing true false start from timely there reply.Exists ok did gone = cc
-    ends-writing true false start from timely there reply.NotFound ok did gone =
-        let here = in-time start from timely there in link-found here.0 here.2 (due (link d.tmp (target d)) did ok)
-    ends-writing true false start from timely there reply.Fault ok did gone = cc
-    ends-writing false more start from timely there r ok did gone = cc
+    module _ (spare : IsSpared t) where
+      ends-writing : (in_time more : Bool) (start from : ℕ) → is_in_time start x.at.own ≡ in_time →
+          StageThere t k d.tmp (Writing start from) →
+          (r : DirReply) → x.reply ≡ r →
+          Ends (cond in_time (cond more (append_turn d start from) (link_turn job d)) (unlink_turn d (refused_by TimedOut))) r
+      ends-writing true true start from timely there reply.Ok ok did gone = cc
+      ends-writing true true start from timely there reply.Exists ok did gone = cc
+      ends-writing true true start from timely there reply.NotFound ok did gone =
+          let here = in-time start timely (there.2 spare) in
+          append-found (piece d from) here.0 here.1 (due (append d.tmp (piece d from)) did ok)
+      ends-writing true true start from timely there reply.Fault ok did gone = cc
+      ends-writing true false start from timely there reply.Ok ok did gone = cc
+      ends-writing true false start from timely there reply.Exists ok did gone = cc
+      ends-writing true false start from timely there reply.NotFound ok did gone =
+          let here = in-time start timely (there.2 spare) in link-found here.0 here.1 (due (link d.tmp (target d)) did ok)
+      ends-writing true false start from timely there reply.Fault ok did gone = cc
+      ends-writing false more start from timely there r ok did gone = cc
 
-    pub never-gone : (stage : Stage) → StageThere t k d.tmp stage → (r : DirReply) → x.reply ≡ r → Ends (stage_turn job d x.at stage) r
-    never-gone Start there reply.Ok ok did gone = cc
-    never-gone Start there reply.Exists ok did gone = cc
-    never-gone Start there reply.NotFound ok did gone = cc
-    never-gone Start there reply.Fault ok did gone = cc
-    never-gone (Writing start from) there r ok did gone =
-        ends-writing (is_in_time start x.at.own) (nat_lt from (length d.body)) start from refl there r ok did gone
-    never-gone Linked there r ok did gone = cc
-    never-gone (Undo refusal) there r ok did gone = there (let same : refused_by refusal ≡ answer.TmpGone = cc in same)
+      pub never-gone : (stage : Stage) → StageThere t k d.tmp stage → (r : DirReply) → x.reply ≡ r → Ends (stage_turn job d x.at stage) r
+      never-gone Start there reply.Ok ok did gone = cc
+      never-gone Start there reply.Exists ok did gone = cc
+      never-gone Start there reply.NotFound ok did gone = cc
+      never-gone Start there reply.Fault ok did gone = cc
+      never-gone (Writing start from) there r ok did gone =
+          ends-writing (is_in_time start x.at.own) (nat_lt from (length d.body)) start from refl there r ok did gone
+      never-gone Linked there r ok did gone = cc
+      never-gone (Undo refusal) there r ok did gone = there (let same : refused_by refusal ≡ answer.TmpGone = cc in same)

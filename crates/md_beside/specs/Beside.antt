@@ -1,27 +1,27 @@
--- What our jobs are to promise beside other programs, whatever these are, as long as the others do what they owe: the aim. It is proved of
--- deliveries (Delivery), and of jobs that change a message where it is (Changing).
-use Rattle.std.specs.Prelude.{ℕ, suc, ◌+◌, ◌≡◌, ◌≢◌, ◌≤◌, ◌⊎◌, List, Some, None, true, false, take, slice_get, is_some, if◌then◌else◌}
+-- The words of the law of our jobs beside other programs (Jobs): which stories there are, what programs owe one another, how a job acts,
+-- and what its answer says.
+use Rattle.std.specs.Prelude.{ℕ, suc, ◌+◌, ◌-◌, ◌≡◌, ◌≢◌, ◌≤◌, ◌<◌, ◌⊎◌, List, Some, None, true, false, take, slice_get, is_some, if◌then◌else◌}
 use Rattle.md_dirs.specs.State.{State, IsSound, file_at, file_by}
 use Rattle.md_dirs.specs.declared.paths.Path.{Path}
+use Rattle.md_dirs.specs.declared.paths.Place.TheVariants.{Tmp}
 use Rattle.md_jobs.specs.Asked.{reply_by, ask_of}
 use Rattle.md_jobs.specs.declared.answer.Answer.{Answer}
 use Rattle.md_jobs.specs.declared.answer.Answer.TheVariants as answer
 use Rattle.md_jobs.specs.declared.call.Call.{Call}
+use Rattle.md_jobs.specs.declared.call.Call.TheVariants as call
 use Rattle.md_jobs.specs.declared.effect.Effect.{Effect}
 use Rattle.md_jobs.specs.declared.step.DirReply.{DirReply}
 use Rattle.md_jobs.specs.declared.step.DirReply.TheVariants as reply
-use Rattle.md_core.specs.Mailbox.{Entry, HasOnePath}
+use Rattle.md_name.specs.Names.{unique_of}
+use Rattle.md_core.specs.Mailbox.{Entry, HasOnePath, is_message}
 use Rattle.md_core.specs.Alone.{alone}
 use Rattle.md_core.specs.Accepting.{IsAccepted, MakesMessage, name_used}
 use Rattle.md_core.specs.Interleaving.{is_success, IsDeliveryOf}
 use Rattle.md_core.specs.Trace.{call_at}
-use Rattle.md_log.specs.declared.clause.Clause.{Clause}
-use Rattle.md_log.specs.declared.clause.Clause.TheVariants as clause
 use Rattle.md_law.specs.Clauses as law
 use Rattle.md_law.specs.History.{History}
-use Rattle.md_law.specs.Law.{Breaks}
 use Rattle.md_law.specs.Owed as owed
-use Rattle.md_beside.specs.Story.{Story, Step, ours, another, Did, asked, wrote, flushed, step_at, state, box, IsTurn, history}
+use Rattle.md_beside.specs.Story.{Story, Step, ours, another, Did, asked, wrote, flushed, step_at, state, box, IsTurn}
 
 -- ---- the premises
 
@@ -52,15 +52,26 @@ abbrev pub BringsAbout : Story → ℕ → List ℕ → Type 0
 BringsAbout t k u = (p : Path) × (n : ℕ) × (name_used p ≡ u) × (file_at (state t (suc k)) p ≡ Some n)
     × ((q : Path) → name_used q ≡ u → file_at (state t k) q ≡ Some n → ⊥)
 
+-- the job's own step k
+pub record IsStepOf (t : Story) (job k : ℕ) : Type 0 where
+  pub step : Step
+  pub at : step_at t k ≡ Some step
+  pub own : step.who ≡ ours job
+
+-- the job takes a step
+abbrev pub IsAtWork : Story → ℕ → Type 0
+IsAtWork t job = (k : ℕ) × IsStepOf t job k
+
 -- The names that our deliveries and copies make are ours: nobody else brings one about. `unique` makes such names.
 abbrev pub AreOurs : Story → Type 0
-AreOurs t = (k i : ℕ) (x : Step) (actor : List ℕ) (c : Call) (u : List ℕ) → step_at t k ≡ Some x → x.who ≡ another actor
-    → slice_get t.calls i ≡ Some c → MakesMessage c u → BringsAbout t k u → ⊥
+AreOurs t = (k job : ℕ) (x : Step) (actor : List ℕ) (c : Call) (u : List ℕ) → step_at t k ≡ Some x → x.who ≡ another actor
+    → call_at t.calls job ≡ Some c → IsAtWork t job → MakesMessage c u → BringsAbout t k u → ⊥
 
--- what is owed to all jobs, and to those that make messages, search both places, move or clean
+-- what is owed to all jobs, and besides to those that deliver, copy, search both places, move or clean
 pub record Owes (h : History) : Type 0 where
-  -- to every job that looks a message up
+  -- to every job
   pub one_name : law.TwoNames h → ⊥
+  pub one_folder : owed.InTwoFolders h → ⊥
   -- to deliveries
   pub unmixed : owed.Mixed h → ⊥
   pub unnamed : owed.NamedByAnother h → ⊥
@@ -69,24 +80,17 @@ pub record Owes (h : History) : Type 0 where
   pub unwritten : owed.Rewritten h → ⊥
   -- to moves and copies, which look in new and then in cur
   pub not_back : owed.MovedBack h → ⊥
-  -- to moves
-  pub one_folder : owed.InTwoFolders h → ⊥
+  -- to moves, which use no name again then
   pub unused : owed.UsedAgain h → ⊥
   -- to cleans
   pub unmade : owed.MadeAgain h → ⊥
   pub in_time : owed.WrittenLate h → ⊥
 
--- the others do what they owe
-abbrev pub AreLawful : Story → Type 0
-AreLawful t = (k : ℕ) (x : Step) (actor : List ℕ) → step_at t k ≡ Some x → x.who ≡ another actor → Owes (history t (suc k))
+-- at every step the clock of the job and that of the log are no more than so many seconds apart
+abbrev pub AreApart : Story → ℕ → Type 0
+AreApart t seconds = (k : ℕ) (x : Step) → step_at t k ≡ Some x → (x.at.own ≤ x.at.clock + seconds) × (x.at.clock ≤ x.at.own + seconds)
 
 -- ---- the promises
-
--- the job's own step k
-pub record IsStepOf (t : Story) (job k : ℕ) : Type 0 where
-  pub step : Step
-  pub at : step_at t k ≡ Some step
-  pub own : step.who ≡ ours job
 
 pub record IsAnswered (t : Story) (job : ℕ) (a : Answer) : Type 0 where
   pub k : ℕ
@@ -128,39 +132,75 @@ IsOfSpan t job c a = (k : ℕ) × IsInSpan t job k × ((alone c (box t k)).answe
 abbrev pub IsFaulted : Story → ℕ → Type 0
 IsFaulted t job = (k : ℕ) × (own : IsStepOf t job k) × (own.step.reply ≡ reply.Fault)
 
--- an answer without an effect says what was so. (Lost, TimedOut and Cleaned as in md_core's `Says`, with "another" for "another job".)
+-- Step k of another, in the span of the job, took a message of the unique name away from a path.
+pub record IsTakenAt (t : Story) (job : ℕ) (u : List ℕ) (k : ℕ) : Type 0 where
+  pub step : Step
+  pub at : step_at t k ≡ Some step
+  pub by_another : step.who ≢ ours job
+  pub path : Path
+  pub message : is_message path ≡ true
+  pub unique : unique_of path.name ≡ u
+  pub was : file_at (state t k) path ≢ None
+  pub gone : file_at (state t (suc k)) path ≡ None
+  pub in_span : IsInSpan t job k
+
+-- So many steps did, one after the other.
+pub record IsTakenAway (t : Story) (job : ℕ) (u : List ℕ) (times : ℕ) : Type 0 where
+  pub step : ℕ → ℕ
+  pub taken : (i : ℕ) → i < times → IsTakenAt t job u (step i)
+  pub rise : (i j : ℕ) → i < j → j < times → step i < step j
+
+-- an errand is lost whose message others took away once for each of its tries
+abbrev pub IsLost : Story → ℕ → Call → Type 0
+IsLost t job (call.Seen folder u flags tries) = IsTakenAway t job u tries
+IsLost t job (call.Flag folder u add remove tries) = IsTakenAway t job u tries
+IsLost t job (call.Move folder u to tries) = IsTakenAway t job u tries
+IsLost t job (call.Expunge folder u tries) = IsTakenAway t job u tries
+IsLost t job (call.Copy folder u to fresh tries) = IsTakenAway t job u tries
+IsLost t job c = ⊥
+
+-- Step k of another, in the span of a delivery, took a path of tmp of its name away.
+pub record IsTmpTaken (t : Story) (job : ℕ) (u : List ℕ) (k : ℕ) : Type 0 where
+  pub step : Step
+  pub at : step_at t k ≡ Some step
+  pub by_another : step.who ≢ ours job
+  pub path : Path
+  pub in_tmp : path.place ≡ Tmp
+  pub named : path.name ≡ u
+  pub was : file_at (state t k) path ≢ None
+  pub gone : file_at (state t (suc k)) path ≡ None
+  pub in_span : IsInSpan t job k
+
+-- the file of a delivery in tmp was gone
+abbrev pub IsTmpGone : Story → ℕ → Call → Type 0
+IsTmpGone t job (call.Deliver folder u body chunk) = (k : ℕ) × IsTmpTaken t job u k
+IsTmpGone t job c = ⊥
+
+-- by its own clock, a step of a delivery's own came 24 hours or more after another
+abbrev pub IsTimedOut : Story → ℕ → Call → Type 0
+IsTimedOut t job (call.Deliver folder u body chunk) = (i j : ℕ) × (first : IsStepOf t job i) × (last : IsStepOf t job j) × (i < j)
+    × (86400 ≤ last.step.at.own - first.step.at.own)
+IsTimedOut t job c = ⊥
+
+-- the call takes old files of tmp away, and counts them
+abbrev pub IsClean : Call → Type 0
+IsClean (call.Clean folder) = Unit {0}
+IsClean c = ⊥
+
+-- what an answer says that comes without an effect
 abbrev pub Says : Story → ℕ → Call → Answer → Type 0
 Says t job c answer.NotThere = IsOfSpan t job c answer.NotThere
 Says t job c answer.NotTrashed = IsOfSpan t job c answer.NotTrashed
 Says t job c answer.OtherInfo = IsOfSpan t job c answer.OtherInfo
+Says t job c answer.Lost = IsLost t job c
+Says t job c answer.TimedOut = IsTimedOut t job c
+Says t job c answer.TmpGone = IsTmpGone t job c
 Says t job c answer.Fault = IsFaulted t job
 Says t job c answer.NameTaken = ⊥
-Says t job c answer.TmpGone = (k : ℕ) × (x : Step) × IsInSpan t job k × (step_at t k ≡ Some x) × (x.who ≢ ours job)
+Says t job c (answer.Cleaned n) = IsClean c
 Says t job c a = Unit {0}
 
 -- a message of ours has the bytes of the delivery of its name, as long as readers see it
 abbrev pub IsWholeOf : Story → ℕ → Call → Type 0
 IsWholeOf t k c = (u : List ℕ) (bytes : List ℕ) (e : Entry) → IsDeliveryOf u bytes c → Rattle.std.specs.FinMap.get (box t k) u ≡ Some e
     → e.bytes ≡ bytes
-
--- at every step the clock of the job and that of the log are no more than so many seconds apart
-abbrev pub AreApart : Story → ℕ → Type 0
-AreApart t seconds = (k : ℕ) (x : Step) → step_at t k ≡ Some x → (x.at.own ≤ x.at.clock + seconds) × (x.at.clock ≤ x.at.own + seconds)
-
--- The aim, of a story.
-pub record HoldsBeside (t : Story) : Type 0 where
-  pub acts : (job : ℕ) (c : Call) (a : Answer) → call_at t.calls job ≡ Some c → IsAnswered t job a → Acts t job c a
-  pub quiet : (k job : ℕ) (x : Step) → step_at t k ≡ Some x → x.who ≡ ours job → x.effect ≡ None → box t (suc k) ≡ box t k
-  pub says : (job : ℕ) (c : Call) (a : Answer) → call_at t.calls job ≡ Some c → IsAnswered t job a → Says t job c a
-  pub whole : (k job : ℕ) (c : Call) → call_at t.calls job ≡ Some c → IsWholeOf t k c
-  pub one_path : (k : ℕ) → HasOnePath (state t k)
-  -- our jobs break no clause, but for NotFlushed; and CleanedEarly where a clean's clock is ahead
-  pub lawful : (k job : ℕ) (x : Step) (c : Clause) → step_at t k ≡ Some x → x.who ≡ ours job
-      → c ≢ clause.NotFlushed → c ≢ clause.MovedBack → (c ≡ clause.CleanedEarly → AreApart t 0) → Breaks c (history t (suc k)) → ⊥
-  -- and do what they owe
-  pub owes : (k job : ℕ) (x : Step) → step_at t k ≡ Some x → x.who ≡ ours job → AreApart t 0 → Owes (history t (suc k))
-  -- no delivery is answered that its file was gone
-  pub never_gone : AreApart t 14400 → (job : ℕ) → IsAnswered t job answer.TmpGone → ⊥
-
-abbrev pub OurJobsBesideOthers : Type 0
-OurJobsBesideOthers = (t : Story) → IsStory t → AreOurs t → AreLawful t → HoldsBeside t

@@ -1,5 +1,4 @@
 pub mod Story
 pub mod Beside
-pub mod Delivery
-pub mod Changing
+pub mod Jobs
 pub mod Runs

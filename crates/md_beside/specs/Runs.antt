@@ -1,17 +1,15 @@
 -- Runs of our jobs alone, as stories: no other program takes a step.
-use Rattle.std.specs.Prelude.{ℕ, suc, ◌≡◌, ◌≢◌, ◌⊎◌, List, Some, map, slice_get}
+use Rattle.std.specs.Prelude.{ℕ, suc, ◌≡◌, List, Some, map}
 use Rattle.md_jobs.specs.declared.call.Call.{Call}
-use Rattle.md_core.specs.Interleaving.{IsDelivery}
 use Rattle.md_core.specs.Runs.{Run}
 use Rattle.md_core.specs.Stepping.{IsRun}
-use Rattle.md_core.specs.Trace.{Step as Taken}
+use Rattle.md_core.specs.Trace.{Step as Taken, call_at}
 use Rattle.md_core.specs.Tracing.{trace_of}
 use Rattle.md_log.specs.declared.clause.Clause.{Clause}
-use Rattle.md_log.specs.declared.clause.Clause.TheVariants as clause
 use Rattle.md_law.specs.Law.{Breaks}
 use Rattle.md_beside.specs.Story.{Story, Step, ours, asked, step_at, history}
 use Rattle.md_beside.specs.Beside.{IsStory}
-use Rattle.md_beside.specs.Changing.{IsChange}
+use Rattle.md_beside.specs.Jobs.{MayBreak}
 
 -- a step of a run, as a story tells it
 abbrev pub step_told : Taken → Step
@@ -29,16 +27,8 @@ AreNames actor = (i j : ℕ) → actor i ≡ actor j → i ≡ j
 abbrev pub RunsAreStories : Type 0
 RunsAreStories = (r : Run) (actor : ℕ → List ℕ) → IsRun r → AreNames actor → IsStory (story_of actor r)
 
--- A run of deliveries alone breaks no clause of the law, but that they don't flush what they deliver.
-abbrev pub DeliveriesAreLawful : Type 0
-DeliveriesAreLawful = (r : Run) (actor : ℕ → List ℕ) → IsRun r → AreNames actor
-    → ((i : ℕ) (c : Call) → slice_get r.calls i ≡ Some c → IsDelivery c)
-    → (k : ℕ) (x : Step) (b : Clause) → step_at (story_of actor r) k ≡ Some x → b ≢ clause.NotFlushed
-    → Breaks b (history (story_of actor r) (suc k)) → ⊥
-
--- A run of deliveries and changes breaks no clause of the law, but that its deliveries don't flush what they deliver.
-abbrev pub BothAreLawful : Type 0
-BothAreLawful = (r : Run) (actor : ℕ → List ℕ) → IsRun r → AreNames actor
-    → ((i : ℕ) (c : Call) → slice_get r.calls i ≡ Some c → IsDelivery c ⊎ IsChange c)
-    → (k : ℕ) (x : Step) (b : Clause) → step_at (story_of actor r) k ≡ Some x → b ≢ clause.NotFlushed
-    → Breaks b (history (story_of actor r) (suc k)) → ⊥
+-- No step of a run breaks a clause of the law, but those that its job may break.
+abbrev pub JobsAreLawful : Type 0
+JobsAreLawful = (r : Run) (actor : ℕ → List ℕ) → IsRun r → AreNames actor
+    → (k job : ℕ) (x : Step) (c : Call) (b : Clause) → step_at (story_of actor r) k ≡ Some x → x.who ≡ ours job
+    → call_at r.calls job ≡ Some c → (MayBreak (story_of actor r) c b → ⊥) → Breaks b (history (story_of actor r) (suc k)) → ⊥

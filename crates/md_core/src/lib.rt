@@ -6,6 +6,7 @@ pub mod laws;
 mod used;
 mod world;
 
+pub use jobs::task::Task;
 pub use md_jobs::{
     Answer, Call, Change, CoreError, DirCall, DirReply, Effect, Event, JobId, Moment, StepOut,
 };

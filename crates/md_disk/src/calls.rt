@@ -1,15 +1,17 @@
 //! Directory calls on a disk.
 use crate::cause::Cause;
 use crate::error::{CallError, unless_refused};
-use crate::hints::{Hints, Told};
+use crate::hints::Hints;
 use crate::paths::Folders;
-use crate::reading::{find_name, names_once, no_directory};
+use crate::reading::{find_name, names_once, no_directory, rested_name};
 use crate::system::System;
+use crate::told::Told;
 use md_dirs::{Bytes, Place, Row};
 use md_jobs::{DirReply, PathRef, Purpose, Request};
 use std::alloc::{AllocError, Global};
 use std::cell::Cell;
 use std::fs::{Files, Metadata, OpenFile, OpenOptions};
+use std::io;
 use std::io::{ErrorKind, Write};
 use std::os::unix::fs::{MetadataExt, OpenOptionsExt};
 use std::time::Clock;
@@ -20,6 +22,8 @@ pub struct Calls<'r, R: Files + Clock> {
     pub(crate) files: &'r R,
     pub(crate) folders: Folders,
     pub(crate) hints: Hints,
+    /// Whether a look is a fault that no hint answers.
+    pub(crate) only_hints: bool,
     // The file of the delivery that is under way.
     open: Option<R::File>,
     // Whether a file is flushed before it is linked, and the directory after.
@@ -38,6 +42,7 @@ impl<'r, R: Files + Clock> Calls<'r, R> {
             files,
             folders,
             hints,
+            only_hints: false,
             open: None,
             sync,
             unflushed: false,
@@ -126,11 +131,21 @@ impl<'r, R: Files + Clock> Calls<'r, R> {
         if !self.flush() {
             return Err(CallError::Refused(Cause::Unflushed));
         }
-        self.files.hard_link(from.as_str(), to.as_str())?;
+        if let Err(error) = self.files.hard_link(from.as_str(), to.as_str()) {
+            return Err(self.unlinked(dir.as_str(), error));
+        }
         if self.sync && !self.flush_dir(dir.as_str()) {
             self.unflushed = true;
         }
         Ok(())
+    }
+
+    // Why a link into a directory was not made. ENOENT is of the old name only where the directory is there.
+    fn unlinked(&self, dir: &str, error: io::Error) -> CallError {
+        if error.kind() == ErrorKind::NotFound && self.files.metadata(dir).is_err() {
+            return CallError::Refused(Cause::NoPlace);
+        }
+        CallError::from(error)
     }
 
     // Flushes the file that was made, if there is one, and closes it. Whether that was done.
@@ -170,7 +185,7 @@ impl<'r, R: Files + Clock> Calls<'r, R> {
         Ok(self.files.remove_file(path.as_str())?)
     }
 
-    /// Looks for the name of a message in a directory, for an errand: among the hints, and then in the directory.
+    /// Looks for the name of a message in a directory, for an errand: among the hints, and then in the directory, unless only hints count.
     pub(crate) fn find(
         &mut self,
         alloc: Global,
@@ -182,6 +197,8 @@ impl<'r, R: Files + Clock> Calls<'r, R> {
         match self.hints.tell(alloc, folder, place, unique, purpose)? {
             Told::Name(name) => Ok(Some(name)),
             Told::Elsewhere => Ok(None),
+            Told::Shown(found) => rested_name(found),
+            Told::Nothing if self.only_hints => Err(CallError::Refused(Cause::NotRead)),
             Told::Nothing => {
                 let path = self.folders.dir(alloc, folder, place)?;
                 find_name(alloc, self.files, path.as_str(), unique, purpose)

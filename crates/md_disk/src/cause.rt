@@ -30,6 +30,12 @@ pub enum Cause {
     /// The directory is not there: the folder is no maildir.
     #[error("its directory is not there")]
     NoDirectory,
+    /// The directory that the file was to be linked into is not there.
+    #[error("the directory of its new name is not there")]
+    NoPlace,
+    /// The directory was not read, and no hint told of the message.
+    #[error("its directory was not read")]
+    NotRead,
     /// The message that was to be opened is in neither new nor cur.
     #[error("there is no such message")]
     NoMessage,

@@ -4,10 +4,13 @@ ghost use Rattle.std.specs.Prelude.{◌≡◌, []};
 use crate::calls::{Calls, second_of};
 use crate::cause::Cause;
 use crate::error::CallError;
+use crate::hints::Hint;
 use crate::listing::{About, Listed};
 use crate::logged::Logged;
 use crate::paths::Folders;
-use crate::reading::{all_names, names_once};
+use crate::read_ahead::ReadAhead;
+use crate::reading::{all_names, last_names};
+use crate::shown::Shown;
 use md_dirs::{Bytes, Place};
 use md_jobs::{DirReply, PathRef};
 use std::alloc::{AllocError, Global};
@@ -37,8 +40,9 @@ impl<'r, R: Files + Clock> Logged<Calls<'r, R>> {
         self.system.cause()
     }
 
-    /// Reads new and cur once each, and keeps their names, 32 bytes and the name each, as hints for errands on messages of this folder:
-    /// they take the place of all that were kept of it. An errand that acts on a hint needs no reading of its own. The reply is that of a
+    /// Reads new and cur of a folder for errands that were asked for before, and keeps their names in the place of all that were read
+    /// before. Each is read until it rests, as often as for one errand. Where both have rested, these errands are told what the readings
+    /// showed, whatever they answer by it, until `outdate`. Where not, an errand is told a name on which it acts. The reply is that of a
     /// reading that was not done, and then nothing has changed. Refused only when out of memory.
     pub fn read_ahead(&mut self, alloc: Global, folder: u32) -> Result<DirReply, AllocError> {
         let made = self.keep_names(alloc, folder);
@@ -47,26 +51,46 @@ impl<'r, R: Files + Clock> Logged<Calls<'r, R>> {
     }
 
     fn keep_names(&mut self, alloc: Global, folder: u32) -> Result<(), CallError> {
-        let news = self.names_now(alloc, folder, Place::New)?;
-        let curs = self.names_now(alloc, folder, Place::Cur)?;
-        Ok(self.system.hints.replace(folder, news, curs)?)
+        let (news, has_new_rested) = self.names_now(alloc, folder, Place::New)?;
+        let (curs, has_cur_rested) = self.names_now(alloc, folder, Place::Cur)?;
+        self.system.hints.ahead = ReadAhead {
+            folder,
+            news: Shown::of(alloc, news)?,
+            curs: Shown::of(alloc, curs)?,
+            counts: has_new_rested && has_cur_rested,
+        };
+        Ok(())
     }
 
-    // All names of a directory, of one reading.
-    fn names_now(&self, alloc: Global, folder: u32, place: Place) -> Result<Vec<Bytes>, CallError> {
-        let path = self.system.folders.dir(alloc, folder, place)?;
-        names_once(alloc, self.system.files, path.as_str())
-    }
-
-    /// Keeps a name that the caller knows of a directory as a hint for errands on its message. Refused only when out of memory.
-    pub fn hint(
-        &mut self,
-        _alloc: Global,
+    // All names of a directory, and whether it rested.
+    fn names_now(
+        &self,
+        alloc: Global,
         folder: u32,
         place: Place,
-        name: Bytes,
-    ) -> Result<(), AllocError> {
-        self.system.hints.add(folder, place, name)
+    ) -> Result<(Vec<Bytes>, bool), CallError> {
+        let path = self.system.folders.dir(alloc, folder, place)?;
+        last_names(alloc, self.system.files, path.as_str())
+    }
+
+    /// The names that were read ahead are hints from now on: other errands may be run than those that were asked for before the readings.
+    pub fn outdate(&mut self) {
+        self.system.hints.ahead.counts = false;
+    }
+
+    /// Keeps a name that the caller knows of a directory as a hint for an errand on its message, in the place of the one before, and of
+    /// what was read ahead of the message.
+    pub fn hint(&mut self, folder: u32, place: Place, name: Bytes) {
+        self.system.hints.give(Hint {
+            folder,
+            place,
+            name,
+        });
+    }
+
+    /// Whether a look is a fault that no hint answers, and no directory is read. So an errand of one try ends without a reading.
+    pub fn only_hints(&mut self, only: bool) {
+        self.system.only_hints = only;
     }
 
     /// Opens the message of a unique name for reading. It is looked for in new, and then in cur, and up to `tries` times, at least once,

@@ -35,11 +35,20 @@ fn make_directory<R: Files>(files: &R, path: &str) -> io::Result<()> {
 /// Whether a folder has the directories tmp, new and cur. Refused by the system's error where that can't be told, and when out of memory.
 pub fn is_maildir<R: Files>(alloc: Global, files: &R, path: &str) -> io::Result<bool> {
     for place in PLACES {
-        if !is_directory(files, within(alloc, path, place_name(place))?.as_str())? {
+        if !has_place(alloc, files, path, place)? {
             return Ok(false);
         }
     }
     Ok(true)
+}
+
+/// Whether a folder has the directory cur, where no delivery makes a name. Refused as `is_maildir`.
+pub fn has_cur<R: Files>(alloc: Global, files: &R, path: &str) -> io::Result<bool> {
+    has_place(alloc, files, path, Place::Cur)
+}
+
+fn has_place<R: Files>(alloc: Global, files: &R, path: &str, place: Place) -> io::Result<bool> {
+    is_directory(files, within(alloc, path, place_name(place))?.as_str())
 }
 
 // Whether a path leads to a directory.

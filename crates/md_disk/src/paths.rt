@@ -71,8 +71,10 @@ impl Folders {
         let Ok(name) = std::str::from_utf8(path.name()) else {
             return Err(CallError::Refused(Cause::NotText));
         };
-        let dir = self.dir(alloc, path.folder(), path.place())?;
-        Ok(within(alloc, dir.as_str(), name)?)
+        let mut file = self.dir(alloc, path.folder(), path.place())?;
+        file.push('/')?;
+        file.push_str(name)?;
+        Ok(file)
     }
 }
 

@@ -48,8 +48,8 @@ pub(crate) fn find_name<R: Files + Clock>(
     Err(CallError::Refused(Cause::NeverRests))
 }
 
-// What is found where this rests.
-fn rested_name(found: Found<Bytes>) -> Result<Option<Bytes>, CallError> {
+/// What is found where this rests.
+pub(crate) fn rested_name(found: Found<Bytes>) -> Result<Option<Bytes>, CallError> {
     match found {
         Found::None => Ok(None),
         Found::One(name) => Ok(Some(name)),
@@ -63,15 +63,39 @@ pub(crate) fn all_names<R: Files + Clock>(
     files: &R,
     path: &str,
 ) -> Result<Vec<Bytes>, CallError> {
-    for _ in 0..READINGS {
-        let before = rested_since(files, path);
-        let names = names_once(alloc, files, path)?;
-        if has_rested(files, path, before) {
-            return Ok(names);
+    let (names, has_rested) = last_names(alloc, files, path)?;
+    if has_rested {
+        Ok(names)
+    } else {
+        Err(CallError::Refused(Cause::NeverRests))
+    }
+}
+
+/// The same of a reading in which it rested, or of the last one, and whether it rested.
+pub(crate) fn last_names<R: Files + Clock>(
+    alloc: Global,
+    files: &R,
+    path: &str,
+) -> Result<(Vec<Bytes>, bool), CallError> {
+    for _ in 1..READINGS {
+        let reading = names_now(alloc, files, path)?;
+        if reading.1 {
+            return Ok(reading);
         }
         sleep(files, Duration::from_millis(PAUSE));
     }
-    Err(CallError::Refused(Cause::NeverRests))
+    names_now(alloc, files, path)
+}
+
+// The same of one reading.
+fn names_now<R: Files + Clock>(
+    alloc: Global,
+    files: &R,
+    path: &str,
+) -> Result<(Vec<Bytes>, bool), CallError> {
+    let before = rested_since(files, path);
+    let names = names_once(alloc, files, path)?;
+    Ok((names, has_rested(files, path, before)))
 }
 
 /// All names of a directory but `.` and `..`, in no order, of one reading.

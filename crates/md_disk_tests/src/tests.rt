@@ -2,10 +2,12 @@
 //! the system replies is what the machines take it for. Each scene is played twice, of which one refused allocation ends one at most.
 mod causes;
 mod checks;
+mod counting;
 mod faults;
 mod hints;
 mod jobs;
 mod messages;
+mod readings;
 mod real;
 mod scene;
 

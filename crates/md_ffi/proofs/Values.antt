@@ -1,11 +1,12 @@
 -- The machine values of a `Loose`. Assumes `Logic`.
-use Rattle.std.proofs.Common.{◌≡◌, ℕ, List, [], ◌∷◌, ◌++◌, refl, subst}
+use Rattle.std.proofs.Common.{◌≡◌, ℕ, List, [], ◌∷◌, ◌++◌, refl, sym, subst, true≢false}
 use mathlib.Core.Bool.{Bool, true, false, ◌&&◌}
 use lib.Dec.{T}
 use seplogic.Ra.Ura.{Ura}
 use mir.Syntax.{impl, tnil, dnil}
 use mir.Raw.{raw as bare}
 use mir.Val.{Val, vptr, vstruct, vcons, vnil, of_list, has_ty, WT}
+use base.Fml.{Fml}
 use base.Logic.{never, fst∗}
 use types.Logic.{Logic, sem}
 use types.Kit.{Item, Goal, Seq, Step, step, ‵, ◌$◌, move, drop, fsplit, fjoin, fpick, fpack, feq_i, feq_l}
@@ -23,7 +24,20 @@ use Rattle.core.proofs.alloc.Calls.{Al, handle_tells}
 use Rattle.core.proofs.cell.Inside.{Good}
 use Rattle.std_alloc.specs.Box.Ownership.{box_owns}
 use Rattle.std_alloc.proofs.ResultValues.{and_tt}
+use Rattle.std.specs.Prelude.{IsTrue, is_some}
+use Rattle.std.specs.contracts.alloc.Global as heap
+use Rattle.std.proofs.alloc.Global.TheLaws as heap_laws
+use Rattle.std.specs.contracts.impls.GlobalAllocator.TheImpl.{ghosts}
+use Rattle.std.specs.declared.option.Option.{Option}
+use Rattle.std.specs.declared.option.Option.TheVariants.{None, Some}
 use Rattle.md_ffi.specs.contracts.loose.Loose as loose
+
+-- the heap, in which all that a handle holds lies
+abbrev pub Heap : RattleType
+Heap = heap.the_row
+
+abbrev pub heap_handle : Al
+heap_handle = record { row = Heap; laws = heap_laws.the_row_laws; g = ghosts; d = impl [] tnil dnil; drops = impl [] tnil dnil }
 
 abbrev pub both : Val → Val → Val
 both v w = vstruct (vcons v (vcons w vnil))
@@ -58,3 +72,11 @@ module _ (R Z : RattleType) (L : Laws Z) (g : Ghosts Z.Denot) where
     loose_in t b o h a x = step (λ s. let v : Val = both (vptr b o) h in
         nothing t $ move t (2 ∷ 0 ∷ []) $ fjoin t $ feq_i t (List Val) (vptr b o ∷ []) (vptr b o ∷ []) refl $ fjoin t $ feq_i t (List Val) (v ∷ []) (v ∷ []) refl $ fjoin t $
         fpack t (Valss (RawPtr ∷ Z ∷ [])) (within (shape (loose.the_type R Z g)) (block_ptr b o, (a, tt)) (v ∷ [])) (vptr b o ∷ [], (h ∷ [], tt)) $ fjoin t $ s)
+
+    -- what owns a box, where it owns anything, owns it as a `Loose` of it does
+    pub held_out : K → (p : Ptr) (a : Z.Denot) (y : Option R.Denot) → IsTrue (is_some y) → (vs : List Val) (own : Option R.Denot → Fml)
+        → ((x : R.Denot) → own (Some x) ≡ Loose.own_val (record { at = p; alloc = a; value = x }) vs)
+        → ((x : R.Denot) → y ≡ Some x → (b o : ℕ) (h : Val) → p ≡ block_ptr b o → vs ≡ both (vptr b o) h ∷ [] → Good (layout Z) h → Seq K 𝓛 (‵ (box_owns (g.dealloc_token a) R (block_ptr b o) x) ∷ ‵ (Z.own_val a (h ∷ [])) ∷ Γ) G)
+        → Seq K 𝓛 (‵ (own y) ∷ Γ) G
+    held_out t p a None wrong vs own is k = absurd (true≢false (sym wrong))
+    held_out t p a (Some x) some vs own is k = subst (λ f. Seq K 𝓛 (‵ f ∷ Γ) G) (sym (is x)) (loose_out t (record { at = p; alloc = a; value = x }) vs (k x refl))

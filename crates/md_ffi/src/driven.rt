@@ -11,10 +11,10 @@ ghost use Rattle.md_ffi.specs.declared.refusal.Refusal.TheVariants.{Kind};
 mod rows;
 pub(crate) mod task;
 
-use crate::driven::task::Task;
+use crate::driven::task::{show_task, step_task};
 use crate::refusal::Refusal;
 use crate::request::RequestShown;
-use md_core::{Answer, Call, CoreError, DirReply, Moment, StepOut};
+use md_core::{Answer, Call, CoreError, DirReply, Moment, StepOut, Task};
 use md_dirs::{Bytes, Row};
 use md_script::PlayKind;
 use std::alloc::Global;
@@ -101,7 +101,7 @@ impl Driven {
             return Err(Refusal::NotAsked);
         };
         match &self.progress {
-            Progress::Working(task) => task.show(alloc, at, shown, out, length),
+            Progress::Working(task) => show_task(alloc, task, at, shown, out, length),
             Progress::Answered(_) => Err(Refusal::NotAsked),
         }
     }
@@ -138,7 +138,7 @@ impl Driven {
         let Progress::Working(task) = &mut self.progress else {
             return Err(Refusal::NotAsked);
         };
-        let out = task.step(alloc, at, self.rows.as_slice(), reply)?;
+        let out = step_task(alloc, task, at, self.rows.as_slice(), reply)?;
         self.settle(out.answer);
         self.asked = None;
         self.rows = Vec::new(alloc);

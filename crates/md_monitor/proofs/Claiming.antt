@@ -103,7 +103,7 @@ Was P c h = (m : History) × P m × IsUpTo m h × Own (λ k. IsUpTo (before k) m
 abbrev pub IsAtWork : Claim → History → Type 0
 IsAtWork c h = Own (λ m. Unit {0}) c h
 
-own-map : (c : Claim) (P R : History → Type 0) (h : History) → ((k : History) → IsUpTo k h → P k → R k) → Own P c h → Own R c h
+pub own-map : (c : Claim) (P R : History → Type 0) (h : History) → ((k : History) → IsUpTo k h → P k → R k) → Own P c h → Own R c h
 own-map c P R h map own = since-map (λ m. IsBy m c.actor × TellsNothing m c × P m) (λ m. IsBy m c.actor × TellsNothing m c × R m)
     (λ m. TellsNothing m c) h (λ k up (by, nothing, holds). (by, nothing, map k up holds)) own
 

@@ -30,7 +30,7 @@ use workers::push_folder;
 /// and `NoMemory`. After `WriteFault`, at line 0 too, nothing is known of what was written.
 ///
 /// It is the last thing that a process does: the memory of the store isn't given back. Names are hashed by a seed.
-pub fn run_index<R: Threads + Wait + Sync, S: Source, T: Sink>(
+pub(crate) fn run_index<R: Threads + Wait + Sync, S: Source, T: Sink>(
     rt: &R,
     alloc: Global,
     seed: HashSeed,

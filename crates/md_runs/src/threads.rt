@@ -32,7 +32,7 @@ use std::thread::Threads;
 /// nothing is known of what was written.
 ///
 /// It is the last thing that a process does: the memory of the store isn't given back. Names are hashed by a seed.
-pub fn run_threads<R: Threads + Wait + Sync, S: Source, T: Sink>(
+pub(crate) fn run_threads<R: Threads + Wait + Sync, S: Source, T: Sink>(
     rt: &R,
     alloc: Global,
     seed: HashSeed,

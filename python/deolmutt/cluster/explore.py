@@ -14,7 +14,7 @@ from .snapshot import write_durably
 
 class Broken(NamedTuple):
     """A clause of the law, how many interleavings break it, the first of these in order of their
-    names, as in AAB, and the file of its log, which `maildir_judge` reads."""
+    names, as in AAB, and the file of its log, which `deolmutt judge` reads."""
 
     clause: str
     times: int
@@ -52,7 +52,7 @@ def explore(
     clone: Optional[str] = None,
 ) -> Interleavings:
     """Plays two commands of sh in every interleaving of their directory calls, at most so many runs, and
-    has `maildir_judge` judge each.
+    has `deolmutt judge` judge each.
 
     It is what `tools/explore` does, a run for each task, and the words are those of that tool. Each run
     that is done is kept in the folder, and the log of each interleaving that breaks the law. A search
@@ -87,11 +87,11 @@ def explore(
 
 def _run(asked: _Asked, prefix: str) -> Tuple[Dict[str, Any], bytes]:
     """A worker's part: a run, what the judge finds in it, and its log where that is anything."""
-    names = ("refused", "exploring", "schedules", "trace_command")
+    names = ("refused", "exploring", "schedules", "claims")
     parts = (module_of_clone(asked.clone, "tools", f"judge_lib.{name}") for name in names)
-    refused, exploring, schedules, trace_command = parts
+    refused, exploring, schedules, claiming = parts
     try:
-        claims = trace_command.read_claims(asked.claims)
+        claims = claiming.read_claims(asked.claims)
         pairing = exploring.Pairing(asked.setup, asked.commands, claims, asked.folders)
         played, log = exploring.run_once(pairing, prefix)
         text = log.encoded()

@@ -20,7 +20,7 @@ pub enum Task {
 
 impl Task {
     /// The task of a call, not begun.
-    pub(crate) fn new(alloc: Global, call: Call) -> Task
+    pub fn new(alloc: Global, call: Call) -> Task
         ensures { working (task_view result) ≡ new_job call }
     {
         let (folder, unique, purpose, tries) = match call {

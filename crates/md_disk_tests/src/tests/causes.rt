@@ -1,5 +1,5 @@
 //! Why calls on a disk are not done.
-use super::scene::{fresh_path, make_boxes, put, within};
+use super::scene::{fresh_path, holds, make_boxes, put, within};
 use super::{BODY, are_right, copied, delivered, ran};
 use md_dirs::Place::Cur;
 use md_disk::{Cause, Disk, is_maildir, make_maildir};
@@ -75,14 +75,32 @@ fn is_no_maildir<R: Files + Clock>(
     )
 }
 
+// A delivery into a folder without new leaves nothing in tmp.
+fn lacks_new<R: Files + Clock>(
+    alloc: Global,
+    rt: &R,
+    root: &str,
+    disk: &mut Disk<'_, R>,
+) -> Result<bool, CoreError> {
+    let new = within(alloc, root, "inbox/new")?;
+    Ok(
+        rt.remove_dir(new.as_str()).is_ok()
+            && delivered(alloc, disk)? == Answer::Fault
+            && disk.cause() == Some(Cause::NoPlace)
+            && !holds(alloc, rt, root, "inbox/tmp/u")?
+            && rt.create_dir(new.as_str()).is_ok(),
+    )
+}
+
 fn plays_in<R: Files + Clock>(alloc: Global, rt: &R, root: &str) -> Result<bool, CoreError> {
     let mut disk = make_boxes(alloc, rt, root)?;
-    disk.hint(alloc, 0, Cur, copied(alloc, b"u:2,S")?)?;
+    disk.hint(0, Cur, copied(alloc, b"u:2,S")?);
     Ok(
         disk.cause().is_none()
             && is_no_text(alloc, &mut disk)?
             && is_taken(alloc, rt, root, &mut disk)?
             && is_twice(alloc, rt, root, &mut disk)?
+            && lacks_new(alloc, rt, root, &mut disk)?
             && is_no_maildir(alloc, rt, root, &mut disk)?,
     )
 }

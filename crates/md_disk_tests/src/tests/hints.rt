@@ -28,7 +28,8 @@ fn hint<R: Files + Clock>(
     place: Place,
     name: &[u8],
 ) -> Result<(), CoreError> {
-    Ok(disk.hint(alloc, 0, place, copied(alloc, name)?)?)
+    disk.hint(0, place, copied(alloc, name)?);
+    Ok(())
 }
 
 // Of two names of one message the hint's is acted on. Without a hint a reading shows both, which is a fault.

@@ -31,7 +31,7 @@ fn reads<R: Files + Clock>(alloc: Global, rt: &R, root: &str) -> Result<bool, Co
     let mut disk = make_boxes(alloc, rt, root)?;
     let is_delivered = delivered(alloc, &mut disk)? == Answer::Delivered;
     let is_put = put(alloc, rt, root, "inbox/cur/v:2,S")?;
-    disk.hint(alloc, 0, Cur, copied(alloc, b"v:2,F")?)?;
+    disk.hint(0, Cur, copied(alloc, b"v:2,F")?);
     let are_read = is_read(alloc, &mut disk, b"u")? && is_read(alloc, &mut disk, b"v")?;
     let (none, _) = disk.open_message(alloc, 0, b"w", 2)?;
     let is_none = none == DirReply::NotFound && disk.cause() == Some(Cause::NoMessage);

@@ -1,12 +1,12 @@
-//! What a driven job does, and how far it has come.
+//! The steps of a driven job's task.
 ghost use Rattle.std.specs.Prelude.{◌≡◌, Ok, IfOk, IfErr, OnErr};
 ghost use Rattle.md_dirs.specs.declared.rows.Row.{Row as RowView};
 ghost use Rattle.md_jobs.specs.Machines.Clean.{cleaning_turn};
 ghost use Rattle.md_jobs.specs.Machines.Deliver.{delivery_turn};
 ghost use Rattle.md_jobs.specs.Machines.Errand.{errand_turn};
 ghost use Rattle.md_jobs.specs.Tasks.Views.Errands.{errand_view};
-ghost use Rattle.md_core.specs.Machine.{new_job, turn_of, working};
-ghost use Rattle.md_ffi.specs.Tasks.{task_view};
+ghost use Rattle.md_core.specs.Machine.{turn_of};
+ghost use Rattle.md_core.specs.Tasks.Views.Tasks.{task_view};
 ghost use Rattle.md_script.specs.declared.error.PlayKind.TheVariants.{NoMemory};
 ghost use Rattle.md_ffi.specs.Driving.{LaysAsked, Took};
 ghost use Rattle.md_ffi.specs.Numbers.{status_number};
@@ -15,20 +15,13 @@ ghost use Rattle.md_ffi.specs.declared.refusal.Refusal.TheVariants.{Kind};
 use crate::driven::rows::{first_named, old_names};
 use crate::refusal::{NO_MEMORY, Refusal};
 use crate::request::{RequestShown, lay_request};
+use md_core::Task;
 use md_dirs::Row;
-use md_jobs::{Call, Cleaning, Delivery, DirReply, Errand, Moment, Purpose, StepOut};
+use md_jobs::{Cleaning, Delivery, DirReply, Errand, Moment, StepOut};
 use std::alloc::Global;
 
 /// The number of a job that is alone with its caller.
 const JOB: u64 = 1;
-
-/// What a job does that has no answer.
-#[derive(Drop)]
-pub enum Task {
-    Deliver(Delivery),
-    Errand(Errand),
-    Clean(Cleaning),
-}
 
 // Takes a delivery's step, by the reply to its call. Refused only when out of memory, and then it is as it was.
 fn step_delivery(
@@ -124,91 +117,42 @@ fn show_errand(
     lay_request(&errand.request(&ready), shown, out, length)
 }
 
-impl Task {
-    /// The task of a call, not begun.
-    pub(crate) fn new(alloc: Global, call: Call) -> Task
-        ensures { working (task_view result) ≡ new_job call }
-    {
-        let (folder, unique, purpose, tries) = match call {
-            Call::Deliver {
-                folder,
-                unique,
-                body,
-                chunk,
-            } => return Task::Deliver(Delivery::new(folder, unique, body, chunk)),
-            Call::Clean { folder } => return Task::Clean(Cleaning::new(folder)),
-            Call::Seen {
-                folder,
-                unique,
-                flags,
-                tries,
-            } => (folder, unique, Purpose::Seen(flags), tries),
-            Call::Flag {
-                folder,
-                unique,
-                add,
-                remove,
-                tries,
-            } => (folder, unique, Purpose::Flag { add, remove }, tries),
-            Call::Move {
-                folder,
-                unique,
-                to,
-                tries,
-            } => (folder, unique, Purpose::Move { to }, tries),
-            Call::Expunge {
-                folder,
-                unique,
-                tries,
-            } => (folder, unique, Purpose::Expunge, tries),
-            Call::Copy {
-                folder,
-                unique,
-                to,
-                fresh,
-                tries,
-            } => (folder, unique, Purpose::Copy { to, fresh }, tries),
-        };
-        Task::Errand(Errand::new(alloc, folder, unique, purpose, tries))
+/// Takes a step by the reply to the call that was asked for at a moment, and by the rows that were read. Refused only when out of
+/// memory, and then the task is as it was.
+#[tactic(auto, using(crate::proofs::Wrapping::took_wrapped))]
+pub(crate) fn step_task(
+    alloc: Global,
+    task: &mut Task,
+    at: Moment,
+    rows: &[Row],
+    reply: DirReply,
+) -> Result<StepOut, Refusal>
+    ensures took { IfOk result (λ out. Took (turn_of JOB (task_view task.old) at) reply rows.now (task_view task.new) out) }
+    ensures memory { IfErr result (λ e. e ≡ Kind NoMemory) }
+    ensures kept { OnErr result (task.new ≡ task.old) }
+{
+    match task {
+        Task::Deliver(delivery) => step_delivery(alloc, delivery, at, rows, reply),
+        Task::Errand(errand) => step_errand(alloc, errand, rows, reply),
+        Task::Clean(cleaning) => step_cleaning(alloc, cleaning, at, rows, reply),
     }
+}
 
-    /// Takes a step by the reply to the call that was asked for at a moment, and by the rows that were read. Refused only when out of
-    /// memory, and then the task is as it was.
-    #[tactic(auto, using(crate::proofs::Wrapping::took_wrapped))]
-    pub(crate) fn step(
-        &mut self,
-        alloc: Global,
-        at: Moment,
-        rows: &[Row],
-        reply: DirReply,
-    ) -> Result<StepOut, Refusal>
-        ensures took { IfOk result (λ out. Took (turn_of JOB (task_view self.old) at) reply rows.now (task_view self.new) out) }
-        ensures memory { IfErr result (λ e. e ≡ Kind NoMemory) }
-        ensures kept { OnErr result (self.new ≡ self.old) }
-    {
-        match self {
-            Task::Deliver(delivery) => step_delivery(alloc, delivery, at, rows, reply),
-            Task::Errand(errand) => step_errand(alloc, errand, rows, reply),
-            Task::Clean(cleaning) => step_cleaning(alloc, cleaning, at, rows, reply),
-        }
-    }
-
-    /// Shows the call that was asked for at a moment. Refused out of memory, and `Room`.
-    pub(crate) fn show(
-        &self,
-        alloc: Global,
-        at: Moment,
-        shown: &mut RequestShown,
-        out: &mut [u8],
-        length: &mut usize,
-    ) -> Result<(), Refusal>
-        ensures { LaysAsked (Ok (turn_of JOB (task_view self.now) at).asked) shown.old shown.new out.old out.new length.old length.new
-            (status_number result) }
-    {
-        match self {
-            Task::Deliver(delivery) => show_delivery(alloc, delivery, at, shown, out, length),
-            Task::Errand(errand) => show_errand(alloc, errand, shown, out, length),
-            Task::Clean(cleaning) => lay_request(&cleaning.request(), shown, out, length),
-        }
+/// Shows the call that was asked for at a moment. Refused out of memory, and `Room`.
+pub(crate) fn show_task(
+    alloc: Global,
+    task: &Task,
+    at: Moment,
+    shown: &mut RequestShown,
+    out: &mut [u8],
+    length: &mut usize,
+) -> Result<(), Refusal>
+    ensures { LaysAsked (Ok (turn_of JOB (task_view task.now) at).asked) shown.old shown.new out.old out.new length.old length.new
+        (status_number result) }
+{
+    match task {
+        Task::Deliver(delivery) => show_delivery(alloc, delivery, at, shown, out, length),
+        Task::Errand(errand) => show_errand(alloc, errand, shown, out, length),
+        Task::Clean(cleaning) => lay_request(&cleaning.request(), shown, out, length),
     }
 }

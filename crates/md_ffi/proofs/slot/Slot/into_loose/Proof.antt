@@ -18,12 +18,13 @@ use denote.Triple.Entry.{alive}
 use denote.Triple.Walked.{Stays, stay_dropped, walk_of}
 use Rattle.core.proofs.alloc.Calls.{Goes-blank}
 use Rattle.std.specs.Prelude.{IsTrue, is_some}
+use Rattle.std.specs.declared.option.Option.{Option}
 use Rattle.std.specs.declared.option.Option.TheVariants.{Some}
 use Rattle.std.proofs.alloc.Global.TheLaws as heap_laws
 use Rattle.std.specs.contracts.impls.GlobalAllocator.TheImpl.{ghosts}
 use Rattle.std.proofs.raw_atomic.Walks.{proved_at, leaves}
-use Rattle.md_ffi.proofs.Values.{both, loose_good, loose_in}
-use Rattle.md_ffi.proofs.Slots.{R, Z, Slot, slot_out}
+use Rattle.md_ffi.proofs.Values.{Heap, both, loose_good, loose_in, held_out}
+use Rattle.md_ffi.proofs.Slots.{Held, Slot}
 use Rattle.md_ffi.specs.contracts.slot.Slot.into_loose.{ended, clauses}
 use Rattle.md_ffi.specs.contracts.slot.Slot.into_loose.Key.{name as #self}
 use Rattle.md_ffi.proofs.slot.Slot.into_loose.Statement.{statement}
@@ -36,10 +37,10 @@ into_loose_spec 𝓤 𝓛 𝓜 𝓡 wired =
     proved_at 𝓛 En hs c 𝓜 𝓡 (Goes-blank 𝓛 0 (plain (λ _. Slot)) yes (λ κs x f. tt), tt) #self fn (code.unfolded 𝓤 H 𝓜 𝓡 wired) (λ z are.
     let v = z.0.3.0 in let a = v.alloc in let Post : Val → SProp 𝓤 = (walk_of 𝓛 En hs c).post z in let Run : List Val → SProp 𝓤 = λ ws. WpFn 𝓤 H 𝓣.C 𝓣.Λ fn ws Post in
     qed 𝓛 ((raw (alive 𝓛 En.signature z.0.0 z.0.1) ⊛ ‵ (owns (types_at En.signature.params z.0.0) z.0.3 z.0.4)) ∷ raw (fact 𝓤 (IsTrue (is_some v.held))) ∷ []) ∵ move ! (1 ∷ []) $ heard ! (IsTrue (is_some v.held)) (λ some. split ! $ move ! (1 ∷ []) $ fsplit ! $
-    slot_out ! v some z.0.4.0 (λ x held b o h e ws fits. let w : Val = both (vptr b o) h in let typed = loose_good R Z LZ ghosts b o h fits in
+    held_out Held Heap LZ ghosts ! v.at a v.held some z.0.4.0 (λ (y : Option Held.Denot). Slot.own_val (record { at = v.at; alloc = a; held = y }) z.0.4.0) (λ x. refl) (λ x held b o h e ws fits. let w : Val = both (vptr b o) h in let typed = loose_good Held Heap LZ ghosts b o h fits in
     suffices ! (Run (w ∷ [])) (subst (λ (us : List Val). ent 𝓤 (Run (w ∷ [])) (Run us)) (sym (λ i. ws i ++ [])) (id⊢ 𝓤 (Run (w ∷ [])))) $
     enter ! 𝓣.C 𝓣.Λ fn (w ∷ []) Post $ alloc_all ! (λ l. pass_all ! refl (typed, tt) $
     sets ! (of_opd ! (get_in ! (fld ! refl (stop !)) (sub ! 0 refl (whole !)))) refl (tt, tt) $ sets ! (of_opd ! (get_in ! (fld ! refl (stop !)) (sub ! 1 refl (whole !)))) refl fits $
     sets ! (of_opd ! (get ! refl)) refl (tt, tt) $ sets ! (agg ! (and_then ! (get ! refl) (and_then ! (get ! refl) (no_more !)))) refl typed $
-    loose_in R Z LZ ghosts ! b o h a x $ use0 𝓛 (raw (fact 𝓤 (v.held ≡ Some x))) (fact_i 𝓤 (v.held ≡ Some x) (emp 𝓤) held) $ nothing ! $ nothing ! $ fjoin ! $
+    loose_in Held Heap LZ ghosts ! b o h a x $ use0 𝓛 (raw (fact 𝓤 (v.held ≡ Some x))) (fact_i 𝓤 (v.held ≡ Some x) (emp 𝓤) held) $ nothing ! $ nothing ! $ fjoin ! $
     returns ! (look_at ! 0 refl) $ free_all ! refl $ keep ! (4 ∷ 0 ∷ 2 ∷ 1 ∷ []) $ by ! (leaves 𝓛 En hs c z w (record { at = block_ptr b o; alloc = a; value = x }) (tt, tt) (tt, tt))))))

@@ -1,0 +1,44 @@
+//! A log that is read line by line.
+
+use crate::judge::fault::Fault;
+use crate::lines::{Line, Lines};
+use md_head::cut_line;
+use md_judge::Session;
+use std::alloc::Global;
+use std::io::{Error, ErrorKind, Read};
+
+/// Hands each line of a log to the judge. The longest line is held in memory, and no other.
+pub(crate) fn judge_lines<L: Read + Drop>(
+    alloc: Global,
+    judge: &mut Session,
+    log: L,
+) -> Result<(), Fault> {
+    let Ok(mut lines) = Lines::new(alloc, log) else {
+        return Err(Fault::no_memory(0));
+    };
+    let mut line = Vec::new(alloc);
+    for number in 1..u64::MAX {
+        match lines.next(&mut line, usize::MAX) {
+            Ok(Line::End) => break,
+            Ok(_) => judge_line(judge, line.as_slice())?,
+            Err(error) => return Err(unread(number, &error)),
+        }
+    }
+    judge.end()?;
+    Ok(())
+}
+
+// A line with its end.
+fn judge_line(judge: &mut Session, line: &[u8]) -> Result<(), Fault> {
+    if let Some((text, _)) = cut_line(line) {
+        judge.line(text)?;
+    }
+    Ok(())
+}
+
+fn unread(number: u64, error: &Error) -> Fault {
+    match error.kind() {
+        ErrorKind::OutOfMemory => Fault::no_memory(number),
+        _ => Fault::Read(number),
+    }
+}

@@ -1,0 +1,59 @@
+//! Findings as lines of text.
+
+use crate::escape::{is_text, push_hex};
+use crate::judge::why::why;
+use md_judge::{Finding, Session};
+use std::alloc::{AllocError, Global};
+
+/// `LINE CLAUSE` and a line feed.
+pub(crate) fn push_short(
+    alloc: Global,
+    out: &mut Vec<u8>,
+    finding: Finding,
+) -> Result<(), AllocError> {
+    let text = format!(in alloc; "{} {}\n", finding.line, finding.clause.name())?;
+    out.extend_from_slice(text.as_bytes())
+}
+
+/// A line for people: the line of the log, the actor, its call, the clause, why, and the earlier line that it goes back to.
+pub(crate) fn push_long(
+    alloc: Global,
+    out: &mut Vec<u8>,
+    session: &Session,
+    at: usize,
+    finding: Finding,
+) -> Result<(), AllocError> {
+    let (actor, call) = session.words(at);
+    out.extend_from_slice(format!(in alloc; "line {}", finding.line)?.as_bytes())?;
+    push_part(out, actor)?;
+    push_part(out, call)?;
+    push_part(out, finding.clause.name().as_bytes())?;
+    push_part(out, why(finding.clause).as_bytes())?;
+    if let Some(before) = finding.before {
+        out.extend_from_slice(format!(in alloc; " (see line {before})")?.as_bytes())?;
+    }
+    out.extend_from_slice(b"\n")
+}
+
+// What comes next in a line for people, after a colon.
+fn push_part(out: &mut Vec<u8>, words: &[u8]) -> Result<(), AllocError> {
+    out.extend_from_slice(b": ")?;
+    push_shown(out, words)
+}
+
+// Words as a terminal may show them: a control byte is `\xNN`, and so is each byte past ASCII where the words are not UTF-8.
+fn push_shown(out: &mut Vec<u8>, words: &[u8]) -> Result<(), AllocError> {
+    let are_text = is_text(words);
+    let mut last = 0u8;
+    for byte in words.iter().copied() {
+        // The control characters from U+0080 to U+009F are two bytes in UTF-8.
+        let is_second = last == 0xc2 && byte < 0xa0;
+        if byte.is_ascii_control() || byte >= 0x80 && (!are_text || is_second) {
+            push_hex(out, b"\\x", byte)?;
+        } else {
+            out.push(byte)?;
+        }
+        last = byte;
+    }
+    Ok(())
+}

@@ -1,0 +1,64 @@
+//! The subcommands on logs of directory calls, and their help.
+
+use crate::options::switch;
+use clap::{Arg, ArgAction, Command};
+use std::alloc::{AllocError, Global};
+
+const AFTER_LOG: &str = "Status:
+  0   the script ran to its end
+  1   a line was refused, or reading, writing or memory failed (line 0); `line N: TEXT` on standard error says which
+
+Examples:
+  deolmutt log < script
+  deolmutt log --states < script | less
+
+docs/TRACE.md says what the log has of a script.";
+
+const AFTER_JUDGE: &str =
+    "A finding has its line, actor, call and clause, why, and the earlier line that it goes back to.
+
+Status:
+  0   the log is lawful
+  1   there are findings
+  2   the log is wrong, or reading, writing or memory failed; `line N: TEXT` on standard error says which
+  66  no such file
+
+Examples:
+  deolmutt judge log
+  deolmutt judge --json < log
+  deolmutt judge --allow NotFlushed --allow Mixed log
+
+docs/JUDGE.md has the log's language and the law.";
+
+/// The log of a script.
+pub(crate) fn log<'a>(alloc: Global) -> Result<Command<'a>, AllocError> {
+    Command::new(alloc, "log")
+        .about("Plays the script on standard input, and prints the log of its directory calls")
+        .after_help(AFTER_LOG)
+        .arg(switch(
+            alloc,
+            "states",
+            "Adds comments that show each name of each directory after each step",
+        ))
+}
+
+/// The judging of a log.
+pub(crate) fn judge<'a>(alloc: Global) -> Result<Command<'a>, AllocError> {
+    let allow = Arg::new(alloc, "allow")
+        .long("allow")
+        .value_name("CLAUSE")
+        .help("Leaves this clause out, as a line `allow CLAUSE` of the log; may be repeated")
+        .action(ArgAction::Append);
+    let file = Arg::new(alloc, "FILE")
+        .help("The log; - or none is standard input")
+        .action(ArgAction::Set);
+    Command::new(alloc, "judge")
+        .about("Prints which steps of a log of directory calls break the law of a maildir")
+        .after_help(AFTER_JUDGE)
+        .arg(switch(alloc, "lines", "Prints LINE CLAUSE for each finding"))?
+        .arg(switch(alloc, "json", "Prints an object of JSON for each finding").conflicts_with(
+            "lines",
+        )?)?
+        .arg(allow)?
+        .arg(file)
+}

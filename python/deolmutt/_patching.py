@@ -1,0 +1,119 @@
+"""`mailbox.Maildir(path)` below a prefix as a mailbox of this package, for tests of code that opens maildirs itself."""
+
+from __future__ import annotations
+
+import mailbox
+import os
+from contextlib import contextmanager
+from functools import lru_cache
+from typing import Any, Iterator, Optional, Union
+
+from ._tree import TOP, Trail, Tree
+from .disk_maildir import DiskMaildir
+from .maildir import Factory, Maildir
+
+StrPath = Union[str, "os.PathLike[str]"]
+
+
+class MemoryMaildir(Maildir, mailbox.Maildir):  # type: ignore[misc]
+    """A mailbox in memory in the place of the one of a path. To close it does nothing, as for that one."""
+
+    _path: str
+
+    def _at(self, trail: Trail) -> MemoryMaildir:
+        found = super()._at(trail)
+        assert isinstance(found, MemoryMaildir)
+        found._path = os.path.join(self._path, *("." + name for name in trail[len(self._trail) :]))
+        return found
+
+    def close(self) -> None:
+        """Does nothing: whoever opens the path again finds what is there now."""
+
+
+class PatchedDiskMaildir(DiskMaildir, mailbox.Maildir):  # type: ignore[misc]
+    """A `DiskMaildir` that is a `mailbox.Maildir`."""
+
+
+class _Stores:
+    """The stores of mailboxes in memory, by the paths of these."""
+
+    def __init__(self) -> None:
+        self._trees: dict[str, Tree] = {}
+
+    def open(self, box: MemoryMaildir, path: str, factory: Optional[Factory], create: bool) -> None:
+        """Makes this the mailbox of a path."""
+        root, trail = self._parted(os.path.realpath(path))
+        tree = self._trees.get(root) or self._load(root, create)
+        if tree.folder(trail) is None:
+            if not create:
+                raise mailbox.NoSuchMailboxError(path)
+            tree.add_folder(trail)
+        self._trees[root] = tree
+        box._begin(tree, trail, factory)
+        box._path = os.path.abspath(path)
+
+    def _parted(self, path: str) -> tuple[str, Trail]:
+        """The mailbox that a path is in, and the folders on the way there from it."""
+        trail: Trail = TOP
+        while True:
+            above, name = os.path.split(path)
+            if len(name) < 2 or not name.startswith(".") or not (above in self._trees or _is_maildir(above)):
+                return path, trail
+            path, trail = above, (name[1:], *trail)
+
+    @staticmethod
+    def _load(path: str, create: bool) -> Tree:
+        if _is_maildir(path):
+            return Maildir.load(path)._tree
+        if not create and not os.path.isdir(path):
+            raise mailbox.NoSuchMailboxError(path)
+        return Maildir()._tree
+
+
+@contextmanager
+def patched(prefix: StrPath, disk: bool = False) -> Iterator[None]:
+    """A context in which `mailbox.Maildir(path)` is a mailbox of this package where the path is the prefix or below it.
+
+    It is one in memory for each path, which is loaded from the tree where one is there: nothing is written to the disk, and
+    whoever opens the path again finds what is there now. With `disk` it is a `DiskMaildir`. It is a `mailbox.Maildir` too, also
+    where code has that class by another name, or a class below it. A path elsewhere is opened as ever.
+
+    The class `mailbox.Maildir` is changed while the context lasts, for all threads.
+    """
+    top = os.path.realpath(os.fspath(prefix))
+    stores = _Stores()
+    before = mailbox.Maildir.__init__
+
+    def begin(self: Any, dirname: StrPath, factory: Optional[Factory] = None, create: bool = True) -> None:
+        path = os.fsdecode(os.fspath(dirname))
+        if not _is_below(path, top):
+            before(self, dirname, factory, create)
+        elif disk:
+            self.__class__ = _with_base(type(self), PatchedDiskMaildir)
+            DiskMaildir.__init__(self, path, factory, create)
+        else:
+            self.__class__ = _with_base(type(self), MemoryMaildir)
+            stores.open(self, path, factory, create)
+
+    setattr(mailbox.Maildir, "__init__", begin)
+    try:
+        yield
+    finally:
+        setattr(mailbox.Maildir, "__init__", before)
+
+
+@lru_cache(maxsize=None)
+def _with_base(kind: type, base: type) -> type:
+    """The class, with the methods of `mailbox.Maildir` that it doesn't have itself from the base."""
+    if issubclass(kind, base):
+        return kind
+    return base if kind is mailbox.Maildir else type(kind.__name__, (kind, base), {"__module__": kind.__module__})
+
+
+def _is_below(path: str, top: str) -> bool:
+    found = os.path.realpath(path)
+    return os.path.commonpath([found, top]) == top
+
+
+def _is_maildir(path: str) -> bool:
+    return all(os.path.isdir(os.path.join(path, place)) for place in ("new", "cur"))

@@ -1,0 +1,26 @@
+//! Finds libdeolmutt: in the folder that DEOLMUTT_LIB_DIR names, or by pkg-config. DEOLMUTT_STATIC asks for libdeolmutt.a.
+
+use std::env;
+use std::process::Command;
+
+fn main() {
+    for name in ["DEOLMUTT_LIB_DIR", "DEOLMUTT_STATIC", "PKG_CONFIG_PATH"] {
+        println!("cargo:rerun-if-env-changed={name}");
+    }
+    let folder = env::var("DEOLMUTT_LIB_DIR").ok().or_else(by_pkg_config);
+    let kind = if env::var_os("DEOLMUTT_STATIC").is_some() { "static" } else { "dylib" };
+    match folder {
+        Some(folder) => println!("cargo:rustc-link-search=native={folder}"),
+        None => println!(
+            "cargo:warning=libdeolmutt is looked for where the linker looks: set DEOLMUTT_LIB_DIR to its folder"
+        ),
+    }
+    println!("cargo:rustc-link-lib={kind}=deolmutt");
+}
+
+/// The folder of the library, where pkg-config knows it.
+fn by_pkg_config() -> Option<String> {
+    let ran = Command::new("pkg-config").args(["--variable=libdir", "deolmutt"]).output().ok()?;
+    let folder = String::from_utf8(ran.stdout).ok()?.trim().to_owned();
+    (ran.status.success() && !folder.is_empty()).then_some(folder)
+}

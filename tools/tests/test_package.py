@@ -1,0 +1,79 @@
+"""tools/package: which trees it makes packages of, and what goes into them."""
+
+from __future__ import annotations
+
+import sys
+import tempfile
+import unittest
+from pathlib import Path
+from unittest import mock
+
+sys.path.insert(0, str(Path(__file__).resolve().parent.parent))
+
+from package_lib import contents, tree
+from package_lib.contents import Entry
+from package_lib.refused import Refused
+
+
+class TreeTest(unittest.TestCase):
+    def setUp(self) -> None:
+        folder = tempfile.TemporaryDirectory()
+        self.addCleanup(folder.cleanup)
+        self.top = Path(folder.name)
+        (self.top / "crates/out").mkdir(parents=True)
+        for name in ("a", "crates/b c", "crates/out/made"):
+            (self.top / name).write_text(name)
+        for name, value in {"TOP": self.top, "PASSED": self.top / "out/passed-tree", "prover": lambda: "kit 1"}.items():
+            put = mock.patch.object(tree, name, value)
+            put.start()
+            self.addCleanup(put.stop)
+
+    def passes(self) -> None:
+        """What the gate does."""
+        tree.PASSED.parent.mkdir(exist_ok=True)
+        tree.PASSED.write_text(tree.state())
+
+    def assert_refused(self, text: str) -> None:
+        with self.assertRaisesRegex(Refused, text):
+            tree.passed()
+
+    def test_a_tree_that_the_gate_has_passed(self) -> None:
+        self.assert_refused("the gate has not passed this tree: run .ci/run")
+        self.passes()
+        prover, first = tree.passed()
+        self.assertEqual("kit 1", prover)
+        (self.top / "crates/out/made").write_text("anew")
+        self.assertEqual(("kit 1", first), tree.passed())
+
+    def test_a_tree_that_has_changed_since(self) -> None:
+        self.passes()
+        (self.top / "crates/b c").write_text("else")
+        self.assert_refused("crates/b c has changed since the gate passed")
+        (self.top / "crates/b c").unlink()
+        self.assert_refused("crates/b c is gone since")
+        (self.top / "crates/b c").write_text("crates/b c")
+        (self.top / "new").write_text("")
+        self.assert_refused("new is new since")
+        (self.top / "new").unlink()
+        tree.passed()
+
+
+class ContentsTest(unittest.TestCase):
+    def test_a_tar_file_says_nothing_of_who_made_it_when(self) -> None:
+        entries = {"x/a": Entry(0o644, b"a"), "x/b": Entry(0o777, b"a", is_link=True)}
+        first = contents.packed(contents.tar(entries, 1_000_000_000))
+        self.assertEqual(first, contents.packed(contents.tar(dict(reversed(entries.items())), 1_000_000_000)))
+
+    def test_each_tool_is_called_by_a_name_of_its_own(self) -> None:
+        tools = contents.OTHERS.read_text(encoding="utf-8").split()
+        for word in tools:
+            if word.startswith("bin/deolmutt-"):
+                self.assertIn(f"share/deolmutt/tools/{word.partition('-')[2]}", tools)
+
+    def test_what_is_not_built_is_said(self) -> None:
+        with self.assertRaisesRegex(Refused, "crates/x/out/x is not there: run .ci/run"):
+            contents._read(contents.TOP / "crates/x/out/x")
+
+
+if __name__ == "__main__":
+    unittest.main()
