@@ -21,7 +21,8 @@ use Rattle.md_judge.specs.Acts.{NamesFirst}
 use Rattle.md_judge.specs.Files.{unique_from, unique_by, unique_in}
 use Rattle.md_judge.specs.Names.{StandFor}
 use Rattle.md_judge.specs.Recalled.{IsSpotOf}
-use Rattle.md_judge.specs.Told.{is_tmp, is_message, IsOf, ActsOn}
+use Rattle.md_law.specs.Messages.{is_tmp, is_message, IsOf}
+use Rattle.md_judge.specs.Told.{ActsOn}
 
 -- ---- the number of a path's unique name
 

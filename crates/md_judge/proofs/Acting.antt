@@ -24,7 +24,8 @@ use Rattle.md_judge.specs.Recalled.{IsSpotOf}
 use Rattle.md_judge.specs.declared.judge.tables.Names.{Names}
 use Rattle.md_judge.proofs.Changing.{never, takes}
 use Rattle.md_judge.proofs.Pathed.{path_by, place-by}
-use Rattle.md_judge.specs.Told.{ask_at, ask_between, after_ask, moment, at}
+use Rattle.md_law.specs.History.{ask_at, ask_between, after_ask}
+use Rattle.md_judge.specs.Told.{moment, at}
 use Rattle.md_judge.proofs.Sparing.{found-none, found-one, ok-then}
 
 -- where a step leaves directories as they were, no path is overwritten

@@ -19,7 +19,8 @@ use Rattle.md_judge.specs.Claims.{IsLastLine}
 use Rattle.md_judge.specs.Law.{AddsMessage, ChangesMessage}
 use Rattle.md_judge.specs.Logs.{Log, Numbered}
 use Rattle.md_judge.specs.Open.{Listings}
-use Rattle.md_judge.specs.Told.{at, IsThere, IsStep, IsAnswer, ActsOn, Looks}
+use Rattle.md_law.specs.Messages.{IsThere}
+use Rattle.md_judge.specs.Told.{at, IsStep, IsAnswer, ActsOn, Looks}
 use Rattle.md_judge.specs.Words.{AreApart, KeepWords}
 use Rattle.md_judge.proofs.Longer.{same-step}
 use Rattle.md_judge.proofs.Moving.{Goes, moves-here, moves-on, moves-same}

@@ -16,7 +16,7 @@ use Rattle.md_log.specs.declared.line.Deed.{Deed}
 use Rattle.md_log.specs.declared.line.Deed.TheVariants as deed
 use Rattle.md_log.specs.declared.line.Naming.{Naming}
 use Rattle.md_log.specs.declared.line.Naming.TheVariants as naming
-use Rattle.md_judge.specs.Told.{ask_at, ask_between, after_ask}
+use Rattle.md_law.specs.History.{ask_at, ask_between, after_ask}
 use Rattle.md_judge.specs.Known.{files_after}
 
 -- a call leaves the state, or what it is defined to leave

@@ -15,7 +15,7 @@ use Rattle.md_dirs.proofs.PathOrder.{path_total, path_exact}
 use Rattle.md_log.specs.declared.line.Naming.{Naming}
 use Rattle.md_log.specs.declared.line.Naming.TheVariants as naming
 use Rattle.md_clauses.specs.declared.changes.Spot.{Spot}
-use Rattle.md_judge.specs.Told.{ask_between}
+use Rattle.md_law.specs.History.{ask_between}
 use Rattle.md_clauses.specs.declared.changes.Change.{Change}
 use Rattle.md_judge.specs.Acts.{after_added, after_turned, after_taken, after_change, IsPathOf, IsTurnOf, Leads}
 use Rattle.md_judge.specs.Law.{Overwrites}

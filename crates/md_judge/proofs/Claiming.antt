@@ -12,7 +12,8 @@ use Rattle.md_clauses.specs.declared.claims.Claim.{Claim}
 use Rattle.md_clauses.specs.declared.claims.Held.{Held}
 use Rattle.md_clauses.specs.declared.claims.Presence.{Presence}
 use Rattle.md_judge.specs.Logs.{Log}
-use Rattle.md_judge.specs.Told.{at, IsThere, IsSpan}
+use Rattle.md_law.specs.Messages.{IsThere}
+use Rattle.md_judge.specs.Told.{at, IsSpan}
 use Rattle.md_judge.specs.Law.{Turn, turn, IsSuccess, LostAndLeft, IsSo, GaveUp}
 use Rattle.md_clauses.specs.Claims.{HasLooked, GivesUp, WasHeld, HasMoved, WasAbsent, IsUpheld}
 use Rattle.md_judge.specs.Claims.{ClaimFinds, IsLook, IsMove, IsLastLine, HasFlags, IsLastMoment, RecallsHeld, IsSince, RecallsPresence, RecallsSo, IsAnswerOf, BrokenByClaim}

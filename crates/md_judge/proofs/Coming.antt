@@ -21,7 +21,8 @@ use Rattle.md_judge.specs.Logs.{Log}
 use Rattle.md_judge.specs.Mailed.{TellsMail, NotesAdded, leaving_by, leaving_of}
 use Rattle.md_judge.specs.Messages.{Leaving, Recalled, IsAddition, BrokenByAdding}
 use Rattle.md_judge.specs.Recalled.{IsSpotOf}
-use Rattle.md_judge.specs.Told.{at, is_message, IsOf}
+use Rattle.md_law.specs.Messages.{is_message, IsOf}
+use Rattle.md_judge.specs.Told.{at}
 use Rattle.md_judge.specs.Words.{AreApart}
 use Rattle.md_judge.proofs.Posted.{recalled}
 use Rattle.md_judge.proofs.Uniqued.{unique-some, unique-none}

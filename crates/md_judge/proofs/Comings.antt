@@ -11,7 +11,8 @@ use Rattle.md_clauses.specs.declared.changes.Spot.{Spot}
 use Rattle.md_clauses.specs.declared.changes.Change.{Change}
 use Rattle.md_judge.specs.declared.judge.mail.Message.{Message}
 use Rattle.md_judge.specs.Logs.{Log}
-use Rattle.md_judge.specs.Told.{at, IsMessageAt, IsThere}
+use Rattle.md_law.specs.Messages.{IsMessageAt, IsThere}
+use Rattle.md_judge.specs.Told.{at}
 use Rattle.md_judge.specs.Law.{turn, Adds, TwoNames}
 use Rattle.md_judge.specs.Acts.{IsPathOf}
 use Rattle.md_judge.proofs.Lawful.{none}

@@ -30,7 +30,9 @@ use Rattle.md_judge.specs.Listings.{message_of}
 use Rattle.md_judge.specs.Logs.{Log}
 use Rattle.md_judge.specs.Mailed.{count_of, AreMailed}
 use Rattle.md_judge.specs.Recalled.{IsSpotOf}
-use Rattle.md_judge.specs.Told.{at, moment, after_step, after_ask, after_call, ask_at, IsStep, IsOf, IsMessageAt, IsThere}
+use Rattle.md_law.specs.History.{after_ask, after_call, ask_at}
+use Rattle.md_law.specs.Messages.{IsOf, IsMessageAt, IsThere}
+use Rattle.md_judge.specs.Told.{at, moment, after_step, IsStep}
 use Rattle.md_judge.specs.Words.{AreApart}
 use Rattle.md_judge.proofs.Lawful.{none}
 use Rattle.md_judge.proofs.Present.{are-present}

@@ -17,7 +17,8 @@ use Rattle.md_judge.specs.Listings.{message_of, present_in, IsIn}
 use Rattle.md_judge.specs.Logs.{Log}
 use Rattle.md_judge.specs.Mailed.{count_of, AreMailed, ArePresent}
 use Rattle.md_judge.specs.Recalled.{IsSpotOf, IsToldAt}
-use Rattle.md_judge.specs.Told.{at, is_message, IsThere}
+use Rattle.md_law.specs.Messages.{is_message, IsThere}
+use Rattle.md_judge.specs.Told.{at}
 use Rattle.md_judge.proofs.Actors.{one-word}
 use Rattle.md_judge.proofs.Folders.{folder-within}
 use Rattle.md_judge.proofs.Housed.{folders-stay}

@@ -20,7 +20,8 @@ use Rattle.md_judge.specs.Logs.{Log, Numbered}
 use Rattle.md_judge.specs.Filed.{IsSeenBy, IsSeenTimes, IsFiled, HasFiles, AreFiled, Acts, IsMadeBy}
 use Rattle.md_clauses.specs.Facts.{made, written, flushed}
 use Rattle.md_judge.specs.Files.{facts_at, AtStep}
-use Rattle.md_judge.specs.Told.{Moment, ask_at, ask_between, after_ask, after_call, moment, at, IsStep, Writes, Flushes, IsUnflushed, IsCut, WasInCur}
+use Rattle.md_law.specs.History.{Moment, ask_at, ask_between, after_ask, after_call}
+use Rattle.md_judge.specs.Told.{moment, at, IsStep, Writes, Flushes, IsUnflushed, IsCut, WasInCur}
 use Rattle.md_judge.proofs.Afters.{after-cases, refused-same}
 use Rattle.md_judge.proofs.Counting.{counted-none}
 use Rattle.md_judge.proofs.Lasting.{since-next, since-now, since-still, files-rise, one-step, calls-one, Creates, maker-next, maker-still, maker-now, maker-low}

@@ -19,7 +19,9 @@ use Rattle.md_judge.specs.Open.{Gathered, nothing_gathered, is_complete, also_re
 use Rattle.md_judge.specs.Listings.{IsIn}
 use Rattle.md_judge.specs.Logs.{Log}
 use Rattle.md_judge.specs.Names.{StandFor, IsNumber, KeepNumbers}
-use Rattle.md_judge.specs.Told.{is_tmp, is_message, IsStep, IsPart, IsReading, IsWholeReading, Shows, IsListing, Read, nothing_read, with_place, with_call, read_at}
+use Rattle.md_law.specs.Messages.{is_tmp, is_message}
+use Rattle.md_law.specs.Readings.{Read, nothing_read, with_place, with_call}
+use Rattle.md_judge.specs.Told.{IsStep, IsPart, IsReading, IsWholeReading, Shows, IsListing, read_at}
 use Rattle.md_judge.proofs.Listed.{read-step}
 use Rattle.md_judge.proofs.Opening.{one-step}
 use Rattle.md_judge.proofs.Parts.{one-reading}

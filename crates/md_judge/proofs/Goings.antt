@@ -14,7 +14,8 @@ use Rattle.md_clauses.specs.declared.changes.Spot.{Spot}
 use Rattle.md_clauses.specs.declared.changes.Change.{Change}
 use Rattle.md_clauses.specs.declared.messages.Going.{Going}
 use Rattle.md_judge.specs.Logs.{Log}
-use Rattle.md_judge.specs.Told.{at, is_message, IsThere}
+use Rattle.md_law.specs.Messages.{is_message, IsThere}
+use Rattle.md_judge.specs.Told.{at}
 use Rattle.md_judge.specs.Law.{turn, Takes, IsTrashed}
 use Rattle.md_judge.specs.Acts.{IsPathOf}
 use Rattle.md_judge.specs.Messages.{TakeFinds, IsTaking, BrokenByTaking}

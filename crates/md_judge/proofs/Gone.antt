@@ -27,7 +27,8 @@ use Rattle.md_judge.specs.Logs.{Log}
 use Rattle.md_judge.specs.Filed.{HoldsOf}
 use Rattle.md_judge.specs.Messages.{IsTaking, BrokenByTaking}
 use Rattle.md_judge.specs.Recalled.{IsSpotOf}
-use Rattle.md_judge.specs.Told.{at, is_tmp, is_message, IsThere}
+use Rattle.md_law.specs.Messages.{is_tmp, is_message, IsThere}
+use Rattle.md_judge.specs.Told.{at}
 use Rattle.md_judge.proofs.Counting.{counted-some}
 use Rattle.md_judge.proofs.Marked.{trashed-is}
 use Rattle.md_judge.proofs.Uniqued.{unique-some, unique-none}

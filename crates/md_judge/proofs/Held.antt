@@ -23,7 +23,8 @@ use Rattle.md_judge.specs.Listings.{IsIn, IsHere, RecallsWas}
 use Rattle.md_judge.specs.Logs.{Log}
 use Rattle.md_judge.specs.Names.{StandFor, IsNumber, AreNumbered, AreMarked, alike_in}
 use Rattle.md_judge.specs.Recalled.{IsSpotOf, IsToldAt}
-use Rattle.md_judge.specs.Told.{at, is_tmp, IsOf, IsMessageAt}
+use Rattle.md_law.specs.Messages.{is_tmp, IsOf, IsMessageAt}
+use Rattle.md_judge.specs.Told.{at}
 use Rattle.md_judge.proofs.Claiming.{up}
 use Rattle.md_judge.proofs.Flags.{bits-tell, info-letters}
 use Rattle.md_judge.proofs.Marked.{info-rest}

@@ -35,7 +35,8 @@ use Rattle.md_text.specs.Flags.{flags_in}
 use Rattle.md_log.specs.Words.{word_at, parted, end_at, number_of}
 use Rattle.md_judge.specs.Logs.{Log, Numbered, with_line, with_folder_line, with_file_line, with_also_line}
 use Rattle.md_judge.specs.Recalled.{HasFolders}
-use Rattle.md_judge.specs.Told.{Moment, after_step, after_call, at}
+use Rattle.md_law.specs.History.{Moment, after_call}
+use Rattle.md_judge.specs.Told.{after_step, at}
 use Rattle.md_judge.proofs.Afters.{path-folders, at-folders, between-folders}
 
 -- ---- readers in sequence

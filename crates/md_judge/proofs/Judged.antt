@@ -31,7 +31,9 @@ use Rattle.md_judge.specs.Known.{EachPath, EachSpot, files_after}
 use Rattle.md_judge.specs.Law.{Turn, turn}
 use Rattle.md_judge.specs.Logs.{Log}
 use Rattle.md_judge.specs.Recalled.{IsSpotOf}
-use Rattle.md_judge.specs.Told.{ask_at, after_call, moment, at, is_message, IsStep, IsSeen, IsUnflushed, IsCut}
+use Rattle.md_law.specs.History.{ask_at, after_call}
+use Rattle.md_law.specs.Messages.{is_message, IsSeen}
+use Rattle.md_judge.specs.Told.{moment, at, IsStep, IsUnflushed, IsCut}
 use Rattle.md_judge.proofs.Acting.{done-none}
 use Rattle.md_judge.proofs.Afters.{at-files, between-files, after-cases, append-paths}
 use Rattle.md_judge.proofs.Counting.{counted-some}

@@ -14,7 +14,9 @@ use Rattle.md_log.specs.declared.line.Call.{Call}
 use Rattle.md_log.specs.declared.line.Call.TheVariants as call
 use Rattle.md_log.specs.declared.line.Step.{Step}
 use Rattle.md_judge.specs.Logs.{Log, Numbered}
-use Rattle.md_judge.specs.Told.{Moment, after_step, after_call, moment, at, is_message, IsStep, Calls, IsMaker, WasInCur}
+use Rattle.md_law.specs.History.{Moment, after_call}
+use Rattle.md_law.specs.Messages.{is_message}
+use Rattle.md_judge.specs.Told.{after_step, moment, at, IsStep, Calls, IsMaker, WasInCur}
 use Rattle.md_judge.proofs.Afters.{at-files, files-grow, between-files}
 use Rattle.md_judge.proofs.Stepping.{at-next}
 

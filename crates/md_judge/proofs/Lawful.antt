@@ -18,7 +18,8 @@ use Rattle.md_clauses.specs.declared.facts.FileFacts.{FileFacts}
 use Rattle.md_judge.specs.declared.judge.files.Filed.{Filed}
 use Rattle.md_judge.specs.declared.judge.tables.Names.{Names}
 use Rattle.md_judge.specs.Logs.{Log}
-use Rattle.md_judge.specs.Told.{at, moment, is_message, IsSeen, IsMaker}
+use Rattle.md_law.specs.Messages.{is_message, IsSeen}
+use Rattle.md_judge.specs.Told.{at, moment, IsMaker}
 use Rattle.md_judge.specs.Law.{turn, Writes, BeginsToBeSeen, Leaves}
 use Rattle.md_judge.specs.Acts.{IsPathOf}
 use Rattle.md_clauses.specs.Changes.{named_by, turned_by}

@@ -20,7 +20,9 @@ use Rattle.md_judge.specs.declared.judge.listing.Listing.{Listing}
 use Rattle.md_judge.specs.declared.judge.mail.Mail.{Mail}
 use Rattle.md_judge.specs.declared.judge.mail.Message.{Message}
 use Rattle.md_judge.specs.Logs.{Log, Numbered}
-use Rattle.md_judge.specs.Told.{at, IsThere, IsListing, IsPart, Read, nothing_read, with_place, with_call, read_at}
+use Rattle.md_law.specs.Messages.{IsThere}
+use Rattle.md_law.specs.Readings.{Read, nothing_read, with_place, with_call}
+use Rattle.md_judge.specs.Told.{at, IsListing, IsPart, read_at}
 use Rattle.md_judge.specs.Law.{Turn, turn, WasThere, Unlisted}
 use Rattle.md_judge.specs.Listings.{times_of, was_through, was_in, message_of, present_in, was_at_each, is_lacking, lacking, ListFinds, IsIn, RecallsTimes, RecalledTimes, IsCounted, LeavesOut, IsCompleted, BrokenByListing}
 use Rattle.md_judge.proofs.Claiming.{up, down}

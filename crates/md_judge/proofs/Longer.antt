@@ -19,7 +19,10 @@ use Rattle.md_log.specs.declared.line.Call.TheVariants as call
 use Rattle.md_log.specs.declared.line.Step.{Step}
 use Rattle.md_judge.specs.Law.{Turn, turn, Breaks, ShowsWrongly, Lacks, IsWrongReading, IsWrongCall, SeenBeforeWhole, UsedAgain, WasThere, WasListed, LostAndLeft, IsSo}
 use Rattle.md_judge.specs.Logs.{Log, Numbered}
-use Rattle.md_judge.specs.Told.{Moment, after_step, moment, at, IsStep, IsMessageAt, IsThere, Calls, Writes, Flushes, IsUnflushed, IsCut, WasInCur, IsMaker, IsPart, IsReading, IsWholeReading, Shows, IsListing, Read, nothing_read, with_call, read_at, IsAnswer, IsSpan, IsOwn}
+use Rattle.md_law.specs.History.{Moment}
+use Rattle.md_law.specs.Messages.{IsMessageAt, IsThere}
+use Rattle.md_law.specs.Readings.{Read, nothing_read, with_call}
+use Rattle.md_judge.specs.Told.{after_step, moment, at, IsStep, Calls, Writes, Flushes, IsUnflushed, IsCut, WasInCur, IsMaker, IsPart, IsReading, IsWholeReading, Shows, IsListing, read_at, IsAnswer, IsSpan, IsOwn}
 
 -- Two logs have the same moments up to this one, and the same steps before it.
 pub record AreAlike (l l' : Log) (i : ℕ) : Type 0 where

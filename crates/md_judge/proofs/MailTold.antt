@@ -8,7 +8,8 @@ use Rattle.md_judge.specs.Open.{IsMailTold}
 use Rattle.md_judge.specs.Listings.{message_of}
 use Rattle.md_judge.specs.Logs.{Log}
 use Rattle.md_judge.specs.Mailed.{count_of, IsPathThere, AreMailed, ArePresent, AreTimed}
-use Rattle.md_judge.specs.Told.{at, IsThere}
+use Rattle.md_law.specs.Messages.{IsThere}
+use Rattle.md_judge.specs.Told.{at}
 use Rattle.md_judge.proofs.Counting.{counted-some}
 
 -- a message has a path just where it is in its folder

@@ -19,7 +19,8 @@ use Rattle.md_judge.specs.Listings.{message_of}
 use Rattle.md_judge.specs.Logs.{Log, Numbered, empty_log}
 use Rattle.md_judge.specs.Names.{AreMarked}
 use Rattle.md_judge.specs.Recalled.{IsSpotOf}
-use Rattle.md_judge.specs.Told.{Moment, at}
+use Rattle.md_law.specs.History.{Moment}
+use Rattle.md_judge.specs.Told.{at}
 use Rattle.md_judge.proofs.Longer.{alike-longer}
 use Rattle.md_judge.proofs.Opened.{path, change, leads, spots}
 use Rattle.md_judge.proofs.Posted.{tells-next, tells-alike}

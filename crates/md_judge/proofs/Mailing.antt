@@ -17,7 +17,7 @@ use Rattle.md_judge.specs.Filed.{HoldsOf}
 use Rattle.md_judge.specs.Known.{EachPath, EachTurned, EachSpot}
 use Rattle.md_judge.specs.Listings.{message_of}
 use Rattle.md_judge.specs.Recalled.{IsSpotOf}
-use Rattle.md_judge.specs.Told.{is_message, IsOf}
+use Rattle.md_law.specs.Messages.{is_message, IsOf}
 use Rattle.md_judge.specs.Words.{AreApart}
 use Rattle.md_judge.proofs.Counting.{counted-more, counted-less, counted-alike, counted-some}
 use Rattle.md_judge.proofs.Uniqued.{unique-some, unique-none}

@@ -22,7 +22,8 @@ use Rattle.md_judge.specs.Mailed.{count_of}
 use Rattle.md_judge.specs.Claims.{IsLastLine}
 use Rattle.md_judge.specs.Law.{TakesMessage}
 use Rattle.md_judge.specs.Logs.{Log}
-use Rattle.md_judge.specs.Told.{at, IsThere, IsStep}
+use Rattle.md_law.specs.Messages.{IsThere}
+use Rattle.md_judge.specs.Told.{at, IsStep}
 use Rattle.md_judge.proofs.Finishing.{in-keys}
 use Rattle.md_judge.proofs.Lined.{begun_in}
 use Rattle.md_judge.proofs.Opening.{one-step}

@@ -24,7 +24,8 @@ use Rattle.md_judge.specs.Files.{named, facts_at, Changes, Adds, ChangeStep}
 use Rattle.md_judge.specs.Known.{EachSpot}
 use Rattle.md_judge.specs.Logs.{Log, Numbered, empty_log, with_file_line, with_also_line}
 use Rattle.md_judge.specs.Recalled.{IsSpotOf}
-use Rattle.md_judge.specs.Told.{Moment, at, WasInCur}
+use Rattle.md_law.specs.History.{Moment}
+use Rattle.md_judge.specs.Told.{at, WasInCur}
 use Rattle.md_judge.proofs.Alike.{filed-alike}
 use Rattle.md_judge.proofs.Changing.{adds, never}
 use Rattle.md_judge.proofs.Counting.{counted-none}

@@ -21,7 +21,8 @@ use Rattle.md_judge.specs.Logs.{Log}
 use Rattle.md_judge.specs.Messages.{Recalled}
 use Rattle.md_judge.specs.Names.{GrowsUniques}
 use Rattle.md_judge.specs.Recalled.{IsSpotOf}
-use Rattle.md_judge.specs.Told.{at, is_message, IsOf, IsMessageAt, IsThere}
+use Rattle.md_law.specs.Messages.{is_message, IsOf, IsMessageAt, IsThere}
+use Rattle.md_judge.specs.Told.{at}
 use Rattle.md_judge.proofs.Counting.{counted-alike, counted-none, counted-some, counted-two}
 use Rattle.md_judge.proofs.Mailing.{count-next, was-next, copies-next}
 use Rattle.md_judge.proofs.Shown.{held}

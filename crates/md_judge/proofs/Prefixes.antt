@@ -14,7 +14,8 @@ use Rattle.md_judge.specs.Law.{turn, Breaks, IsAllowed, IsFinding}
 use Rattle.md_judge.specs.Logs.{Log, Numbered}
 use Rattle.md_judge.specs.Listings.{IsHere, RecallsWas}
 use Rattle.md_judge.specs.Recalled.{IsToldAt}
-use Rattle.md_judge.specs.Told.{Moment, after_step, moment, at}
+use Rattle.md_law.specs.History.{Moment}
+use Rattle.md_judge.specs.Told.{after_step, moment, at}
 use Rattle.md_judge.proofs.Longer.{same-step, breaks-longer}
 
 -- a log with one more step

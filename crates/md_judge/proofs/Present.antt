@@ -6,7 +6,8 @@ use Rattle.md_judge.specs.Actors.{MayStand}
 use Rattle.md_judge.specs.Listings.{message_of}
 use Rattle.md_judge.specs.Logs.{Log}
 use Rattle.md_judge.specs.Mailed.{AreMailed, IsPathThere, count_of}
-use Rattle.md_judge.specs.Told.{at, IsThere}
+use Rattle.md_law.specs.Messages.{IsThere}
+use Rattle.md_judge.specs.Told.{at}
 use Rattle.md_judge.proofs.Counting.{counted-some}
 
 -- also of messages whose unique name has no number yet

@@ -20,7 +20,8 @@ use Rattle.md_judge.specs.Listings.{message_cmp}
 use Rattle.md_judge.specs.Logs.{Log, Numbered}
 use Rattle.md_judge.specs.Words.{AreApart}
 use Rattle.md_judge.specs.Names.{KeepNumbers}
-use Rattle.md_judge.specs.Told.{IsStep, Read, nothing_read, read_at}
+use Rattle.md_law.specs.Readings.{Read, nothing_read}
+use Rattle.md_judge.specs.Told.{IsStep, read_at}
 use Rattle.md_judge.proofs.Gathering.{EndsNone, read-still, gathered-grows, none-gathered, spans-again, shown-again, gathered-still, gathered-next}
 use Rattle.md_judge.proofs.Longer.{alike-longer, turned, read-alike, shows-alike, whole-alike}
 use Rattle.md_judge.proofs.Opening.{part-kept}

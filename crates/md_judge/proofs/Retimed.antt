@@ -16,7 +16,8 @@ use Rattle.md_judge.specs.Mailed.{count_of, AreMailed, times_by, since_by, Times
 use Rattle.md_clauses.specs.Befores.{kept_moment}
 use Rattle.md_judge.specs.Names.{GrowsUniques}
 use Rattle.md_judge.specs.Recalled.{IsSpotOf}
-use Rattle.md_judge.specs.Told.{at, IsThere}
+use Rattle.md_law.specs.Messages.{IsThere}
+use Rattle.md_judge.specs.Told.{at}
 use Rattle.md_judge.proofs.MailTold.{has-some}
 use Rattle.md_judge.proofs.Timing.{times-next}
 use Rattle.md_judge.proofs.Uniqued.{unique-some}

@@ -24,7 +24,8 @@ use Rattle.md_judge.specs.Names.{AreNumbered}
 use Rattle.md_judge.specs.Open.{Listings}
 use Rattle.md_judge.specs.Recalled.{IsToldAt}
 use Rattle.md_judge.specs.Said.{presence_of, presence_by, claim_by}
-use Rattle.md_judge.specs.Told.{at, IsThere, IsSpan}
+use Rattle.md_law.specs.Messages.{IsThere}
+use Rattle.md_judge.specs.Told.{at, IsSpan}
 use Rattle.md_judge.proofs.Claiming.{up, down}
 use Rattle.md_judge.proofs.Held.{flags-so}
 use Rattle.md_judge.proofs.MailTold.{has-some}

@@ -23,7 +23,7 @@ use Rattle.md_judge.specs.Files.{unique_from, unique_by, is_message_in, is_cur, 
 use Rattle.md_judge.specs.Known.{EachPath, EachTurned, EachSpot}
 use Rattle.md_judge.specs.Names.{StandFor}
 use Rattle.md_judge.specs.Recalled.{IsSpotOf}
-use Rattle.md_judge.specs.Told.{is_tmp, is_message}
+use Rattle.md_law.specs.Messages.{is_tmp, is_message}
 use Rattle.md_judge.proofs.Counting.{counted-more, counted-less, counted-alike}
 use Rattle.md_judge.proofs.Named.{now-names, names-now, now-leaves, leaves-now}
 

@@ -7,7 +7,8 @@ use Rattle.md_dirs.specs.State.{State, file_at}
 use Rattle.md_dirs.specs.declared.paths.Path.{Path}
 use Rattle.md_judge.specs.declared.judge.known.Known.{Known}
 use Rattle.md_judge.specs.Logs.{Log, Numbered}
-use Rattle.md_judge.specs.Told.{Moment, after_step, after_call, moment, at}
+use Rattle.md_law.specs.History.{Moment, after_call}
+use Rattle.md_judge.specs.Told.{after_step, moment, at}
 use Rattle.md_judge.specs.Listings.{IsHere}
 use Rattle.md_judge.specs.Recalled.{spot_of, IsToldAt}
 use Rattle.std.proofs.lemmas.Bool.{cases_lt}

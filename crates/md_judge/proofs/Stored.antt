@@ -16,7 +16,7 @@ use Rattle.md_log.specs.declared.line.Naming.TheVariants as naming
 use Rattle.md_log.specs.declared.line.Call.{Call}
 use Rattle.md_log.specs.declared.line.Call.TheVariants as call
 use Rattle.md_judge.specs.Filed.{HasFiles}
-use Rattle.md_judge.specs.Told.{ask_at, ask_between, after_call}
+use Rattle.md_law.specs.History.{ask_at, ask_between, after_call}
 use Rattle.md_judge.proofs.Afters.{after-cases, path-files}
 
 -- ---- each path names a file that is there

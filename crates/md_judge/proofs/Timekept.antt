@@ -20,7 +20,8 @@ use Rattle.md_judge.specs.Mailed.{count_of, AreMailed, KeepsPresent, AddAt, Came
 use Rattle.md_clauses.specs.Befores.{kept_moment}
 use Rattle.md_judge.specs.Names.{GrowsUniques}
 use Rattle.md_judge.specs.Recalled.{IsToldAt, spot_of}
-use Rattle.md_judge.specs.Told.{at, IsThere}
+use Rattle.md_law.specs.Messages.{IsThere}
+use Rattle.md_judge.specs.Told.{at}
 use Rattle.md_judge.specs.Files.{unique_in}
 use Rattle.md_judge.proofs.MailTold.{has-some}
 use Rattle.md_judge.proofs.Presence.{adds-present}

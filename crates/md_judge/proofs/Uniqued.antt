@@ -13,7 +13,7 @@ use Rattle.md_judge.specs.Files.{unique_from, unique_by, unique_in}
 use Rattle.md_judge.specs.Words.{AreApart}
 use Rattle.md_judge.specs.Names.{StandFor, AreMarked, GrowsUniques}
 use Rattle.md_judge.specs.Recalled.{IsSpotOf}
-use Rattle.md_judge.specs.Told.{is_message}
+use Rattle.md_law.specs.Messages.{is_message}
 use Rattle.md_judge.proofs.Numbers.{split_is}
 use Rattle.md_judge.proofs.Shown.{message-of}
 

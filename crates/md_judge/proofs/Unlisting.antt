@@ -20,7 +20,9 @@ use Rattle.md_judge.specs.Open.{Gathered, gathered_of, is_complete, Gathers, Cou
 use Rattle.md_judge.specs.Law.{Turn, turn, WasListed, Unlisted}
 use Rattle.md_judge.specs.Listings.{message_of, present_in, IsIn, RecalledTimes, IsCompleted}
 use Rattle.md_judge.specs.Logs.{Log}
-use Rattle.md_judge.specs.Told.{at, is_tmp, is_message, IsThere, IsStep, nothing_read, read_at}
+use Rattle.md_law.specs.Messages.{is_tmp, is_message, IsThere}
+use Rattle.md_law.specs.Readings.{nothing_read}
+use Rattle.md_judge.specs.Told.{at, IsStep, read_at}
 use Rattle.md_judge.proofs.Gathering.{EndsNone, read-still, unique-at, counts-now, spans-now, shown-by-now, is-listing, goes-on-by}
 use Rattle.md_judge.proofs.Reopened.{IsNoPart, same-part}
 

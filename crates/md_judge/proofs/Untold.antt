@@ -11,7 +11,8 @@ use Rattle.md_judge.specs.Claims.{RecallsSo}
 use Rattle.md_judge.specs.Actors.{IsUntold, HasUntold, UnlinksMessage, RecallsDeeds}
 use Rattle.md_judge.specs.Law.{turn, AddsMessage, ChangesMessage}
 use Rattle.md_judge.specs.Logs.{Log}
-use Rattle.md_judge.specs.Told.{at, IsStep, IsAnswer, IsSpan, IsOwn, IsMessageAt, IsThere}
+use Rattle.md_law.specs.Messages.{IsMessageAt, IsThere}
+use Rattle.md_judge.specs.Told.{at, IsStep, IsAnswer, IsSpan, IsOwn}
 use Rattle.md_judge.proofs.Spanning.{before, own-here, goes-on, untold-on, untold-back, own-untold, untold-own}
 
 module _ (l : Log) (i : ℕ) (x : Step) (is : IsStep l i x) (actor : List ℕ) (folder : ℕ) (unique : List ℕ) where

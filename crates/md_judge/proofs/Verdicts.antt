@@ -35,7 +35,8 @@ use Rattle.md_judge.specs.Logs.{Log, Numbered, empty_log, has_begun, with_line, 
 use Rattle.md_judge.specs.Verdict.{AreEarlier, AreInOrder, HasNoTicks, Remembers, IsAmong, AreLinesOf, HasRead, IsHeadOf, IsBroken, AddsFinding, KeepsHead}
 use Rattle.md_judge.specs.Recalled.{HasFolders}
 use Rattle.md_judge.specs.Taken.{with_given}
-use Rattle.md_judge.specs.Told.{Moment, at}
+use Rattle.md_law.specs.History.{Moment}
+use Rattle.md_judge.specs.Told.{at}
 use Rattle.md_judge.proofs.Ordered.{HaveNumbersFrom}
 use Rattle.md_judge.proofs.Mailbegun.{tells-longer, tells-opening}
 use Rattle.md_judge.proofs.Actors.{acting-first, acting-longer}

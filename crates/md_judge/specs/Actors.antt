@@ -29,7 +29,8 @@ use Rattle.md_judge.specs.Listings.{message_cmp, message_of, present_in, IsIn}
 use Rattle.md_judge.specs.Logs.{Log}
 use Rattle.md_judge.specs.Mailed.{count_of}
 use Rattle.md_judge.specs.Open.{Listings}
-use Rattle.md_judge.specs.Told.{at, IsThere, IsStep, IsAnswer, IsSpan, ActsOn, Looks}
+use Rattle.md_law.specs.Messages.{IsThere}
+use Rattle.md_judge.specs.Told.{at, IsStep, IsAnswer, IsSpan, ActsOn, Looks}
 use Rattle.md_dirs.specs.declared.paths.Path.{Path}
 use Rattle.md_clauses.specs.declared.changes.Change.{Change}
 

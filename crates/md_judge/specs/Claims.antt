@@ -19,7 +19,8 @@ use Rattle.md_clauses.specs.declared.claims.Held.{Held}
 use Rattle.md_clauses.specs.declared.claims.Presence.{Presence}
 use Rattle.md_clauses.specs.Claims.{count_of, GivesUp, IsUpheld}
 use Rattle.md_judge.specs.Logs.{Log}
-use Rattle.md_judge.specs.Told.{at, IsStep, IsMessageAt, IsThere, IsSpan, IsOwn, ActsOn, Looks}
+use Rattle.md_law.specs.Messages.{IsMessageAt, IsThere}
+use Rattle.md_judge.specs.Told.{at, IsStep, IsSpan, IsOwn, ActsOn, Looks}
 use Rattle.md_judge.specs.Law.{Turn, turn, IsSuccess, TakesMessage, ChangesMessage, IsSo, GaveUp, AnsweredFalsely}
 
 -- ---- what is found

@@ -17,7 +17,8 @@ use Rattle.md_judge.specs.Files.{facts_at, is_message_in}
 use Rattle.md_judge.specs.Law.{Turn, turn, SeenBeforeWhole, Mixed, NotFlushed, MovedBack, CleanedEarly, MakesMessage, WritesSeen, ShowsCut}
 use Rattle.md_judge.specs.Listings.{IsIn}
 use Rattle.md_judge.specs.Logs.{Log}
-use Rattle.md_judge.specs.Told.{at, moment, is_message, IsStep, IsUnflushed, IsCut, WasInCur, IsSeen, IsMaker}
+use Rattle.md_law.specs.Messages.{is_message, IsSeen}
+use Rattle.md_judge.specs.Told.{at, moment, IsStep, IsUnflushed, IsCut, WasInCur, IsMaker}
 use Rattle.md_log.specs.declared.line.Reply.{Reply}
 use Rattle.md_log.specs.declared.line.Deed.{Deed}
 use Rattle.md_log.specs.declared.line.Call.TheVariants as call

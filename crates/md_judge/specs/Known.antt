@@ -17,7 +17,8 @@ use Rattle.md_log.specs.declared.line.Reply.{Reply}
 use Rattle.md_log.specs.declared.line.Reply.TheVariants as reply
 use Rattle.md_log.specs.declared.line.Deed.{Deed}
 use Rattle.md_log.specs.declared.line.Deed.TheVariants as deed
-use Rattle.md_judge.specs.Told.{after_ask, at}
+use Rattle.md_law.specs.History.{after_ask}
+use Rattle.md_judge.specs.Told.{at}
 use Rattle.md_judge.specs.Law.{IsWrongReply, Overwrites}
 use Rattle.md_clauses.specs.Befores.{kept_moment}
 use Rattle.md_judge.specs.Logs.{Log}

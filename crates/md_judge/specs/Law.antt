@@ -22,7 +22,9 @@ use Rattle.md_log.specs.declared.line.Call.{Call}
 use Rattle.md_log.specs.declared.line.Call.TheVariants as call
 use Rattle.md_log.specs.declared.line.Step.{Step}
 use Rattle.md_judge.specs.Logs.{Log}
-use Rattle.md_judge.specs.Told.{ask_at, ask_between, moment, at, is_message, IsOf, IsMessageAt, IsThere, IsSeen, IsUnflushed, IsCut, WasInCur, IsMaker, IsReading, IsWholeReading, Shows, IsListing, IsSpan, IsOwn, ActsOn, Looks}
+use Rattle.md_law.specs.History.{ask_at, ask_between}
+use Rattle.md_law.specs.Messages.{is_message, IsOf, IsMessageAt, IsThere, IsSeen}
+use Rattle.md_judge.specs.Told.{moment, at, IsUnflushed, IsCut, WasInCur, IsMaker, IsReading, IsWholeReading, Shows, IsListing, IsSpan, IsOwn, ActsOn, Looks}
 
 -- a step of a log, with the directories before and after it
 pub record Turn : Type 0 where

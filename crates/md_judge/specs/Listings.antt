@@ -16,7 +16,8 @@ use Rattle.md_judge.specs.declared.judge.listing.Listing.{Listing}
 use Rattle.md_judge.specs.declared.judge.mail.Mail.{Mail}
 use Rattle.md_judge.specs.declared.judge.mail.Message.{Message}
 use Rattle.md_judge.specs.Logs.{Log}
-use Rattle.md_judge.specs.Told.{at, IsThere, IsWholeReading, IsListing, IsReading, Shows}
+use Rattle.md_law.specs.Messages.{IsThere}
+use Rattle.md_judge.specs.Told.{at, IsWholeReading, IsListing, IsReading, Shows}
 use Rattle.md_judge.specs.Law.{Turn, turn, WasThere, WasListed, Unlisted, NotADirectory}
 use Rattle.md_dirs.specs.Path.{path_of}
 use Rattle.md_dirs.specs.State.{file_at}

@@ -20,7 +20,8 @@ use Rattle.md_judge.specs.Law.{Turn, TwoNames, Gone, UsedAgain}
 use Rattle.md_judge.specs.Listings.{is_of, message_of, present_in, IsIn, message_cmp, times_of, RecalledTimes}
 use Rattle.md_judge.specs.Logs.{Log}
 use Rattle.md_judge.specs.Messages.{WasFile, WasAs}
-use Rattle.md_judge.specs.Told.{at, is_message, IsMessageAt, IsThere}
+use Rattle.md_law.specs.Messages.{is_message, IsMessageAt, IsThere}
+use Rattle.md_judge.specs.Told.{at}
 use Rattle.md_judge.specs.Words.{AreApart}
 use Rattle.md_judge.specs.Names.{AreMarked}
 use Rattle.std.specs.Option.{unwrap_or}

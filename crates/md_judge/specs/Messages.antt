@@ -17,7 +17,8 @@ use Rattle.md_judge.specs.declared.judge.mail.Message.{Message}
 use Rattle.md_clauses.specs.declared.messages.Going.{Going}
 use Rattle.md_clauses.specs.Goings.{IsLost}
 use Rattle.md_judge.specs.Logs.{Log}
-use Rattle.md_judge.specs.Told.{at, is_message, IsOf, IsMessageAt, IsThere}
+use Rattle.md_law.specs.Messages.{is_message, IsOf, IsMessageAt, IsThere}
+use Rattle.md_judge.specs.Told.{at}
 use Rattle.md_judge.specs.Law.{Turn, IsTrashed, TwoNames, Gone, UsedAgain}
 use Rattle.md_judge.specs.Acts.{IsPathOf, Leads}
 

@@ -19,7 +19,9 @@ use Rattle.md_judge.specs.Logs.{Log}
 use Rattle.md_judge.specs.Words.{AreApart}
 use Rattle.md_judge.specs.Names.{IsNumber, AreNumbered, KeepNumbers}
 use Rattle.md_judge.specs.Recalled.{IsToldAt}
-use Rattle.md_judge.specs.Told.{at, IsStep, IsPart, IsReading, Shows, is_message, IsThere, IsWholeReading, Read, nothing_read, read_at}
+use Rattle.md_law.specs.Messages.{is_message, IsThere}
+use Rattle.md_law.specs.Readings.{Read, nothing_read}
+use Rattle.md_judge.specs.Told.{at, IsStep, IsPart, IsReading, Shows, IsWholeReading, read_at}
 use Rattle.md_dirs.specs.Path.{path_of}
 use Rattle.md_judge.specs.declared.judge.mail.Mail.{Mail}
 use Rattle.md_judge.specs.Files.{unique_number}

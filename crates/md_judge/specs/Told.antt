@@ -1,53 +1,23 @@
 -- What a log tells: the directories at each moment, by the definitions of the directory calls, and what was done to each file.
 -- Moments are numbered from 0: moment 0 is the beginning, and the step of a number goes from the moment of that number to the next.
-use Rattle.std.specs.Prelude.{ℕ, suc, ◌≡◌, ◌≢◌, ◌<◌, ◌≤◌, List, [], Some, Bool, true, false, take, slice_get, max, if◌then◌else◌, ◌&&◌, not, length, ◌==◌, fold}
+use Rattle.std.specs.Prelude.{ℕ, suc, ◌≡◌, ◌≢◌, ◌<◌, ◌≤◌, List, Some, true, take, slice_get, max, if◌then◌else◌, length, fold}
 use Rattle.std.specs.Str.{bytes_eq}
 use Rattle.md_dirs.specs.State.{State, file_at}
-use Rattle.md_dirs.specs.Calls as dirs
 use Rattle.md_dirs.specs.declared.paths.Path.{Path}
 use Rattle.md_dirs.specs.declared.paths.Place.{Place}
-use Rattle.md_dirs.specs.declared.paths.Place.TheVariants.{Tmp, New, Cur}
-use Rattle.md_name.specs.Names.{unique_of, is_message_name}
+use Rattle.md_dirs.specs.declared.paths.Place.TheVariants.{Cur}
 use Rattle.md_log.specs.declared.line.Reply.{Reply}
 use Rattle.md_log.specs.declared.line.Reply.TheVariants as reply
 use Rattle.md_log.specs.declared.line.Deed.{Deed}
 use Rattle.md_log.specs.declared.line.Deed.TheVariants as deed
-use Rattle.md_log.specs.declared.line.Naming.{Naming}
-use Rattle.md_log.specs.declared.line.Naming.TheVariants as naming
 use Rattle.md_log.specs.declared.line.Said.{Said}
 use Rattle.md_log.specs.declared.line.Call.{Call}
 use Rattle.md_log.specs.declared.line.Call.TheVariants as call
 use Rattle.md_log.specs.declared.line.Step.{Step}
+use Rattle.md_law.specs.History.{Moment, after_call}
+use Rattle.md_law.specs.Messages.{is_message, IsOf}
+use Rattle.md_law.specs.Readings.{Read, nothing_read, with_call}
 use Rattle.md_judge.specs.Logs.{Log, Numbered}
-
--- The directory call of a call on one path, at a clock. A log knows no bytes: a write adds none, and sets the stamp. A flush changes
--- nothing.
-abbrev pub ask_at : Deed → Path → ℕ → dirs.Ask
-ask_at deed.Create p now = dirs.create p now
-ask_at deed.Write p now = dirs.append p [] now
-ask_at deed.Flush p now = record { refusal = (dirs.append p [] now).refusal; after = λ s. s }
-ask_at deed.Unlink p now = dirs.unlink p
-
--- the directory call of a call on two paths
-abbrev pub ask_between : Naming → Path → Path → dirs.Ask
-ask_between naming.Link old new = dirs.link old new
-ask_between naming.Rename old new = dirs.rename old new
-
--- the directories after a call that was made; one that was refused changes nothing
-abbrev pub after_ask : Reply → dirs.Ask → State → State
-after_ask reply.Ok ask s = ask.after s
-after_ask r ask s = s
-
-abbrev pub after_call : Call → ℕ → State → State
-after_call (call.At d p r) now s = after_ask r (ask_at d p now) s
-after_call (call.Between n old new r) now s = after_ask r (ask_between n old new) s
-after_call (call.List folder place r shown) now s = s
-after_call (call.Answer answer folder unique) now s = s
-
--- the directories and the clock at a moment
-pub record Moment : Type 0 where
-  pub state : State
-  pub now : ℕ
 
 -- the clock is the greatest moment or stamp so far
 abbrev pub after_step : Moment → Numbered → Moment
@@ -64,31 +34,6 @@ at l i = (moment l i).state
 -- the step of a number is this
 abbrev pub IsStep : Log → ℕ → Step → Type 0
 IsStep l i x = (number : ℕ) × (slice_get l.steps i ≡ Some (record { number = number; step = x }))
-
-abbrev pub is_tmp : Place → Bool
-is_tmp Tmp = true
-is_tmp New = false
-is_tmp Cur = false
-
--- maildir(5): a message has a name in new or cur that begins with no dot; own: and has a unique part
-abbrev pub is_message : Path → Bool
-is_message p = not (is_tmp p.place) && is_message_name p.name
-
--- a path names the message of a unique name in a folder
-abbrev pub IsOf : Path → ℕ → List ℕ → Type 0
-IsOf p folder unique = (is_message p ≡ true) × (p.folder ≡ folder) × (unique_of p.name ≡ unique)
-
--- the path is there, names the message, and its file has this number
-abbrev pub IsMessageAt : State → ℕ → List ℕ → Path → ℕ → Type 0
-IsMessageAt s folder unique p file = (file_at s p ≡ Some file) × IsOf p folder unique
-
--- the message is in the folder
-abbrev pub IsThere : State → ℕ → List ℕ → Type 0
-IsThere s folder unique = (p : Path) × (file : ℕ) × IsMessageAt s folder unique p file
-
--- readers see the file: a path that is there names a message and has this file
-abbrev pub IsSeen : State → ℕ → Type 0
-IsSeen s file = (p : Path) × (file_at s p ≡ Some file) × (is_message p ≡ true)
 
 -- the step calls so on one path, and the call answers so
 abbrev pub Calls : Log → ℕ → Deed → Path → Reply → Type 0
@@ -143,24 +88,6 @@ abbrev pub Shows : Log → ℕ → ℕ → List ℕ → ℕ → Place → List �
 Shows l first last actor folder place name =
     (j : ℕ) × (x : Step) × (r : Reply) × (shown : List (List ℕ)) × (first ≤ j) × (j ≤ last) × IsStep l j x × (x.actor ≡ actor)
     × (x.call ≡ call.List folder place r shown) × ((k : ℕ) × (slice_get shown k ≡ Some name))
-
--- which of new and cur a listing has read
-pub record Read : Type 0 where
-  pub new : Bool
-  pub cur : Bool
-
-abbrev pub nothing_read : Read
-nothing_read = record { new = false; cur = false }
-
--- with both new and cur a listing is complete, and the next begins
-abbrev pub with_place : Place → Read → Read
-with_place Tmp r = r
-with_place New r = if r.cur then nothing_read else record { new = true; cur = false }
-with_place Cur r = if r.new then nothing_read else record { new = false; cur = true }
-
-abbrev pub with_call : ℕ → Call → Read → Read
-with_call folder (call.List f place reply.Ok shown) r = if f == folder then with_place place r else r
-with_call folder c r = r
 
 -- what the actor's listing of the folder has read at a moment
 abbrev pub read_at : Log → List ℕ → ℕ → ℕ → Read

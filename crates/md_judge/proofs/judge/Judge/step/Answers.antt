@@ -32,7 +32,9 @@ use Rattle.md_judge.specs.declared.judge.known.Known.{Known}
 use Rattle.md_judge.specs.declared.judge.watch.Watch.{Watch}
 use Rattle.md_judge.specs.Law.{turn, Breaks, IsWrongCall, NotADirectory, Overwritten, Unlisted, GaveUp, AnsweredFalsely}
 use Rattle.md_judge.specs.Said.{claim_by}
-use Rattle.md_judge.specs.Told.{moment, at, after_step, after_call, IsThere, IsStep, IsSpan, ActsOn, Looks}
+use Rattle.md_law.specs.History.{after_call}
+use Rattle.md_law.specs.Messages.{IsThere}
+use Rattle.md_judge.specs.Told.{moment, at, after_step, IsStep, IsSpan, ActsOn, Looks}
 use Rattle.md_judge.specs.Verdict.{Remembers}
 use Rattle.md_judge.proofs.Acted.{acts-on, on-acts}
 use Rattle.md_judge.proofs.Actors.{acting-before, acting-called, acting-read, acting-answered, no-looks, stood}

@@ -1,6 +1,6 @@
 use Rattle.std.proofs.Common.{◌∙◌, None, false, refl}
 use Rattle.md_dirs.specs.State.{file_at}
-use Rattle.md_judge.specs.Told.{ask_at}
+use Rattle.md_law.specs.History.{ask_at}
 use Rattle.md_judge.proofs.Changing.{takes, never}
 use Rattle.md_judge.proofs.Afters.{append-paths, refused-same, unlink-none}
 use Rattle.md_judge.proofs.judge.known.change_at.Goals as goal

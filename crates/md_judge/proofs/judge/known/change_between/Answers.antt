@@ -1,5 +1,5 @@
 use Rattle.std.proofs.Common.{◌∙◌, None, false, refl}
-use Rattle.md_judge.specs.Told.{ask_between}
+use Rattle.md_law.specs.History.{ask_between}
 use Rattle.md_judge.proofs.Changing.{takes, never}
 use Rattle.md_judge.proofs.Afters.{between-none, refused-same}
 use Rattle.md_judge.proofs.judge.known.change_between.Goals as goal

@@ -1,7 +1,7 @@
 use Rattle.std.proofs.Common.{◌≡◌, sym, ap, ◌∙◌}
 use Rattle.md_clauses.specs.Found.{Notes, KeepsPaths, KeepsMessages}
 use Rattle.md_judge.specs.Files.{is_message_in, AtFinds}
-use Rattle.md_judge.specs.Told.{is_message}
+use Rattle.md_law.specs.Messages.{is_message}
 use Rattle.md_judge.proofs.Judged.{is-at}
 use Rattle.md_judge.proofs.Shown.{message-of}
 use Rattle.md_judge.proofs.Sparing.{files-spare-paths, files-spare-added, ok-then, at-more}

@@ -4,7 +4,8 @@ use Rattle.md_dirs.specs.declared.paths.Path.{Path}
 use Rattle.md_clauses.specs.declared.changes.Spot.{Spot}
 use Rattle.md_clauses.specs.declared.changes.Change.{Change}
 use Rattle.md_judge.specs.declared.judge.known.Known.{Known}
-use Rattle.md_judge.specs.Told.{at, ask_between, after_ask}
+use Rattle.md_law.specs.History.{ask_between, after_ask}
+use Rattle.md_judge.specs.Told.{at}
 use Rattle.md_judge.specs.Acts.{IsOlder, Leads}
 use Rattle.md_judge.specs.Known.{number_at, Stands, Holds, EachSpot, IsHoused, GoesOn}
 use Rattle.md_judge.specs.Recalled.{IsSpotOf, HasNumber}

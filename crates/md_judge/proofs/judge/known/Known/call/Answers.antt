@@ -10,7 +10,8 @@ use Rattle.md_judge.specs.declared.judge.known.Act.{Act}
 use Rattle.md_judge.specs.declared.judge.tables.Names.{Names}
 use Rattle.md_judge.specs.Acts.{IsAnswerCall, IsWrongAsk, IsActOf, NamesFirst, ReadsNone}
 use Rattle.md_judge.specs.Law.{Turn, turn}
-use Rattle.md_judge.specs.Told.{at, ask_at, ask_between, after_ask, after_call}
+use Rattle.md_law.specs.History.{ask_at, ask_between, after_ask, after_call}
+use Rattle.md_judge.specs.Told.{at}
 use Rattle.md_judge.specs.Known.{GoesOn}
 use Rattle.md_judge.specs.Recalled.{IsSpotOf, HasFolders}
 use Rattle.md_judge.proofs.Acting.{acts-at, acts-between, acts-none, done-none}

@@ -1,6 +1,7 @@
 use Rattle.std.proofs.Common.{ℕ, suc, ◌≡◌, max, refl, sym, ap, ◌∙◌}
 use Rattle.md_judge.specs.Logs.{Numbered}
-use Rattle.md_judge.specs.Told.{Moment, moment, after_step}
+use Rattle.md_law.specs.History.{Moment}
+use Rattle.md_judge.specs.Told.{moment, after_step}
 use Rattle.md_judge.proofs.Stepping.{moment-next, at-next, clocked, clocked-same}
 use Rattle.md_judge.proofs.judge.known.Known.step.Goals as goal
 

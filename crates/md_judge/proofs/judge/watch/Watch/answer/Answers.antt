@@ -6,7 +6,8 @@ use Rattle.md_judge.specs.Claims.{RecallsSo, IsAnswerOf}
 use Rattle.md_judge.specs.Listings.{message_of}
 use Rattle.md_judge.specs.Logs.{Log}
 use Rattle.md_judge.specs.Law.{turn}
-use Rattle.md_judge.specs.Told.{at, IsThere}
+use Rattle.md_law.specs.Messages.{IsThere}
+use Rattle.md_judge.specs.Told.{at}
 use Rattle.md_log.specs.declared.clause.Clause.TheVariants as clause
 use Rattle.md_judge.proofs.Saying.{count-kept}
 use Rattle.md_judge.proofs.Sparing.{one-kept, files-kept, added-kept}
