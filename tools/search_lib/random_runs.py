@@ -128,7 +128,8 @@ def _play(random: Random, story: Story, habits: Habits, rules: Rules, counted: C
         counted[type(deed).__name__.lower()] += 1
         if taken.job is not None and taken.answer is not None:
             counted[f"{taken.job.kind} {taken.answer.word}"] += 1
-        if taken.wrong:
+        # A message that gets two paths, by others that may do that, is what the jobs do next beside it.
+        if set(taken.wrong) - ({TWO_PATHS} if rules.dropped else set()):
             return deeds, taken.wrong, story
     return deeds, (), story
 
@@ -167,14 +168,22 @@ def _foreign(random: Random, world: World, names: list[bytes]) -> tuple[Asked, b
 def by_definitions(log: bytes, last: Story, rules: Rules) -> tuple[str, ...]:
     """What the definitions find in a log that the monitor and the promises find right."""
     lines, calls = log.splitlines(), {job.name: job.call for job in last.jobs}
+    is_owed = {f"{clause}, which is owed": breaks for clause, breaks in owed.OWED.items()}
     wrong = []
-    for number, clause in findings(log, {**clauses.LAW, **{f"{clause}, which is owed": breaks for clause, breaks in owed.OWED.items()}}):
+    for number, clause in findings(log, {**clauses.LAW, **is_owed}):
         actor, word = lines[number - 1].split()[1], clause.partition(",")[0]
-        if actor in calls and not may_break(last, calls[actor], word):
+        if actor in calls and not may_break(last, calls[actor], word) and not _is_unsaid(last, calls[actor], clause):
             wrong.append(f"by the definitions a job breaks {clause}")
-        if actor not in calls and ("," in clause and word in rules.rely(last) or clause == "NotADirectory"):
+        if actor not in calls and (clause in is_owed and word in rules.rely(last) or clause == "NotADirectory"):
             wrong.append(f"by the definitions another breaks {clause}")
     return tuple(wrong)
+
+
+def _is_unsaid(story: Story, call: Call, clause: str) -> bool:
+    """Of this clause nothing is said: of what a delivery owes with clocks far apart, and of answers after what was read is in new again."""
+    if clause in ("GaveUp", "AnsweredFalsely"):
+        return call.looks_in_both() and "MovedBack" in story.broken
+    return call.kind == "deliver" and "apart" in story.broken and "," in clause
 
 
 def _smaller(first: Story, deeds: list[Deed], rules: Rules, wrong: str) -> list[Deed]:

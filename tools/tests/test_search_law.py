@@ -2,26 +2,29 @@
 
 import contextlib
 import io
+import re
 import sys
 import tempfile
 import unittest
-from pathlib import Path
+from pathlib import Path as File
 
 sys.dont_write_bytecode = True
 
-TOOLS = Path(__file__).resolve().parent.parent
+TOOLS = File(__file__).resolve().parent.parent
 sys.path.insert(0, str(TOOLS))
 
-from law_lib.histories import Between  # noqa: E402
+from judge_lib.names import Path  # noqa: E402
+from law_lib.histories import Between, List  # noqa: E402
 from law_lib.monitor import OWED  # noqa: E402
 from law_lib.owed_command import broken_in  # noqa: E402
 from search_lib import random_runs  # noqa: E402
-from search_lib.calls import Answer  # noqa: E402
+from search_lib.calls import Answer, Call  # noqa: E402
 from search_lib.command import main  # noqa: E402
 from search_lib.exhaustive import Bounds, search  # noqa: E402
 from search_lib.machines import After, Machines  # noqa: E402
 from search_lib.scenes import SCENES  # noqa: E402
-from search_lib.stories import Rules  # noqa: E402
+from search_lib.stories import Later, Own, Rules, Taken, new_story, take  # noqa: E402
+from search_lib.worlds import world_of  # noqa: E402
 
 LARGE = "deliverclean"
 ALONE = "its effect is not that of the call alone"
@@ -93,6 +96,57 @@ class NeverGivesUp(Machines):
         return super().delivery_asks(call, stage, stage.start)
 
 
+def call_of(kind: str, folder: str, *words: str) -> Call:
+    """The call of a script's line."""
+    names = [word.encode() for word in (folder, *words)]
+    flags = [frozenset(word.replace("-", "")) for word in words]
+    if kind in ("deliver", "clean"):
+        return Call(kind, *names[:2], body=b" ".join(names[3:]).replace(b"\\n", b"\n"), chunk=int(words[1]) if words else 1)
+    call = Call(kind, *names[:2], int(words[-1]))
+    if kind in ("move", "copy"):
+        return call._replace(to=names[2], fresh=names[3])
+    return call._replace(add=flags[1] if len(flags) > 2 else frozenset(), remove=flags[2] if kind == "flag" else frozenset())
+
+
+def played(script: str) -> list[str]:
+    """What the jobs of a script do and answer, as its transcript says it."""
+    image, story, said = [], None, []
+    for word, *words in (line.split(" ") for line in script.splitlines()):
+        if word == "file":
+            image.append((Path(words[0].encode(), words[1], words[2].encode()), int(words[3])))
+        if word == "job":
+            story = story or new_story(world_of(image, max([stamp for _, stamp in image], default=0)), [], Machines())
+            story = story._replace(jobs=story.jobs + new_story(story.world, [call_of(*words)], Machines()).jobs)
+        while word in ("step", "finish"):
+            now, own = max(story.world.now, int(words[1])), [int(each) for each in words[2:]]
+            story = take(story, Later(now - story.world.now), Rules()).story
+            taken = take(story, Own(int(words[0]) - 1, own[0] - now if own else 0), Rules())
+            story = taken.story
+            said += [f"{words[0]} {each}" for each in told(taken)]
+            if word == "step" or taken.answer:
+                break
+    return said
+
+
+def told(taken: Taken) -> list[str]:
+    call, answer = taken.call, str(taken.answer).partition(" ")
+    if isinstance(call, List):
+        said = f"list {call.place} {call.reply}"
+    else:
+        said = f"{call.naming if isinstance(call, Between) else call.deed.replace('write', 'append')} {call.reply}"
+    return [said, f"answer {answer[0].lower()}{answer[1]}{answer[2]}"] if taken.answer else [said]
+
+
+class Played(unittest.TestCase):
+    def test_the_machines_step_as_the_program_does(self) -> None:
+        scripts = sorted((TOOLS.parent / "crates/examples/data").glob("*.script"))
+        self.assertGreater(len(scripts), 20)
+        for script in scripts:
+            lines = [line for line in script.with_suffix(".out").read_text().splitlines() if line[:1].isdigit()]
+            with self.subTest(script.name):
+                self.assertEqual(played(script.read_text()), [re.sub(r"(append|cleaned) \d+", r"\1", line) for line in lines])
+
+
 class Scenes(unittest.TestCase):
     def test_nothing_is_found(self) -> None:
         for keeps_all in (True, False):
@@ -156,7 +210,7 @@ class Command(unittest.TestCase):
 
     def test_it_prints_and_writes_the_smallest_log(self) -> None:
         with tempfile.TemporaryDirectory() as room:
-            log = Path(room, "log")
+            log = File(room, "log")
             status, said = self.said("--without", "TwoNames", "--log", str(log), "expunge")
             self.assertEqual((status, said[said.index("maildir_log") :]), (1, log.read_text()))
             self.assertIn(f"# beside others that keep what they owe, but for TwoNames: {ALONE}\n", said)
