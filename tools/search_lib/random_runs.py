@@ -10,17 +10,16 @@ from typing import NamedTuple, Optional
 from judge_lib.names import Path, unique_of
 from law_lib import clauses, owed
 from law_lib.histories import At, Between
-from law_lib.histories import Call as Asked
 from law_lib.logs import findings
 
 from .calls import Call, flagged
 from .promises import TWO_PATHS, Story, may_break
 from .stories import Deed, Foreign, Later, Own, Rules, new_story, take
 from .telling import log_of
-from .worlds import FOLDERS, World, world_of
+from .worlds import FOLDERS, world_of
 
 KINDS = ("deliver", "deliver", "seen", "flag", "move", "copy", "expunge", "clean")
-SECONDS, LATER = (1, 40000, 43200, 86400, 129600), 0.04
+SECONDS = (1, 40000, 43200, 86400, 129600)
 
 
 class Bounds(NamedTuple):
@@ -40,129 +39,104 @@ class Ran(NamedTuple):
     found: dict[str, bytes]
 
 
-class Habits(NamedTuple):
-    """How a run goes: how many deeds; how often others act and calls of ours fail; others, the names that they use, and our clocks."""
-
-    deeds: int
-    foreign: float
-    faults: float
-    others: tuple[bytes, ...]
-    names: list[bytes]
-    clocks: tuple[int, ...]
-    is_clean_behind: bool
-
-
 def search(bounds: Bounds, rules: Rules, *, to_first: bool = False) -> Ran:
     counted, found, end = Counter[str](), dict[str, bytes](), time.monotonic() + bounds.seconds
-    while time.monotonic() < end and not (to_first and set(found) - {TWO_PATHS}):
+    while time.monotonic() < end and not (to_first and found):
         counted["runs"] += 1
-        random = Random(f"{bounds.seed} {counted['runs']}")
-        first, habits = _beginning(random, bounds, rules)
-        deeds, wrong, last = _play(random, first, habits, rules, counted)
-        if not wrong and random.random() < bounds.share:
+        run = Run(Random(f"{bounds.seed} {counted['runs']}"), bounds, rules)
+        wrong = run.play(counted)
+        if not wrong and run.random.random() < bounds.share:
             counted["read"] += 1
-            wrong = by_definitions(log_of(first, deeds, rules), last, rules)
+            wrong = by_definitions(log_of(run.first, run.deeds, rules), run.story, rules)
         for each in dict.fromkeys(wrong):
-            log = log_of(first, _smaller(first, deeds, rules, each), rules)
+            log = log_of(run.first, _smaller(run.first, run.deeds, rules, each), rules)
             if each not in found or len(log) < len(found[each]):
                 found[each] = log
     return Ran(counted, found)
 
 
-def _beginning(random: Random, bounds: Bounds, rules: Rules) -> tuple[Story, Habits]:
-    names = [b"u", b"v", b"x"][: random.randint(1, 3)]
-    image = [(_image(random, name), random.choice((0, 0, 40000, 129600))) for name in names if random.random() < 0.75]
-    calls = [_call(random, names, image, n) for n in range(random.randint(1, max(1, bounds.jobs - 2)))]
-    made = [name for call in calls for name in [call.made()] if name]
-    if random.random() < 0.5:
-        calls += [_call(random, names + made, [], len(calls) + n) for n in range(random.randint(1, 2))]
-    calls = calls[: bounds.jobs]
-    foreign, faults, others = random.choice((0.2, 0.5, 0.7, 0.85)), random.choice((0, 0, 0.1)), (b"p", b"q", b"s")[: random.randint(1, 3)]
-    clocks = (0, 0, bounds.clocks_apart, -bounds.clocks_apart)
-    habits = Habits(random.choice((20, 40, 70)), foreign, faults, others, names + made, clocks, random.random() < 0.5)
-    world = world_of(image, max([stamp for _, stamp in image], default=0))
-    return new_story(world, calls, rules.machines), habits
+class Run:
+    """A run from a random beginning, with habits of its own: how often others act, how often calls of ours fail, whose clocks differ."""
 
+    def __init__(self, random: Random, bounds: Bounds, rules: Rules) -> None:
+        self.random, self.rules, self.deeds = random, rules, list[Deed]()
+        self.names = [b"u", b"v", b"x"][: random.randint(1, 3)]
+        image = [(self.path(name), random.choice((0, 0, 40000, 129600))) for name in self.names if random.random() < 0.75]
+        calls = list[Call]()
+        for number in range(random.randint(1, bounds.jobs)):
+            calls.append(self.call([path for path, _ in image], b"d%d" % number))
+            self.names += [made for made in [calls[-1].made()] if made]
+        world = world_of(image, max([stamp for _, stamp in image], default=0))
+        self.first = self.story = new_story(world, calls, rules.machines)
+        self.others = (b"p", b"q", b"s")[: random.randint(1, 3)]
+        self.foreign, self.faults = random.choice((0.2, 0.5, 0.7, 0.85)), random.choice((0, 0, 0.1))
+        self.clocks, self.is_clean_behind = (0, 0, bounds.clocks_apart, -bounds.clocks_apart), random.random() < 0.5
 
-def _image(random: Random, name: bytes) -> Path:
-    place = random.choice(("tmp", "new", "cur", "cur"))
-    return Path(random.choice(FOLDERS), place, name if place == "tmp" else _name(random, name, place))
+    def path(self, unique: bytes, folder: bytes = b"") -> Path:
+        place = self.random.choice(("tmp", "new", "cur", "cur"))
+        is_flagged = self.random.random() < {"tmp": 0.05, "new": 0.15, "cur": 0.9}[place]
+        name = flagged(unique, self.flags()) if self.random.random() < 0.93 else unique + b":1,x"
+        return Path(folder or self.random.choice(FOLDERS), place, name if is_flagged else unique)
 
+    def flags(self) -> frozenset[str]:
+        return frozenset(each for each in "FST" if self.random.random() < 0.4)
 
-def _name(random: Random, unique: bytes, place: str) -> bytes:
-    if random.random() >= (0.9 if place == "cur" else 0.15):
-        return unique
-    return flagged(unique, _flags(random)) if random.random() < 0.93 else unique + b":1,x"
+    def call(self, there: list[Path], fresh: bytes) -> Call:
+        """A call, half of the time on what is there."""
+        kind, folder, unique = (self.random.choice(each) for each in (KINDS, FOLDERS, self.names))
+        if there and self.random.random() < 0.5:
+            path = self.random.choice(there)
+            folder, unique = path.folder, unique_of(path.name)
+        call = Call(kind, folder, unique, self.random.randint(1, 2))
+        if kind == "deliver":
+            return call._replace(unique=fresh, body=self.random.choice((b"", b"x", b"xy", b"xyz")), chunk=self.random.randint(1, 2))
+        if kind in ("move", "copy"):
+            return call._replace(to=self.random.choice([each for each in FOLDERS if (kind, each) != ("move", folder)]), fresh=fresh)
+        return call._replace(add=self.flags(), remove=self.flags() if kind == "flag" else frozenset())
 
+    def play(self, counted: Counter[str]) -> tuple[str, ...]:
+        """Plays up to what is wrong, and says what that is."""
+        for _ in range(self.random.choice((20, 40, 70))):
+            deed = self.deed()
+            taken = take(self.story, deed, self.rules) if deed else None
+            if deed is None or taken is None:
+                continue
+            self.deeds.append(deed)
+            self.story = taken.story
+            counted[type(deed).__name__.lower()] += 1
+            if taken.job is not None and taken.answer is not None:
+                counted[f"{taken.job.kind} {taken.answer.word}"] += 1
+            # A message that gets two paths, by others that may do that, is what the jobs do next beside it.
+            if set(taken.wrong) - ({TWO_PATHS} if self.rules.dropped else set()):
+                return taken.wrong
+        return ()
 
-def _flags(random: Random) -> frozenset[str]:
-    return frozenset(each for each in "FST" if random.random() < 0.4)
+    def deed(self) -> Optional[Deed]:
+        random, live = self.random, [number for number, job in enumerate(self.story.jobs) if job.answer is None]
+        if random.random() < 0.04:
+            return Later(random.choice(SECONDS))
+        if random.random() < self.foreign:
+            return self.foreign_step(random.choice(self.others), random.random())
+        if not live:
+            return None
+        number, ahead = random.choice(live), random.choice(self.clocks)
+        is_behind = self.is_clean_behind and self.story.jobs[number].call.kind == "clean"
+        return Own(number, min(ahead, 0) if is_behind else ahead, random.random() < self.faults)
 
-
-def _call(random: Random, names: list[bytes], image: list[tuple[Path, int]], number: int) -> Call:
-    """A call, half of the time on a message that is there."""
-    kind, folder, unique = random.choice(KINDS), random.choice(FOLDERS), random.choice(names)
-    there = random.choice(image)[0] if image and random.random() < 0.5 else None
-    if there is not None:
-        folder, unique = there.folder, unique_of(there.name)
-    call = Call(kind, folder, unique, random.randint(1, 2))
-    if kind == "deliver":
-        return call._replace(unique=b"d%d" % number, body=random.choice((b"", b"x", b"xy", b"xyz")), chunk=random.randint(1, 2))
-    if kind == "copy":
-        return call._replace(to=random.choice(FOLDERS), fresh=b"d%d" % number)
-    if kind == "move":
-        return call._replace(to=random.choice([each for each in FOLDERS if each != call.folder]))
-    return call._replace(add=_flags(random), remove=_flags(random) if kind == "flag" else frozenset())
-
-
-def _play(random: Random, story: Story, habits: Habits, rules: Rules, counted: Counter[str]) -> tuple[list[Deed], tuple[str, ...], Story]:
-    """The deeds of a run up to what is wrong, what that is, and the story after it."""
-    deeds: list[Deed] = []
-    for _ in range(habits.deeds):
-        deed = _deed(random, story, habits)
-        taken = None if deed is None else take(story, deed, rules)
-        if deed is None or taken is None:
-            continue
-        deeds.append(deed)
-        story = taken.story
-        counted[type(deed).__name__.lower()] += 1
-        if taken.job is not None and taken.answer is not None:
-            counted[f"{taken.job.kind} {taken.answer.word}"] += 1
-        # A message that gets two paths, by others that may do that, is what the jobs do next beside it.
-        if set(taken.wrong) - ({TWO_PATHS} if rules.dropped else set()):
-            return deeds, taken.wrong, story
-    return deeds, (), story
-
-
-def _deed(random: Random, story: Story, habits: Habits) -> Optional[Deed]:
-    if random.random() < LATER:
-        return Later(random.choice(SECONDS))
-    if random.random() < habits.foreign:
-        call, written = _foreign(random, story.world, habits.names)
-        return Foreign(random.choice(habits.others), call, written)
-    live = [number for number, job in enumerate(story.jobs) if job.answer is None]
-    if not live:
-        return None
-    number, ahead = random.choice(live), random.choice(habits.clocks)
-    if habits.is_clean_behind and story.jobs[number].call.kind == "clean":
-        ahead = min(ahead, 0)
-    return Own(number, ahead, random.random() < habits.faults)
-
-
-def _foreign(random: Random, world: World, names: list[bytes]) -> tuple[Asked, bytes]:
-    """A call that some program might make: of a path that is there, or of a new one."""
-    there, chance, new = sorted(world.state.names), random.random(), [*names, b"f%d" % random.randint(1, 99)]
-    if chance < 0.15 or not there:
-        return At("create", Path(random.choice(FOLDERS), random.choice(("tmp", "tmp", "tmp", "new", "cur")), random.choice(new)), "ok"), b""
-    path = random.choice(there)
-    if chance < 0.31:
-        return At("write", path, "ok" if chance < 0.27 else "fault"), random.choice((b"z", b"z", b""))
-    if chance < 0.43:
-        return At("unlink", path, "ok"), b""
-    place, unique = random.choice(("tmp", "new", "cur", "cur")), unique_of(path.name) if random.random() < 0.8 else random.choice(new)
-    folder = path.folder if random.random() < 0.65 else random.choice(FOLDERS)
-    naming = "link" if random.random() < 0.4 else "rename"
-    return Between(naming, path, Path(folder, place, _name(random, unique, place)), "ok"), b""
+    def foreign_step(self, actor: bytes, chance: float) -> Foreign:
+        """A step that some program might take: on a path that is there, or a new one."""
+        random, there, new = self.random, sorted(self.story.world.state.names), [*self.names, b"f%d" % self.random.randint(1, 99)]
+        if chance < 0.15 or not there:
+            place = random.choice(("tmp", "tmp", "tmp", "new", "cur"))
+            return Foreign(actor, At("create", Path(random.choice(FOLDERS), place, random.choice(new)), "ok"))
+        path = random.choice(there)
+        if chance < 0.31:
+            return Foreign(actor, At("write", path, "ok" if chance < 0.27 else "fault"), random.choice((b"z", b"z", b"")))
+        if chance < 0.43:
+            return Foreign(actor, At("unlink", path, "ok"))
+        unique = unique_of(path.name) if random.random() < 0.8 else random.choice(new)
+        naming = "link" if random.random() < 0.4 else "rename"
+        return Foreign(actor, Between(naming, path, self.path(unique, path.folder if random.random() < 0.65 else b""), "ok"))
 
 
 def by_definitions(log: bytes, last: Story, rules: Rules) -> tuple[str, ...]:
@@ -180,7 +154,7 @@ def by_definitions(log: bytes, last: Story, rules: Rules) -> tuple[str, ...]:
 
 
 def _is_unsaid(story: Story, call: Call, clause: str) -> bool:
-    """Of this clause nothing is said: of what a delivery owes with clocks far apart, and of answers after what was read is in new again."""
+    """Nothing is said of what a delivery owes with clocks far apart, nor of answers of what looks in both once what was read is in new."""
     if clause in ("GaveUp", "AnsweredFalsely"):
         return call.looks_in_both() and "MovedBack" in story.broken
     return call.kind == "deliver" and "apart" in story.broken and "," in clause
