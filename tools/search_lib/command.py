@@ -17,24 +17,24 @@ from .scenes import SCENES
 from .stories import Rules
 
 _ABOUT = """\
-Searches for a story in which a job of ours breaks what docs/LAW.md says that
-it keeps, beside others that do what they owe. It takes every story of small
-scenes, or with --random stories at random. The jobs step as their machines
-do. Others take any step that changes something on the paths of the scene, if
-it breaks no clause that they owe. After each step the monitor says which
-clauses it breaks, and the mailbox what it did.
+Searches for a story in which a job of ours breaks what docs/LAW.md promises,
+beside others that do what they owe: in every story of small scenes, or with
+--random in stories at random. The jobs step as their machines do. Others
+take any step that changes something, if it breaks no clause that they keep.
+Each step is held to the clauses that it breaks, and to the mailbox before and
+after it; each answer to what was so.
 """
 
 _MORE = f"""\
 scenes: {" ".join(SCENES)}
 
-What others break is found in docs/LAW.md: with --without CLAUSE they need not
-keep that clause, and what a job that relies on it then breaks is found. The
-smallest story found is printed as a log for `deolmutt judge`.
+With --without CLAUSE others need not keep this clause, or not the premise
+FreshNames. Of all that is found the smallest story is printed, as a log for
+`deolmutt judge` with what is wrong as comments.
 
 status:
   0    nothing was found
-  1    a job breaks what it keeps
+  1    a job breaks what is promised
   2    refused: wrong words, or the log can't be written
 """
 
@@ -43,8 +43,8 @@ def main(words: Optional[Sequence[str]] = None) -> int:
     """Searches as the words say, and answers the status."""
     parser = _options()
     options = parser.parse_args(words)
-    if not set(options.scenes) <= set(SCENES):
-        parser.error("no such scene")
+    if not set(options.scenes) <= set(() if options.random else SCENES):
+        parser.error("--random has no scenes" if options.random else "no such scene")
     rules = Rules(options.rely == "owed", frozenset([options.without] if options.without else []))
     found = _at_random(options, rules) if options.random else _in_scenes(options, rules)
     if not found:
@@ -72,9 +72,9 @@ def _options() -> argparse.ArgumentParser:
     parser.add_argument("--seed", default=1, help="of the random stories (1)", **number)
     parser.add_argument("--jobs", default=6, help="in a random story, at most so many jobs (6)", **number)
     parser.add_argument("--seconds", type=float, default=600, metavar="N", help="ends after so many seconds (600)")
-    parser.add_argument("--clocks-apart", default=0, help="our clocks differ from that of the directories by so many seconds (0)", **number)
+    parser.add_argument("--clocks-apart", default=0, help="our clocks differ from the directories' by so many seconds (0)", **number)
     parser.add_argument("--rely", choices=("owed", "calls"), default="owed",
-                        help="others keep all ten clauses, or those alone that each call of the story relies on")  # fmt: skip
+                        help="others keep all ten clauses (owed), or those without which nothing is promised to the calls of the story")
     parser.add_argument("--without", choices=(*OWED, "FreshNames"), metavar="CLAUSE", help="others need not keep this clause")
     parser.add_argument("--log", type=Path, metavar="FILE", help="writes the smallest story found to a file too")
     return parser
