@@ -52,7 +52,7 @@ class Story(NamedTuple):
 
 def at_moment(before: World, story: Story) -> tuple[str, ...]:
     """No message has two paths, and one that was delivered is whole."""
-    wrong = () if story.world.has_one_path() or not before.has_one_path() else (TWO_PATHS,)
+    wrong: tuple[str, ...] = () if story.world.has_one_path() or not before.has_one_path() else (TWO_PATHS,)
     for job in story.jobs:
         entry = story.world.box.get(job.call.unique) if job.call.kind == "deliver" and job.began is not None else None
         if entry is not None and entry.bytes != job.call.body:
@@ -64,7 +64,7 @@ def at_step(job: Job, gone: After, before: World, now: World) -> tuple[str, ...]
     """A step is the effect of its call alone, or leaves the mailbox as it was."""
     if gone.effect is None:
         return () if now.box == before.box else ("a step that is no effect changes the mailbox",)
-    wrong = ("it takes effect twice",) if job.effect is not None else ()
+    wrong: tuple[str, ...] = ("it takes effect twice",) if job.effect is not None else ()
     return wrong if alone(job.call, before.box) == (gone.effect, now.box) else (*wrong, "its effect is not that of the call alone")
 
 
@@ -89,7 +89,7 @@ def of_answer(story: Story, job: Job) -> tuple[str, ...]:
     assert job.answer is not None
     if job.answer.is_success():
         return () if job.effect == job.answer else ("it answers success without its effect",)
-    wrong = () if job.effect is None else ("it takes effect and answers no success",)
+    wrong: tuple[str, ...] = () if job.effect is None else ("it takes effect and answers no success",)
     if job.answer.word == "TmpGone" and "apart" not in story.broken and story.is_sparing():
         wrong += ("it answers TmpGone, beside others that leave young files",)
     if job.call.looks_in_both() and "MovedBack" in story.broken or _is_so(job, job.answer.word):
