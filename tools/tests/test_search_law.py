@@ -2,7 +2,9 @@
 
 import contextlib
 import io
+import os
 import re
+import subprocess
 import sys
 import tempfile
 import unittest
@@ -26,6 +28,7 @@ from search_lib.scenes import SCENES  # noqa: E402
 from search_lib.stories import Later, Own, Rules, Taken, new_story, take  # noqa: E402
 from search_lib.worlds import world_of  # noqa: E402
 
+DEOLMUTT = File(os.environ.get("DEOLMUTT", TOOLS.parent / "crates/deolmutt/out/deolmutt"))
 LARGE = "deliverclean"
 ALONE = "its effect is not that of the call alone"
 BYTES = "a message that was delivered has other bytes than the body"
@@ -218,6 +221,16 @@ class Command(unittest.TestCase):
                 self.assertEqual(self.said("--without", "TwoNames", "--log", room, "expunge")[0], 2)
                 with self.assertRaises(SystemExit):
                     main(["nowhere"])
+
+    @unittest.skipUnless(os.access(DEOLMUTT, os.X_OK), "deolmutt is not built")
+    def test_the_judge_reads_what_is_printed(self) -> None:
+        for clause, scene in [("TwoNames", "expunge"), ("MovedBack", "movecur"), ("MadeAgain", "clean")]:
+            with self.subTest(clause), tempfile.TemporaryDirectory() as room:
+                log = File(room, "log")
+                self.said("--without", clause, "--log", str(log), scene)
+                judged = subprocess.run([DEOLMUTT, "judge", log], capture_output=True, text=True, check=False)
+                self.assertEqual((judged.returncode, judged.stderr), (1, ""))
+                self.assertIn(": job1: ", judged.stdout)
 
     def test_it_runs_at_random(self) -> None:
         status, said = self.said("--random", "--seconds", "0.5")
