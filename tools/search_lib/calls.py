@@ -52,7 +52,7 @@ class Entry(NamedTuple):
     folder: bytes
     place: str
     info: bytes
-    bytes: bytes
+    body: bytes
 
 
 Mailbox = Mapping[bytes, Entry]
@@ -110,8 +110,8 @@ def errand_alone(call: Call, box: Mailbox, entry: Entry, had: Optional[frozenset
     if call.kind == "copy":
         if call.fresh in box:
             return Answer("NameTaken"), box
-        return Answer("Copied"), {**box, call.fresh: Entry(call.to, entry.place, entry.info and flagged(b"", had), entry.bytes)}
+        return Answer("Copied"), {**box, call.fresh: Entry(call.to, entry.place, entry.info and flagged(b"", had), entry.body)}
     flags = wanted(call, had)
     if call.kind == "flag" and flags == had:
         return Answer("Flags", flags), box
-    return Answer("Flags", flags), {**box, call.unique: Entry(entry.folder, "cur", flagged(b"", flags), entry.bytes)}
+    return Answer("Flags", flags), {**box, call.unique: Entry(entry.folder, "cur", flagged(b"", flags), entry.body)}

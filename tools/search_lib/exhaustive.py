@@ -101,7 +101,7 @@ def foreign_calls(world: World, paths: list[Path]) -> Iterator[tuple[Asked, byte
         if path not in names:
             yield At("create", path, "ok"), b""
             continue
-        if len(world.bytes[names[path]]) < MOST_BYTES:
+        if len(world.bodies[names[path]]) < MOST_BYTES:
             yield At("write", path, "ok"), b"z"
             yield At("write", path, "fault"), b"z"
         yield At("unlink", path, "ok"), b""

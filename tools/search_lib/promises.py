@@ -55,7 +55,7 @@ def at_moment(before: World, story: Story) -> tuple[str, ...]:
     wrong: tuple[str, ...] = () if story.world.has_one_path() or not before.has_one_path() else (TWO_PATHS,)
     for job in story.jobs:
         entry = story.world.box.get(job.call.unique) if job.call.kind == "deliver" and job.began is not None else None
-        if entry is not None and entry.bytes != job.call.body:
+        if entry is not None and entry.body != job.call.body:
             wrong += ("a message that was delivered has other bytes than the body",)
     return wrong
 

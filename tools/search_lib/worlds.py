@@ -19,13 +19,13 @@ class World(NamedTuple):
     """Directories with the bytes of their files, the clock, what the monitor keeps, and the mailbox that they show."""
 
     state: State
-    bytes: tuple[bytes, ...]
+    bodies: tuple[bytes, ...]
     now: int
     kept: Kept
     box: Mailbox
 
     def key(self) -> tuple[object, ...]:
-        return (frozenset(self.state.names.items()), self.state.files, self.bytes, self.now, self.kept)
+        return (frozenset(self.state.names.items()), self.state.files, self.bodies, self.now, self.kept)
 
     def rows(self, asked: Asked) -> list[Row]:
         """What a listing reads."""
@@ -65,7 +65,7 @@ def after(world: World, step: Judged, written: bytes) -> World:
     """The directories after a step, which may have left these bytes."""
     if isinstance(step.call, List):
         return world
-    files = world.bytes + (b"",) * (len(step.after.files) - len(world.bytes))
+    files = world.bodies + (b"",) * (len(step.after.files) - len(world.bodies))
     if step.written is not None:
         files = (*files[: step.written], files[step.written] + written, *files[step.written + 1 :])
     return World(step.after, files, world.now, kept_next(step), mailbox_of(step.after.names, files))
