@@ -64,6 +64,7 @@ class Judged:
 
     def __init__(self, s: State, now: int, kept: Kept, step: Step) -> None:
         self.s, self.now, self.kept, self.actor, self.call = s, now, kept, step.actor, step.call
+        self.reply = step.call.reply if isinstance(step.call, (At, Between)) else ""
         self.after = after_call(step.call, now, s)
         self.named, self.taken = change_of(s, step.call)
         replaced = None if self.named is None else file_at(s, self.named[0])
@@ -165,7 +166,7 @@ def shows_too_early(j: Judged) -> bool:
 
 def writes(j: Judged, test: Callable[[int], bool], *, or_fails: bool = False) -> bool:
     """It is a write to a file of which the test holds, and done, or may have failed."""
-    return j.written is not None and (j.call.reply == "ok" or or_fails and j.call.reply != "notfound") and test(j.written)
+    return j.written is not None and (j.reply == "ok" or or_fails and j.reply != "notfound") and test(j.written)
 
 
 def adds_message(j: Judged, test: Callable[[Path, bytes, int], bool]) -> bool:
