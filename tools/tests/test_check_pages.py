@@ -97,8 +97,14 @@ class Pages(unittest.TestCase):
             self.write("a.md", text)
             tree = mock.patch.multiple(check_pages, TOP=self.top, BUDGETS={"a.md": 1}, QUOTING=[])
             with tree, contextlib.redirect_stdout(io.StringIO()) as printed:
-                self.assertEqual(check_pages.main(), status)
+                self.assertEqual(check_pages.main([]), status)
             self.assertEqual(len(printed.getvalue().splitlines()), status)
+
+    def test_its_help(self):
+        for arguments, status in ((["--help"], 0), (["page"], 64)):
+            with contextlib.redirect_stdout(io.StringIO()) as printed:
+                self.assertEqual(check_pages.main(arguments), status)
+            self.assertEqual(printed.getvalue(), check_pages.__doc__)
 
     def test_the_list_of_the_repository_is_read(self):
         dropped = check_pages.words.dropped_by((TOOLS.parent / "CONTRIBUTING.md").read_text(encoding="utf-8"))
