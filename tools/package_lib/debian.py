@@ -78,7 +78,12 @@ def _debian_way(entries: Entries) -> Entries:
     """Manual pages are packed, and what is for the linker alone is left out of programs and libraries."""
     pages = {path for path in entries if path.startswith("share/man/")}
     plain = {path: _stripped(it) for path, it in entries.items() if path not in pages}
-    return {**plain, **{f"{path}.gz": Entry(0o644, packed(entries[path].content)) for path in pages}}
+    return {**plain, **{f"{path}.gz": _packed_page(entries[path]) for path in pages}}
+
+
+def _packed_page(page: Entry) -> Entry:
+    """A manual page as Debian has it, or a link to one."""
+    return page._replace(content=page.content + b".gz" if page.is_link else packed(page.content))
 
 
 def _stripped(entry: Entry) -> Entry:
