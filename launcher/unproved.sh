@@ -41,8 +41,10 @@ compile_unproved() {
   [ -x "$work/unproved" ] || refuse_uncompiled
 }
 
-# Keeps the program for the runs after this one, if the tree can be written. One that was kept of other sources goes.
+# Keeps the program for the runs after this one, if the tree can be written and has not changed meanwhile. One that was kept of other
+# sources goes.
 keep_unproved() {
+  [ "$crate/out/unproved.$(sum_of_sources)" = "$kept" ] || return 0
   mkdir -p "$crate/out" 2>/dev/null || return 0
   if ! cp "$work/unproved" "$kept.$$" 2>/dev/null || ! mv -f "$kept.$$" "$kept"; then
     rm -f "$kept.$$"
