@@ -86,13 +86,21 @@ def _packed_page(page: Entry) -> Entry:
     return page._replace(content=page.content + b".gz" if page.is_link else packed(page.content))
 
 
+# What is stripped, by how it begins, and of what.
+STRIPPED = {
+    b"\x7fELF": ("--strip-unneeded",),
+    b"!<arch>\n": ("--strip-debug", "--enable-deterministic-archives"),
+}
+
+
 def _stripped(entry: Entry) -> Entry:
-    if not entry.content.startswith(b"\x7fELF"):
+    how = next((how for start, how in STRIPPED.items() if entry.content.startswith(start)), None)
+    if how is None:
         return entry
     with tempfile.TemporaryDirectory() as work:
         path = Path(work) / "file"
         path.write_bytes(entry.content)
-        subprocess.run(["strip", "--strip-unneeded", "--remove-section=.comment", str(path)], check=True)
+        subprocess.run(["strip", *how, "--remove-section=.comment", str(path)], check=True)
         return entry._replace(content=path.read_bytes())
 
 
@@ -103,6 +111,7 @@ def _documents(name: str, version: str, proved: bytes, epoch: int) -> Entries:
         "copyright": _copyright(),
         "changelog.gz": packed(changes.encode()),
         "PROVED": proved,
+        "SECURITY.md": (TOP / "SECURITY.md").read_bytes(),
     }
     return {f"share/doc/{name}/{path}": Entry(0o644, text) for path, text in texts.items()}
 
