@@ -17,7 +17,7 @@ from .tree import TOP
 
 sys.path.insert(0, str(TOP / "python"))
 
-from backend import glibc_of  # noqa: E402
+from backend import SONAME, glibc_of  # noqa: E402
 
 ARCHITECTURE = "amd64"
 LIBRARIES = "lib/x86_64-linux-gnu"
@@ -48,10 +48,24 @@ def packages(version: str) -> list[Package]:
     return [
         Package("deolmutt", "mail", program, [_libc(program), "python3", "strace"], "proved jobs on maildirs, and a judge of mail programs"),
         Package("libdeolmutt1", "libs", library, [_libc(library)], "Maildir store in memory, proved",
-                {"shlibs": SHLIBS, "triggers": TRIGGERS}),
+                {"shlibs": SHLIBS, "symbols": _symbols(library, version), "triggers": TRIGGERS}),
         Package("libdeolmutt-dev", "libdevel", development, [f"libdeolmutt1 (= {version})"],
                 "Maildir store in memory, proved (development files)"),
     ]  # fmt: skip
+
+
+def _symbols(entries: Entries, version: str) -> str:
+    """The names of the library with their versions, by which dpkg knows what a program asks for."""
+    with tempfile.NamedTemporaryFile() as file:
+        file.write(entries[f"{LIBRARIES}/{SONAME}"].content)
+        file.flush()
+        words = ["nm", "--dynamic", "--defined-only", "--with-symbol-versions", file.name]
+        printed = subprocess.run(words, capture_output=True, text=True, check=True).stdout
+    found = [line.split()[-1].split("@@") for line in printed.splitlines()]
+    # A version is a name too, which has itself for a version.
+    names = sorted(f"{it[0]}@{it[-1]}" for it in found)
+    head = f"{SONAME} libdeolmutt1 #MINVER#\n* Build-Depends-Package: libdeolmutt-dev\n"
+    return head + "".join(f" {name} {version}\n" for name in names)
 
 
 def _libc(entries: Entries) -> str:
