@@ -10,7 +10,7 @@ from typing import Any, NamedTuple
 
 from judge_lib.judge_run import SENTENCES
 
-from .losses import Names, lines_of, lost_in, outcome_of
+from .losses import Names, headline_of, lines_of, lost_in, outcome_of
 from .refused import Refused
 from .side import Order, Shown, Side
 from .words import Act, Directories, Parts, sentence
@@ -50,7 +50,8 @@ def side_of(kept: dict[str, Any], names: Names) -> Side:
     for order in kept["orders"]:
         side.add(order_of(kept, order, names, Directories(folders, dict.fromkeys(first))))
     side.own = side.worst()
-    side.count = side.counted(lost_in(kept, side))
+    side.count = side.counted(lost_in(kept, side), names.late)
+    side.headline = headline_of(kept, side, names)
     return side
 
 
@@ -62,7 +63,7 @@ def order_of(kept: dict[str, Any], order: dict[str, Any], names: Names, director
         text = step_text(line.lines, directories)
         notes = [["bad", clause, SENTENCES[clause]] for clause in line.broken]
         if is_end(line.lines[0]) and who in order["printed"]:
-            notes.append(["", "it printed", order["printed"][who].strip()])
+            notes.append(["printed", "it printed", order["printed"][who].strip()])
         kind = "bad" if line.broken else "lost" if "ENOENT" in text[-1] else ""
         steps.append(Shown(who, text, kind, notes, sorted(directories.paths), [raw(one) for one in line.lines]))
     outcome, ending = outcome_of(kept, order, names, directories)

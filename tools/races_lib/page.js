@@ -61,10 +61,25 @@
     now.orders = [chosen];
     if (second) now.orders.push(orders[1] >= 0 ? within(Math.floor(orders[1]), second.orders.length - 1) : scene().partners[chosen]);
     get('scene').value = String(number);
-    get('about').textContent = scene().about;
+    showAbout();
     get('runs').replaceChildren(...sides().map((side, at) => column(side, at)));
     now.step = /^\d+$/.test(step || '') ? within(Number(step), most()) : most();
     show();
+  }
+
+  // What the race is, and what each side loses.
+  function showAbout() {
+    get('about').replaceChildren();
+    add(get('about'), 'b', `${scene().title}.`);
+    get('about').append(` ${scene().about}`);
+    get('headline').replaceChildren(...sides().map(side => {
+      const [outcome, words] = side.headline;
+      const line = document.createElement('span');
+      line.className = outcome;
+      add(line, 'i', OUTCOMES[outcome][0], `dot ${outcome}`).ariaHidden = 'true';
+      line.append(` ${words}`);
+      return line;
+    }));
   }
 
   function go(step) {
@@ -92,7 +107,7 @@
     add(head, 'small', side.tag, 'soft');
     add(run, 'p', side.count, 'count');
     run.append(map(side, at));
-    for (const kind of ['now', 'state', 'notes', 'ending']) add(run, 'div', undefined, kind);
+    for (const kind of ['now', 'state', 'ending', 'notes']) add(run, 'div', undefined, kind);
     const steps = add(run, 'details');
     steps.open = !isNarrow.matches;
     add(steps, 'summary', 'All steps');
@@ -104,7 +119,7 @@
     });
     add(steps, 'ol', undefined, 'steps');
     const made = add(run, 'details', undefined, 'made');
-    add(made, 'summary', 'Where this comes from');
+    add(made, 'summary', 'The log, and the command that makes it');
     add(made, 'p', side.about, 'soft');
     add(made, 'pre', side.repeat.join('\n'));
     add(made, 'button', 'Download this log').addEventListener('click', () => download(at));
@@ -186,7 +201,7 @@
     box.replaceChildren();
     state.forEach((folder, number) => folder.forEach((names, place) => {
       const directory = add(box, 'div', undefined, 'directory');
-      const path = `${side.folders[number]}/${PLACES[place]}/`;
+      const path = `${side.folders.length > 1 ? `${side.folders[number]}/` : ''}${PLACES[place]}/`;
       add(directory, 'b', path);
       const list = add(directory, 'ul');
       list.setAttribute('aria-label', path);
