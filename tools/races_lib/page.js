@@ -108,7 +108,8 @@
     add(run, 'p', side.count, 'count');
     run.append(map(side, at));
     for (const kind of ['now', 'state', 'ending', 'notes']) add(run, 'div', undefined, kind);
-    const steps = add(run, 'details');
+    const more = add(run, 'div', undefined, 'more');
+    const steps = add(more, 'details');
     steps.open = !isNarrow.matches;
     add(steps, 'summary', 'All steps');
     const actors = add(steps, 'ul', undefined, 'actors');
@@ -118,8 +119,8 @@
       add(item, 'span', words, 'name');
     });
     add(steps, 'ol', undefined, 'steps');
-    const made = add(run, 'details', undefined, 'made');
-    add(made, 'summary', 'The log, and the command that makes it');
+    const made = add(more, 'details', undefined, 'made');
+    add(made, 'summary', 'Log and command');
     add(made, 'p', side.about, 'soft');
     add(made, 'pre', side.repeat.join('\n'));
     add(made, 'button', 'Download this log').addEventListener('click', () => download(at));
@@ -301,10 +302,13 @@
 
   // On a phone the directories may be below the screen, where nobody sees a name move.
   function keepInSight() {
-    const first = get('run-0').getBoundingClientRect();
-    const last = [...document.querySelectorAll('.state')].pop().getBoundingClientRect();
-    const isInSight = first.top >= 0 && last.bottom <= get('bar').getBoundingClientRect().top;
-    if (!isInSight) get('run-0').scrollIntoView({ behavior: isStill.matches ? 'auto' : 'smooth' });
+    const sentence = document.querySelector('.now');
+    const topOf = one => one.getBoundingClientRect().top;
+    const last = [...document.querySelectorAll('.state')].pop().getBoundingClientRect().bottom;
+    const bar = topOf(get('bar'));
+    if (topOf(sentence) >= 0 && last <= bar) return;
+    const first = last - topOf(get('run-0')) <= bar ? get('run-0') : sentence;
+    first.scrollIntoView({ behavior: isStill.matches ? 'auto' : 'smooth' });
   }
 
   function move(step) {

@@ -42,7 +42,7 @@ RACES = (
         OWN / "listing-beside-move.script", "BA", kept="mlist-beside-mv", names=Names(("mlist", "mv")),
     ),
     Race(
-        "keys-beside-move", "A listing beside a move", LISTING,
+        "keys-beside-move", "keys() beside a move", LISTING,
         OWN / "listing-beside-move.script", "BA", kept="python-keys-beside-mv", names=Names(("Python's mailbox", "mv")),
     ),
     Race(
