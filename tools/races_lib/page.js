@@ -76,7 +76,7 @@
       const [outcome, words] = side.headline;
       const line = document.createElement('span');
       line.className = outcome;
-      add(line, 'i', OUTCOMES[outcome][0], `dot ${outcome}`).ariaHidden = 'true';
+      add(line, 'i', OUTCOMES[outcome][0], `dot ${outcome}`).setAttribute('aria-hidden', 'true');
       line.append(` ${words}`);
       return line;
     }));

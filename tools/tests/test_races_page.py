@@ -156,7 +156,7 @@ class Page(BrowserTest):
             self.assertLessEqual(state["width"], width)
             for side, order, shown in zip(sides, order_of, state["sides"]):
                 self.check_side(side, order, at, shown)
-                self.assertIn(side["who"], state["said"])
+                self.assertIn(f"{side['who']}: {shown['now'].replace('The beginning: no step was taken.', 'the beginning')}", state["said"])
 
     def check_side(self, side: dict, order: list, at: int, shown: dict[str, Any]) -> None:
         """What a side shows after so many steps."""
@@ -340,6 +340,20 @@ class Page(BrowserTest):
         self.assertEqual(lines[:3], ["maildir_log 1", "folder box", "file box/cur/u:2,S 1000"])
         self.assertIn("1000 B rename box/cur/u:2,S box/cur/u:2,RS notfound", lines)
         self.assertIn("1 B rename i/cur/u:2,FS i/cur/u:2,FRS ok", self.browser.run(taken + clicked, 1).splitlines())
+
+    def test_the_command_that_makes_it(self) -> None:
+        kept, ours = self.browser.run("return [...document.querySelectorAll('.made pre')].map(one => one.textContent)")
+        self.assertIn("tools/explore --setup", kept)
+        self.assertEqual(ours, "tools/races crates/examples/data/two-flaggers.script -o OUT.html")
+
+    def test_the_link_that_is_copied(self) -> None:
+        self.open("#two-flaggers/3/2")
+        taken = "const writeText = text => { window.copied = text; return %s; };"
+        clip = "Object.defineProperty(navigator, 'clipboard', { value: { writeText }, configurable: true });"
+        clicked = "document.getElementById('link').click(); await null; await null; return document.getElementById('link').textContent"
+        self.assertEqual(self.browser.run(taken % "Promise.resolve()" + clip + clicked), "Copied")
+        self.assertTrue(self.browser.run("return window.copied").endswith("races.html#two-flaggers/3/2"))
+        self.assertEqual(self.browser.run(taken % "Promise.reject()" + clip + clicked), "Copy the address")
 
     def test_no_error_and_no_request(self) -> None:
         self.browser.log("browser"), self.browser.log("performance")
