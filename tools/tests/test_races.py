@@ -254,11 +254,12 @@ file box/tmp/1795880646.M1P2Q3.vm 1795880646
         self.assertEqual(made, self.HEADLINES)
 
     def test_one_look_at_other_ends(self) -> None:
-        one = {"lines": ["A ends with status 0", "B create box/new/v ok"], "orders": [{"lines": [0, 1], "broken": [[1, "SeenBeforeWhole"]]}]}
+        order = {"lines": [0, 1], "broken": [[1, "SeenBeforeWhole"]]}
+        one = {"lines": ["A ends with status 0", "B create box/new/v ok"], "orders": [order]}
         shown = side.Side("x", "", "", [], [], [], [], [side.Order("AB", [], [], side.LOST, "")])
         names = losses.Names(("A", "B"))
         self.assertEqual(losses.headline_of(one, shown, names), (side.LOST, "B breaks the law of a maildir"))
-        one["orders"][0]["broken"] = []
+        order["broken"] = []
         for outcome, words in ((side.GOOD, "A and B: nothing is lost"), (side.SAID, "A and B: a program fails, and says so")):
             shown.orders[0].outcome = outcome
             self.assertEqual(losses.headline_of(one, shown, names), (outcome, words))
