@@ -189,5 +189,5 @@ def _declared(found: ctypes.CDLL, path: str) -> ctypes.CDLL:
     return found
 
 
-def _those_of(found: ctypes.CDLL) -> dict[str, tuple[type, ...]]:
+def _those_of(found: ctypes.CDLL) -> dict[str, tuple[Any, ...]]:
     return {name: types for name, types in _MAYBE.items() if hasattr(found, name)}

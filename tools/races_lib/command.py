@@ -29,17 +29,21 @@ from .tree import actors_of, interleavings
 MOST = 1_000
 PAGE = "docs/races.html"
 PREVIEW = "docs/races.png"
-LISTING = "A listing (A), while another program moves a message from new to cur (B)"
+LISTING = "A lists a maildir, while B moves the message u from new to cur"
 ABOUT = """Makes a page that steps through races. Of a script's two or three jobs or listings it plays every interleaving, each by
 deolmutt and by maildir_cli, and shows what they printed. With --explore it runs two commands of any programs in every order of their
 directory calls, as tools/explore does, and shows what they did. With --docs it makes docs/races.html and the pictures of docs, of scripts
 and of what is kept in tools/races.d; with --check it makes them and says whether those that are there are equal. With --record it runs the
 scenes of docs/races.html anew, for which strace, the judge and the programs have to be there, and keeps what they did."""
+MORE = """Of a script the orders are its own, and then those that part from it the fewest times. How many there are is counted by states,
+and is called `at least` if 100,000 steps don't suffice. A step keeps the moment that its job has at that step in the script, and the last
+moment holds for all further ones. Of commands an order is `lost or told falsely` if the judge finds something and every status is 0, or if
+it finds GaveUp or AnsweredFalsely, and `said` if a program ended with another status."""
 
 
 def options() -> argparse.ArgumentParser:
     """What the command line may say."""
-    parser = argparse.ArgumentParser(prog="races", description=ABOUT)
+    parser = argparse.ArgumentParser(prog="races", description=ABOUT, epilog=MORE)
     parser.add_argument("files", nargs="*", type=Path, metavar="FILE", help="a script")
     parser.add_argument("-o", dest="out", type=Path, metavar="OUT.html", help="where the page goes")
     explored = "what makes the maildirs, and two commands of sh, each in one word"
@@ -88,7 +92,8 @@ def script_scene(programs: Programs, file: Path, most: int) -> PageScene:
 def race_scene(programs: Programs, race: Race) -> PageScene:
     """A race of docs/races.html."""
     sides = [kept.side_of(kept.read_kept(race.kept), race.names)] if race.kept else []
-    return PageScene(race.name, race.title, race.about, [*sides, played_side(programs, race.script, MOST, race.letters)])
+    program = race.names.programs[0] if race.kept else "Deolmutt"
+    return PageScene(race.name, race.title, race.about, [*sides, played_side(programs, race.script, MOST, race.letters)], program)
 
 
 def explored_scene(setup: str, commands: tuple[str, str], claims: list[str]) -> PageScene:
