@@ -74,7 +74,9 @@ class Machines:
         if stage.at != "writing" or own - stage.start >= DAY:
             return At("unlink", tmp, ""), b""
         piece = call.body[stage.written : stage.written + call.chunk]
-        return (At("write", tmp, ""), piece) if piece else (Between("link", tmp, tmp._replace(place="new"), ""), b"")
+        if piece:
+            return At("write", tmp, ""), piece
+        return Between("link", tmp, tmp._replace(place="new"), ""), b""
 
     def deed(self, call: Call, old: Path) -> Asked:
         had = flags_of(old.name) or frozenset()
