@@ -20,12 +20,15 @@
  * Who owns what. deolmutt_load gives a world, which is the caller's until deolmutt_free takes it back, and deolmutt_drive a driven job,
  * which is the caller's until deolmutt_driven_free does. It is a precondition of each call that a world or a job passed to it was given so
  * and not taken back since, and that pointers and lengths tell of memory that is there. The library keeps no pointer of the caller's after
- * a call has returned.
+ * a call has returned. A call on a world or a job that was taken back, a second deolmutt_free too, reads memory that was given back. Where
+ * that memory can still be read and holds no other world or job by then, the call is refused as DEOLMUTT_CLOSED and writes nothing there.
+ * Build on neither.
  *
  * Threads. One world is for one thread at a time: no two calls on one world may overlap, and a world goes from one thread to another by
- * what orders their memory (a lock, a join). So it is with a driven job. Calls on two worlds or jobs may overlap. The library starts no
- * thread, takes no lock and keeps no state of its own. It is not to be called from a signal handler, or in a forked child of a process with
- * threads.
+ * what orders their memory (a lock, a join). So it is with a driven job. A call that begins while another is in the same world or job is
+ * refused as DEOLMUTT_BUSY; but one that begins when another thread has taken the world back is found out no better than is said above.
+ * Calls on two worlds or jobs may overlap. The library starts no thread, takes no lock and keeps no state of its own. It is not to be
+ * called from a signal handler, or in a forked child of a process with threads.
  *
  * Moments are seconds since 1970-01-01 00:00:00 UTC. Folders are numbered from 0, in the order in which they were loaded; jobs from 1.
  * Memory comes from malloc, realloc and free; where there is none left, a call is refused as DEOLMUTT_NO_MEMORY.
@@ -67,10 +70,11 @@ enum deolmutt_refusal {
     DEOLMUTT_NOT_THERE = 8,        /* no message of that unique name; no name at that position */
     DEOLMUTT_NO_MESSAGE_NAME = 9,  /* a name that begins with a dot or a colon, or is empty */
     DEOLMUTT_UNANSWERED = 10,      /* a job has no answer yet */
-    DEOLMUTT_CLOSED = 11,          /* a handle without a world; no call on a world of deolmutt_load gives it */
+    DEOLMUTT_CLOSED = 11,          /* a world or a job that was taken back, where that is found out */
     DEOLMUTT_NOT_ASKED = 12,       /* no call of a driven job waits for a reply */
     DEOLMUTT_ASKED = 13,           /* a call of a driven job waits for its reply */
     DEOLMUTT_BAD_REPLY = 14,       /* no reply, 1 to 4 */
+    DEOLMUTT_BUSY = 15,            /* another call is in this world or job, where that is found out */
 
     /* of a world */
     DEOLMUTT_BAD_NAME = 20,          /* a file name that is empty, over 255 bytes, or with a slash, NUL, LF or CR */
@@ -251,7 +255,8 @@ uint32_t deolmutt_names(deolmutt_world *world, uint32_t folder, uint32_t place, 
    unique, first and second. It stops at the first refused: the calls before it are done, *done says how many, and `answers` has an answer
    for each of these. Refused: as deolmutt_call; DEOLMUTT_BAD_RECORD where the records end amid one; DEOLMUTT_ROOM where answers, which
    has room for `room` answers, is full and bytes are left. *done is written after each of these, and the answers past it are as they were.
-   After DEOLMUTT_NO_MEMORY the next call's job may be there without its answer, as after deolmutt_call; deolmutt_settle tells its number. */
+   After DEOLMUTT_NO_MEMORY the next call's job may be there without its answer, as after deolmutt_call; deolmutt_settle tells its
+   number. */
 uint32_t deolmutt_calls(deolmutt_world *world, const uint8_t *records, size_t length, uint64_t now, deolmutt_answer *answers, size_t room,
                         size_t *done);
 

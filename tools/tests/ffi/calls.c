@@ -6,8 +6,8 @@
 #include <time.h>
 
 static void test_texts(void) {
-    static const uint32_t numbers[] = {1,  2,  3,  4,  5,  6,  7,  8,  9,  10, 11, 12, 13, 14, 20, 21, 22, 23, 24, 25, 26, 27, 28, 29, 30,
-                                       31, 32, 40, 41, 42, 50, 51, 52, 53, 54, 55, 56, 57, 58, 59, 60, 61, 62, 63};
+    static const uint32_t numbers[] = {1,  2,  3,  4,  5,  6,  7,  8,  9,  10, 11, 12, 13, 14, 15, 20, 21, 22, 23, 24, 25, 26, 27, 28, 29,
+                                       30, 31, 32, 40, 41, 42, 50, 51, 52, 53, 54, 55, 56, 57, 58, 59, 60, 61, 62, 63};
     uint8_t text[64];
     uint32_t number, at = 0;
     CHECK(deolmutt_abi() == DEOLMUTT_ABI);
@@ -22,6 +22,11 @@ static void test_texts(void) {
     CHECK(deolmutt_text(DEOLMUTT_NAME_USED, text, 4) == 9 && memcmp(text, "name.", 5) == 0);
     CHECK(deolmutt_text(DEOLMUTT_NAME_USED, NULL, 0) == 9);
     CHECK(deolmutt_text(DEOLMUTT_NAME_USED, NULL, 4) == 0);
+    CHECK(deolmutt_text(DEOLMUTT_NAME_USED, text, (size_t)PTRDIFF_MAX + 1) == 0);
+    memset(text, '.', sizeof text);
+    CHECK(deolmutt_text(DEOLMUTT_BUSY, text, 3) == 4 && memcmp(text, "bus.", 4) == 0);
+    CHECK(deolmutt_text(DEOLMUTT_BUSY, text, 5) == 4 && memcmp(text, "busy.", 5) == 0);
+    CHECK(deolmutt_text(DEOLMUTT_BUSY, NULL, 0) == 4 && deolmutt_text(DEOLMUTT_BUSY, NULL, 1) == 0);
 }
 
 static void refused_load(const char *lines, uint32_t status, uint64_t line) {
