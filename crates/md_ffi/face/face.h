@@ -7,6 +7,8 @@
 
 #include "deolmutt.h"
 
+#include <string.h>
+
 /* The proved handle: two words, all zero where it is closed. */
 struct handle {
     uint8_t is_open;
@@ -116,6 +118,41 @@ static const uint8_t no_bytes[1] = {0};
 
 #define IS_NULL(bytes, length) ((length) != 0 && (bytes) == NULL)
 #define IS_LONG(length) ((length) > (size_t)PTRDIFF_MAX)
+
+/* An out-parameter is null, 0 or all zero from the beginning of a call on, whatever the call comes to. */
+#define CLEAR(at)                        \
+    do {                                 \
+        if ((at) != NULL)                \
+            memset((at), 0, sizeof *(at)); \
+    } while (0)
+
+/* Memory that is passed. */
+struct range {
+    const void *at;
+    size_t length;
+};
+
+/* One thing that is passed, which may be null, and bytes or other things of some length in bytes. */
+#define IT(at) {(at), (at) == NULL ? 0 : sizeof *(at)}
+#define SOME(at, length) {(at), (length)}
+
+/* Whether one of the first ranges, so many, which are written, overlaps any other. */
+static inline int overlap(size_t written, const struct range *ranges, size_t count) {
+    size_t one, other;
+    for (one = 0; one < written; one++)
+        for (other = one + 1; other < count; other++) {
+            uintptr_t a = (uintptr_t)ranges[one].at, b = (uintptr_t)ranges[other].at;
+            size_t apart = a < b ? b - a : a - b;
+            size_t lower = a < b ? ranges[one].length : ranges[other].length;
+            if (apart < lower && ranges[one].length != 0 && ranges[other].length != 0)
+                return 1;
+        }
+    return 0;
+}
+
+#define RANGES(...) ((const struct range[]){__VA_ARGS__})
+#define OVERLAPS(written, ...) overlap((written), RANGES(__VA_ARGS__), sizeof RANGES(__VA_ARGS__) / sizeof(struct range))
+
 #define BYTES(bytes, length) ((length) == 0 ? no_bytes : (bytes)), (length)
 #define ROOM(out, room) ((room) == 0 ? (uint8_t *)no_bytes : (out)), (room)
 

@@ -3,8 +3,6 @@
  */
 #include "face.h"
 
-#include <string.h>
-
 uint32_t deolmutt_abi(void) { return md_ffi_abi(); }
 
 /* The text of what no proved function refuses, or none. */
@@ -12,6 +10,8 @@ static const char *own_text(uint32_t refusal) {
     switch (refusal) {
     case DEOLMUTT_BUSY:
         return "busy";
+    case DEOLMUTT_OVERLAP:
+        return "overlap";
     default:
         return "";
     }

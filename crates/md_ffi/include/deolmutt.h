@@ -6,16 +6,18 @@
  *
  * Bytes come as a pointer and a length in bytes. A length of 0 may come with any pointer, also a null one. What a function gives is
  * copied into the caller's buffer: `out` has `room` bytes, and *length becomes the whole length. Where that is more than `room`, nothing
- * is written to `out` and the status is DEOLMUTT_ROOM; a call with room 0 asks for the length alone. What a call writes, `out` and its
- * out-parameters, may overlap nothing else that is passed in the call.
+ * is written to `out` and the status is DEOLMUTT_ROOM; a call with room 0 asks for the length alone.
  *
- * Out-parameters. Where the status is 0 each is written. After DEOLMUTT_NULL and DEOLMUTT_LENGTH none is. After another refusal those are
- * written alone of which the function says so.
+ * Out-parameters: what a function gives beside `out`, as *world, *job, *length, *line, *answer and *step. A call begins by making each that
+ * is there null, 0 or, of a struct, all zero. So it is after every refusal, also those of the next paragraph, but where the function says
+ * what the out-parameter is after one. Where the status is 0 each has what the function says. `out` and `answers` are none: of these no
+ * byte is written but those that the function says.
+ *
+ * What is refused before anything else, in this order: a pointer that is null, but for those that may be, as DEOLMUTT_NULL; a length of
+ * more than PTRDIFF_MAX as DEOLMUTT_LENGTH; and as DEOLMUTT_OVERLAP where what the call writes, `out`, `answers` or an out-parameter,
+ * overlaps anything else that is passed in the call.
  *
  * Refused calls. After any refusal a world is as it was before, but for deolmutt_call and deolmutt_calls, which say what they leave.
- *
- * Null pointers. A pointer that is null, but for those that may be, is refused as DEOLMUTT_NULL before anything else is done, and a
- * length of more than PTRDIFF_MAX as DEOLMUTT_LENGTH.
  *
  * Who owns what. deolmutt_load gives a world, which is the caller's until deolmutt_free takes it back, and deolmutt_drive a driven job,
  * which is the caller's until deolmutt_driven_free does. It is a precondition of each call that a world or a job passed to it was given so
@@ -75,6 +77,7 @@ enum deolmutt_refusal {
     DEOLMUTT_ASKED = 13,           /* a call of a driven job waits for its reply */
     DEOLMUTT_BAD_REPLY = 14,       /* no reply, 1 to 4 */
     DEOLMUTT_BUSY = 15,            /* another call is in this world or job, where that is found out */
+    DEOLMUTT_OVERLAP = 16,         /* what is to be written overlaps something else that is passed */
 
     /* of a world */
     DEOLMUTT_BAD_NAME = 20,          /* a file name that is empty, over 255 bytes, or with a slash, NUL, LF or CR */
@@ -198,7 +201,7 @@ size_t deolmutt_text(uint32_t refusal, uint8_t *out, size_t room);
 
 /* A world over folders and files, from `folder NAME` and `file FOLDER PLACE NAME STAMP [BODY]` lines of the script language.
    Refused as a script's line is, with *line its number, from 1; or, with *line 0, as DEOLMUTT_SAME_PATH, BAD_NAME, LONG_UNIQUE,
-   DUPLICATE_UNIQUE or NO_MEMORY. *world is null after a refusal, and *line is 0 where there is none. */
+   DUPLICATE_UNIQUE or NO_MEMORY. *world is null after each refusal. */
 uint32_t deolmutt_load(const uint8_t *lines, size_t length, deolmutt_world **world, uint64_t *line);
 
 /* Takes a world back. */
@@ -225,8 +228,8 @@ uint32_t deolmutt_submit(deolmutt_world *world, uint32_t kind, uint32_t folder, 
 uint32_t deolmutt_step(deolmutt_world *world, uint64_t job, uint64_t now, const uint64_t *own, deolmutt_step_out *step);
 
 /* Submits a call, and takes its job's steps at one moment until it is answered. Refused as deolmutt_submit, with the world as it was; and
-   as DEOLMUTT_NO_MEMORY amid the steps, with the job there and its steps so far taken: deolmutt_step goes on with it. *job is the job's
-   number where it is there, else 0, and *answer its answer or DEOLMUTT_NO_ANSWER. */
+   as DEOLMUTT_NO_MEMORY amid the steps, with the job there and its steps so far taken: deolmutt_step goes on with it, and *job is its
+   number. */
 uint32_t deolmutt_call(deolmutt_world *world, uint32_t kind, uint32_t folder, const uint8_t *unique, size_t unique_length, uint32_t to,
                        const uint8_t *first, size_t first_length, const uint8_t *second, size_t second_length, uint64_t number,
                        uint64_t now, const uint64_t *own, uint64_t *job, deolmutt_answer *answer);
@@ -236,43 +239,43 @@ uint32_t deolmutt_job_answer(deolmutt_world *world, uint64_t job, deolmutt_answe
 
 /* The world begins again: the same folders, messages and clock, with no job, so that it takes 10,000 calls more. Of the names that were
    used only those are still used that its files have. *job is 0. Refused: DEOLMUTT_UNANSWERED, with *job the first job that has no answer
-   yet; NO_MEMORY, with *job 0. */
+   yet; NO_MEMORY. */
 uint32_t deolmutt_settle(deolmutt_world *world, uint64_t *job);
 
 /* The messages of a folder, in order of unique name. Each is `u32 place, u32 length of the name, u64 bytes of the message`, little-endian,
-   and then the whole name of its file. Refused: DEOLMUTT_NO_FOLDER, NO_MEMORY, ROOM (*length is written). */
+   and then the whole name of its file. Refused: DEOLMUTT_NO_FOLDER, NO_MEMORY, ROOM (*length is said). */
 uint32_t deolmutt_list(deolmutt_world *world, uint32_t folder, uint8_t *out, size_t room, size_t *length);
 
-/* The bytes of a message, in new or cur of any folder. Refused: DEOLMUTT_NOT_THERE, ROOM (*length is written). */
+/* The bytes of a message, in new or cur of any folder. Refused: DEOLMUTT_NOT_THERE, ROOM (*length is said). */
 uint32_t deolmutt_read(deolmutt_world *world, const uint8_t *unique, size_t unique_length, uint8_t *out, size_t room, size_t *length);
 
 /* The name at a position, from 0, of the ordered names of a directory, tmp too. Refused: DEOLMUTT_NO_PLACE, NOT_THERE (past the last, or
-   no such folder), ROOM (*length is written). */
+   no such folder), ROOM (*length is said). */
 uint32_t deolmutt_names(deolmutt_world *world, uint32_t folder, uint32_t place, uint64_t at, uint8_t *out, size_t room, size_t *length);
 
 /* Many calls in one, each as by deolmutt_call without an own moment, at one moment. `records` has for each call, little-endian,
    `u32 kind, u32 folder, u32 to, u32 0, u64 length of unique, u64 of first, u64 of second, u64 number`, 48 bytes, and then the bytes of
    unique, first and second. It stops at the first refused: the calls before it are done, *done says how many, and `answers` has an answer
    for each of these. Refused: as deolmutt_call; DEOLMUTT_BAD_RECORD where the records end amid one; DEOLMUTT_ROOM where answers, which
-   has room for `room` answers, is full and bytes are left. *done is written after each of these, and the answers past it are as they were.
+   has room for `room` answers, is full and bytes are left. *done is said after each of these, and the answers past it are as they were.
    After DEOLMUTT_NO_MEMORY the next call's job may be there without its answer, as after deolmutt_call; deolmutt_settle tells its
    number. */
 uint32_t deolmutt_calls(deolmutt_world *world, const uint8_t *records, size_t length, uint64_t now, deolmutt_answer *answers, size_t room,
                         size_t *done);
 
 /* What a whole script prints. Where a line is refused the status is its refusal, *line its number, and out has what was printed before
-   it; else *line is 0. Refused also as DEOLMUTT_NO_MEMORY (*line 0, *length 0) and ROOM (*length and *line are written). */
+   it. Refused also as DEOLMUTT_NO_MEMORY, and as ROOM, with *out_length and *line as if there were room. */
 uint32_t deolmutt_transcript(const uint8_t *script, size_t length, uint8_t *out, size_t room, size_t *out_length, uint64_t *line);
 
 /* The index of the messages of `folder` and `file` lines, as `maildir_cli index` prints it: folder by folder, in the order of their lines,
    and in order of unique name, a line `FOLDER UNIQUE` for each message in new and cur, and the lines of deolmutt_summary. The lines make a
    store for the call alone. Refused as a script's line is, with *line its number, from 1: DEOLMUTT_NOT_IN_THIS_RUN at another command; and
    with *line the number of the last one as DEOLMUTT_SAME_PATH, BAD_NAME, LONG_UNIQUE or DUPLICATE_UNIQUE. Refused also as
-   DEOLMUTT_NO_MEMORY (*line 0) and ROOM (*line 0, *out_length is written). *out_length is 0 after each other refusal. */
+   DEOLMUTT_NO_MEMORY and ROOM (*out_length is said). */
 uint32_t deolmutt_index(const uint8_t *lines, size_t length, uint8_t *out, size_t room, size_t *out_length, uint64_t *line);
 
 /* A unique name as "Using maildir format" has it, SEC.MmicroPpidQcount.host. Refused: DEOLMUTT_BAD_MICRO, BAD_HOST, NO_MEMORY,
-   ROOM (*length is written). */
+   ROOM (*length is said). */
 uint32_t deolmutt_unique(uint64_t sec, uint64_t micro, uint64_t pid, uint64_t count, const uint8_t *host, size_t host_length, uint8_t *out,
                          size_t room, size_t *length);
 
@@ -281,7 +284,7 @@ uint32_t deolmutt_unique(uint64_t sec, uint64_t micro, uint64_t pid, uint64_t co
 uint32_t deolmutt_split(const uint8_t *name, size_t length, size_t *unique_length, uint32_t *info, uint64_t *flags);
 
 /* The summary of a message's header, as the command `summary` prints it: lines `subject=`, `from=`, `message-id=`, `date=` and `seconds=`
-   for each that is there, and `end`. Refused: DEOLMUTT_NO_MEMORY, ROOM (*out_length is written). */
+   for each that is there, and `end`. Refused: DEOLMUTT_NO_MEMORY, ROOM (*out_length is said). */
 uint32_t deolmutt_summary(const uint8_t *message, size_t length, uint8_t *out, size_t room, size_t *out_length);
 
 /* A job whose directory calls the caller makes, on a disk say: the job asks for one call after the other, and goes on by what was replied.
@@ -298,7 +301,7 @@ uint32_t deolmutt_summary(const uint8_t *message, size_t length, uint8_t *out, s
    before its link, and the directory after.
 
    deolmutt_drive makes the job of a call, as deolmutt_submit takes it, of which no step was taken. Folders are the caller's own numbers.
-   Refused, with *job null: DEOLMUTT_BAD_KIND, BAD_FLAG, SAME_FOLDER, BAD_UNIQUE, BAD_TRIES, BAD_CHUNK, NO_MEMORY. */
+   Refused: DEOLMUTT_BAD_KIND, BAD_FLAG, SAME_FOLDER, BAD_UNIQUE, BAD_TRIES, BAD_CHUNK, NO_MEMORY. */
 uint32_t deolmutt_drive(uint32_t kind, uint32_t folder, const uint8_t *unique, size_t unique_length, uint32_t to, const uint8_t *first,
                         size_t first_length, const uint8_t *second, size_t second_length, uint64_t number, deolmutt_driven **job);
 
@@ -310,7 +313,7 @@ uint32_t deolmutt_driven_free(deolmutt_driven *job);
 uint32_t deolmutt_driven_ask(deolmutt_driven *job, uint64_t second);
 
 /* The call that was asked for, as often as wanted. `out` gets its name and, right after it, its second name or the bytes of an append.
-   Refused: DEOLMUTT_NOT_ASKED, NO_MEMORY, ROOM (*request and *length are written). */
+   Refused: DEOLMUTT_NOT_ASKED, NO_MEMORY, ROOM (*request and *length are said). */
 uint32_t deolmutt_driven_request(deolmutt_driven *job, deolmutt_request *request, uint8_t *out, size_t room, size_t *length);
 
 /* One row of the reading that was asked for: a name, and the stamp of its file in seconds and its size in bytes. Seen, flag, move, copy and

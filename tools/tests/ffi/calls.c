@@ -1,13 +1,14 @@
 /* Every function of deolmutt.h: what it gives, each refusal that a caller can come to, and every null pointer. Ends with a count. */
 #include "checks.h"
 #include "driven.h"
+#include "passed.h"
 #include "worlds.h"
 
 #include <time.h>
 
 static void test_texts(void) {
-    static const uint32_t numbers[] = {1,  2,  3,  4,  5,  6,  7,  8,  9,  10, 11, 12, 13, 14, 15, 20, 21, 22, 23, 24, 25, 26, 27, 28, 29,
-                                       30, 31, 32, 40, 41, 42, 50, 51, 52, 53, 54, 55, 56, 57, 58, 59, 60, 61, 62, 63};
+    static const uint32_t numbers[] = {1,  2,  3,  4,  5,  6,  7,  8,  9,  10, 11, 12, 13, 14, 15, 16, 20, 21, 22, 23, 24, 25, 26, 27, 28,
+                                       29, 30, 31, 32, 40, 41, 42, 50, 51, 52, 53, 54, 55, 56, 57, 58, 59, 60, 61, 62, 63};
     uint8_t text[64];
     uint32_t number, at = 0;
     CHECK(deolmutt_abi() == DEOLMUTT_ABI);
@@ -26,6 +27,7 @@ static void test_texts(void) {
     memset(text, '.', sizeof text);
     CHECK(deolmutt_text(DEOLMUTT_BUSY, text, 3) == 4 && memcmp(text, "bus.", 4) == 0);
     CHECK(deolmutt_text(DEOLMUTT_BUSY, text, 5) == 4 && memcmp(text, "busy.", 5) == 0);
+    CHECK(deolmutt_text(DEOLMUTT_OVERLAP, text, sizeof text) == 7 && memcmp(text, "overlap", 7) == 0);
     CHECK(deolmutt_text(DEOLMUTT_BUSY, NULL, 0) == 4 && deolmutt_text(DEOLMUTT_BUSY, NULL, 1) == 0);
 }
 
@@ -146,9 +148,9 @@ static void test_submits(void) {
     CHECK(SUBMIT(DEOLMUTT_DELIVER, 0, "u", 0, "x", "", 0) == DEOLMUTT_BAD_CHUNK);
     CHECK(SUBMIT(DEOLMUTT_DELIVER, 0, "old", 0, "x", "", 1) == DEOLMUTT_NAME_USED);
     CHECK(SUBMIT(DEOLMUTT_COPY, 0, "old", 1, "old", "", 1) == DEOLMUTT_NAME_USED);
-    CHECK(job == 99);
+    CHECK(job == 0);
     CHECK(SUBMIT(DEOLMUTT_DELIVER, 0, "u", 0, "x", "", 1) == DEOLMUTT_OK && job == 1);
-    CHECK(SUBMIT(DEOLMUTT_DELIVER, 0, "u", 0, "x", "", 1) == DEOLMUTT_NAME_USED && job == 1);
+    CHECK(SUBMIT(DEOLMUTT_DELIVER, 0, "u", 0, "x", "", 1) == DEOLMUTT_NAME_USED && job == 0);
     CHECK(SUBMIT(DEOLMUTT_CLEAN, 1, "", 0, "", "", 0) == DEOLMUTT_OK && job == 2);
 #undef SUBMIT
     CHECK(deolmutt_submit(NULL, 7, 0, NO_BYTES, 0, NO_BYTES, NO_BYTES, 0, &job) == DEOLMUTT_NULL);
@@ -159,7 +161,7 @@ static void test_submits(void) {
     CHECK(deolmutt_submit(world, 7, 0, bytes, long_length, 0, NO_BYTES, NO_BYTES, 0, &job) == DEOLMUTT_LENGTH);
     CHECK(deolmutt_submit(world, 7, 0, NO_BYTES, 0, bytes, long_length, NO_BYTES, 0, &job) == DEOLMUTT_LENGTH);
     CHECK(deolmutt_submit(world, 7, 0, NO_BYTES, 0, NO_BYTES, bytes, long_length, 0, &job) == DEOLMUTT_LENGTH);
-    CHECK(job == 2);
+    CHECK(job == 0);
     {
         uint8_t *body = calloc(1, 16777217);
         CHECK(body != NULL);
@@ -178,7 +180,7 @@ static void test_steps(void) {
     uint64_t job = 0, own = 50;
     memset(&step, 9, sizeof step);
     CHECK(deolmutt_step(world, 1, 1, NULL, &step) == DEOLMUTT_NO_JOB);
-    CHECK(deolmutt_job_answer(world, 1, &answer) == DEOLMUTT_NO_JOB && answer.kind == 77);
+    CHECK(deolmutt_job_answer(world, 1, &answer) == DEOLMUTT_NO_JOB && answer.kind == 0 && answer.value == 0);
     CHECK(deolmutt_submit(world, DEOLMUTT_DELIVER, 0, TEXT("u"), 0, TEXT("hello"), NO_BYTES, 3, &job) == DEOLMUTT_OK);
     CHECK(deolmutt_job_answer(world, job, &answer) == DEOLMUTT_OK && answer.kind == DEOLMUTT_NO_ANSWER && answer.value == 0);
     CHECK(deolmutt_step(world, job, 50, &own, &step) == DEOLMUTT_OK);
@@ -319,11 +321,11 @@ static void test_reading(void) {
     CHECK(little(out + 21, 4) == DEOLMUTT_NEW && little(out + 25, 4) == 1 && memcmp(out + 37, "v", 1) == 0);
     CHECK(deolmutt_list(world, 1, out, 0, &length) == DEOLMUTT_OK && length == 0);
     length = 99;
-    CHECK(deolmutt_list(world, 2, out, sizeof out, &length) == DEOLMUTT_NO_FOLDER && length == 99);
+    CHECK(deolmutt_list(world, 2, out, sizeof out, &length) == DEOLMUTT_NO_FOLDER && length == 0);
     CHECK(deolmutt_read(world, TEXT("u"), out, sizeof out, &length) == DEOLMUTT_OK && length == 5 && memcmp(out, "hello", 5) == 0);
     CHECK(deolmutt_read(world, TEXT("u"), out, 4, &length) == DEOLMUTT_ROOM && length == 5);
     length = 99;
-    CHECK(deolmutt_read(world, TEXT("w"), out, sizeof out, &length) == DEOLMUTT_NOT_THERE && length == 99);
+    CHECK(deolmutt_read(world, TEXT("w"), out, sizeof out, &length) == DEOLMUTT_NOT_THERE && length == 0);
     CHECK(deolmutt_read(world, NULL, 0, out, sizeof out, &length) == DEOLMUTT_NOT_THERE);
     CHECK(deolmutt_names(world, 0, DEOLMUTT_TMP, 0, out, sizeof out, &length) == DEOLMUTT_OK && length == 1 && out[0] == 't');
     CHECK(deolmutt_names(world, 0, DEOLMUTT_CUR, 0, out, 4, &length) == DEOLMUTT_ROOM && length == 5);
@@ -420,8 +422,8 @@ static void test_names(void) {
     CHECK(length == 6 && info == 1 && flags == ((uint64_t)1 << 5 | (uint64_t)1 << 18));
     CHECK(deolmutt_split(TEXT("u"), &length, &info, &flags) == DEOLMUTT_OK && length == 1 && info == 0 && flags == 0);
     CHECK(deolmutt_split(TEXT("u:1,x"), &length, &info, &flags) == DEOLMUTT_OK && length == 1 && info == 2 && flags == 0);
-    length = 99;
-    CHECK(deolmutt_split(TEXT(".u"), &length, &info, &flags) == DEOLMUTT_NO_MESSAGE_NAME && length == 99);
+    length = info = flags = 99;
+    CHECK(deolmutt_split(TEXT(".u"), &length, &info, &flags) == DEOLMUTT_NO_MESSAGE_NAME && length == 0 && info == 0 && flags == 0);
     CHECK(deolmutt_split(NO_BYTES, &length, &info, &flags) == DEOLMUTT_NO_MESSAGE_NAME);
     CHECK(deolmutt_split(NULL, 1, &length, &info, &flags) == DEOLMUTT_NULL);
     CHECK(deolmutt_split(NO_BYTES, NULL, &info, &flags) == DEOLMUTT_NULL);
@@ -512,7 +514,7 @@ static void test_settle(void) {
     size_t length;
     uint64_t job = 99;
     CHECK(deolmutt_settle(NULL, &job) == DEOLMUTT_NULL);
-    CHECK(deolmutt_settle(world, NULL) == DEOLMUTT_NULL && job == 99);
+    CHECK(deolmutt_settle(world, NULL) == DEOLMUTT_NULL && job == 0);
     CHECK(deolmutt_settle(world, &job) == DEOLMUTT_OK && job == 0);
     CHECK(done(world, DEOLMUTT_DELIVER, 0, "u", 0, "mail", "", 1, 1, &answer) == DEOLMUTT_OK && answer.kind == DEOLMUTT_DELIVERED);
     CHECK(done(world, DEOLMUTT_SEEN, 0, "u", 0, "T", "", 1, 1, &answer) == DEOLMUTT_OK && answer.kind == DEOLMUTT_FLAGS);
@@ -576,6 +578,7 @@ int main(void) {
     test_full();
     test_worlds();
     test_driven();
+    test_passed();
     printf("%lu checks\n", checked);
     return 0;
 }
