@@ -54,6 +54,10 @@ uint32_t deolmutt_load(const uint8_t *lines, size_t length, deolmutt_world **wor
     if (made == NULL)
         return DEOLMUTT_NO_MEMORY;
     status = md_ffi_load(BYTES(lines, length), seed, draw(seed), &made->marked.handle, line);
+    if (status == DEOLMUTT_OK && !face_keep_names(made, BYTES(lines, length))) {
+        md_ffi_free(&made->marked.handle);
+        status = DEOLMUTT_NO_MEMORY;
+    }
     if (status != DEOLMUTT_OK) {
         free(made);
         return status;
@@ -70,6 +74,7 @@ uint32_t deolmutt_free(deolmutt_world *world) {
     if (!enter_world(world, &status))
         return status;
     status = md_ffi_free(of_world(world));
+    free(world->names);
     unmark(&world->marked);
     free(world);
     return status;
@@ -128,7 +133,7 @@ uint32_t deolmutt_call(deolmutt_world *world, uint32_t kind, uint32_t folder, co
                                           BYTES(second, second_length), now, &given, job, answer));
 }
 
-uint32_t deolmutt_job_answer(deolmutt_world *world, uint64_t job, deolmutt_answer *answer) {
+uint32_t deolmutt_job_answer(const deolmutt_world *world, uint64_t job, deolmutt_answer *answer) {
     uint32_t status;
     CLEAR(answer);
     if (world == NULL || answer == NULL)
@@ -152,7 +157,7 @@ uint32_t deolmutt_settle(deolmutt_world *world, uint64_t *job) {
     return leave_world(world, md_ffi_settle(of_world(world), job));
 }
 
-uint32_t deolmutt_list(deolmutt_world *world, uint32_t folder, uint8_t *out, size_t room, size_t *length) {
+uint32_t deolmutt_list(const deolmutt_world *world, uint32_t folder, uint8_t *out, size_t room, size_t *length) {
     uint32_t status;
     CLEAR(length);
     if (world == NULL || length == NULL || IS_NULL(out, room))
@@ -166,7 +171,8 @@ uint32_t deolmutt_list(deolmutt_world *world, uint32_t folder, uint8_t *out, siz
     return leave_world(world, md_ffi_list(of_world(world), folder, ROOM(out, room), length));
 }
 
-uint32_t deolmutt_read(deolmutt_world *world, const uint8_t *unique, size_t unique_length, uint8_t *out, size_t room, size_t *length) {
+uint32_t deolmutt_read(const deolmutt_world *world, const uint8_t *unique, size_t unique_length, uint8_t *out, size_t room,
+                       size_t *length) {
     uint32_t status;
     CLEAR(length);
     if (world == NULL || length == NULL || IS_NULL(unique, unique_length) || IS_NULL(out, room))
@@ -180,7 +186,8 @@ uint32_t deolmutt_read(deolmutt_world *world, const uint8_t *unique, size_t uniq
     return leave_world(world, md_ffi_read(of_world(world), BYTES(unique, unique_length), ROOM(out, room), length));
 }
 
-uint32_t deolmutt_names(deolmutt_world *world, uint32_t folder, uint32_t place, uint64_t at, uint8_t *out, size_t room, size_t *length) {
+uint32_t deolmutt_names(const deolmutt_world *world, uint32_t folder, uint32_t place, uint64_t at, uint8_t *out, size_t room,
+                        size_t *length) {
     uint32_t status;
     CLEAR(length);
     if (world == NULL || length == NULL || IS_NULL(out, room))
@@ -192,22 +199,6 @@ uint32_t deolmutt_names(deolmutt_world *world, uint32_t folder, uint32_t place, 
     if (!enter_world(world, &status))
         return status;
     return leave_world(world, md_ffi_names(of_world(world), folder, place, at, ROOM(out, room), length));
-}
-
-uint32_t deolmutt_calls(deolmutt_world *world, const uint8_t *records, size_t length, uint64_t now, deolmutt_answer *answers, size_t room,
-                        size_t *done) {
-    uint32_t status;
-    static deolmutt_answer no_answers[1];
-    CLEAR(done);
-    if (world == NULL || done == NULL || IS_NULL(records, length) || IS_NULL(answers, room))
-        return DEOLMUTT_NULL;
-    if (IS_LONG(length) || room > (size_t)PTRDIFF_MAX / sizeof *answers)
-        return DEOLMUTT_LENGTH;
-    if (OVERLAPS(2, IT(done), SOME(answers, room * sizeof *answers), IT(world), SOME(records, length)))
-        return DEOLMUTT_OVERLAP;
-    if (!enter_world(world, &status))
-        return status;
-    return leave_world(world, md_ffi_calls(of_world(world), BYTES(records, length), now, room == 0 ? no_answers : answers, room, done));
 }
 
 uint32_t deolmutt_transcript(const uint8_t *script, size_t length, uint8_t *out, size_t room, size_t *out_length, uint64_t *line) {
@@ -319,7 +310,7 @@ uint32_t deolmutt_driven_ask(deolmutt_driven *job, uint64_t second) {
     return leave_driven(job, md_ffi_driven_ask(of_driven(job), second));
 }
 
-uint32_t deolmutt_driven_request(deolmutt_driven *job, deolmutt_request *request, uint8_t *out, size_t room, size_t *length) {
+uint32_t deolmutt_driven_request(const deolmutt_driven *job, deolmutt_request *request, uint8_t *out, size_t room, size_t *length) {
     uint32_t status;
     CLEAR(request);
     CLEAR(length);
@@ -357,7 +348,7 @@ uint32_t deolmutt_driven_take(deolmutt_driven *job, uint32_t reply, deolmutt_ste
     return leave_driven(job, md_ffi_driven_take(of_driven(job), reply, step));
 }
 
-uint32_t deolmutt_driven_answer(deolmutt_driven *job, deolmutt_answer *answer) {
+uint32_t deolmutt_driven_answer(const deolmutt_driven *job, deolmutt_answer *answer) {
     uint32_t status;
     CLEAR(answer);
     if (job == NULL || answer == NULL)

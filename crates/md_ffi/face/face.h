@@ -24,6 +24,9 @@ struct marked {
 
 struct deolmutt_world {
     struct marked marked;
+    /* How many folders it has, and their names, each behind its length: null where there are none. */
+    uint32_t folders;
+    uint8_t *names;
 };
 
 struct deolmutt_driven {
@@ -63,6 +66,9 @@ static inline struct handle *of_world(const deolmutt_world *world) { return (str
 static inline int enter_driven(const deolmutt_driven *job, uint32_t *status) { return enter(&job->marked, DRIVEN_MARK, status); }
 static inline uint32_t leave_driven(const deolmutt_driven *job, uint32_t status) { return leave(&job->marked, DRIVEN_MARK, status); }
 static inline struct handle *of_driven(const deolmutt_driven *job) { return (struct handle *)&job->marked.handle; }
+
+/* Keeps the names of the folders of lines that were loaded. No, where memory for them is refused. */
+int face_keep_names(deolmutt_world *made, const uint8_t *lines, size_t length);
 
 /* A call, as md_ffi takes it: struct Asked of src/asked.rt. */
 struct asked {

@@ -1,8 +1,8 @@
 /*
  * deolmutt.h: the Maildir store in memory, for C and for languages that call C. ABI version 1.
  *
- * Status. Every function but deolmutt_abi and deolmutt_text returns a uint32_t: 0 (DEOLMUTT_OK) where it has done what it says, else a
- * number of enum deolmutt_refusal. The numbers stay what they are; new ones may come.
+ * Status. Every function but deolmutt_abi, deolmutt_minor, deolmutt_text and deolmutt_strerror returns a uint32_t: 0 (DEOLMUTT_OK) where it
+ * has done what it says, else a number of enum deolmutt_refusal. The numbers stay what they are; new ones may come.
  *
  * Bytes come as a pointer and a length in bytes. A length of 0 may come with any pointer, also a null one. What a function gives is
  * copied into the caller's buffer: `out` has `room` bytes, and *length becomes the whole length. Where that is more than `room`, nothing
@@ -10,8 +10,8 @@
  *
  * Out-parameters: what a function gives beside `out`, as *world, *job, *length, *line, *answer and *step. A call begins by making each that
  * is there null, 0 or, of a struct, all zero. So it is after every refusal, also those of the next paragraph, but where the function says
- * what the out-parameter is after one. Where the status is 0 each has what the function says. `out` and `answers` are none: of these no
- * byte is written but those that the function says.
+ * what the out-parameter is after one. Where the status is 0 each has what the function says. `out`, `answers` and the *at of deolmutt_next
+ * are none: of these no byte is written but those that the function says.
  *
  * What is refused before anything else, in this order: a pointer that is null, but for those that may be, as DEOLMUTT_NULL; a length of
  * more than PTRDIFF_MAX as DEOLMUTT_LENGTH; and as DEOLMUTT_OVERLAP where what the call writes, `out`, `answers` or an out-parameter,
@@ -51,6 +51,9 @@ extern "C" {
 
 #define DEOLMUTT_ABI 1
 
+/* What of this version is there: a greater one has all that a lesser one has. */
+#define DEOLMUTT_MINOR 1
+
 /* A store: folders, their messages, and the jobs on them. */
 typedef struct deolmutt_world deolmutt_world;
 
@@ -68,8 +71,8 @@ enum deolmutt_refusal {
     DEOLMUTT_NO_MEMORY = 4,        /* a growth was refused */
     DEOLMUTT_BAD_KIND = 5,         /* no kind of call, 1 to 7 */
     DEOLMUTT_NO_PLACE = 6,         /* no place, 0 to 2 */
-    DEOLMUTT_BAD_RECORD = 7,       /* records that end amid one */
-    DEOLMUTT_NOT_THERE = 8,        /* no message of that unique name; no name at that position */
+    DEOLMUTT_BAD_RECORD = 7,       /* records that end amid one, or whose reserved word isn't 0; bytes that are no listing */
+    DEOLMUTT_NOT_THERE = 8,        /* no message of that unique name; no name at that position; no more of a listing */
     DEOLMUTT_NO_MESSAGE_NAME = 9,  /* a name that begins with a dot or a colon, or is empty */
     DEOLMUTT_UNANSWERED = 10,      /* a job has no answer yet */
     DEOLMUTT_CLOSED = 11,          /* a world or a job that was taken back, where that is found out */
@@ -191,13 +194,31 @@ typedef struct deolmutt_request {
     uint64_t second;
 } deolmutt_request;
 
+/* A message of a listing. The name points into the listing's bytes. */
+typedef struct deolmutt_message {
+    const uint8_t *name;  /* the whole name of its file */
+    size_t name_length;   /* in bytes */
+    size_t unique_length; /* the message's unique name is so many bytes at the front of it */
+    uint64_t size;        /* the message, in bytes */
+    uint64_t flags;       /* as in DEOLMUTT_FLAGS, 0 where info is not 1 */
+    uint32_t place;       /* DEOLMUTT_NEW or DEOLMUTT_CUR */
+    uint32_t info;        /* 0 no info, 1 flags, 2 other info */
+} deolmutt_message;
+
 /* The version of this interface: DEOLMUTT_ABI of the header that the library was built with. It is another one where a call changes; a
-   call that is added leaves it. */
+   call that is added leaves it, and raises DEOLMUTT_MINOR. */
 uint32_t deolmutt_abi(void);
+
+/* DEOLMUTT_MINOR of the header that the library was built with. */
+uint32_t deolmutt_minor(void);
 
 /* The text of a refusal, in ASCII, as much of it as there is room for, and its whole length, at most 32. 0 for a number that is none, and
    where out is null and room isn't 0. */
 size_t deolmutt_text(uint32_t refusal, uint8_t *out, size_t room);
+
+/* The same text of a status, with a NUL at its end: "ok" for 0, and "no such status" for a number that is none. It is the library's, and
+   stays as it is. */
+const char *deolmutt_strerror(int status);
 
 /* A world over folders and files, from `folder NAME` and `file FOLDER PLACE NAME STAMP [BODY]` lines of the script language.
    Refused as a script's line is, with *line its number, from 1; or, with *line 0, as DEOLMUTT_SAME_PATH, BAD_NAME, LONG_UNIQUE,
@@ -206,6 +227,15 @@ uint32_t deolmutt_load(const uint8_t *lines, size_t length, deolmutt_world **wor
 
 /* Takes a world back. */
 uint32_t deolmutt_free(deolmutt_world *world);
+
+/* How many folders a world has. */
+uint32_t deolmutt_folders(const deolmutt_world *world, uint32_t *count);
+
+/* The number of the folder of a name. Refused: DEOLMUTT_UNKNOWN_FOLDER. */
+uint32_t deolmutt_folder(const deolmutt_world *world, const void *name, size_t length, uint32_t *folder);
+
+/* The name of a folder. Refused: DEOLMUTT_NO_FOLDER, ROOM (*length is said). */
+uint32_t deolmutt_folder_name(const deolmutt_world *world, uint32_t folder, uint8_t *out, size_t room, size_t *length);
 
 /* Submits a call: a job, which no step was taken of. *job is its number.
      kind     folder  unique     to      first              second             number
@@ -235,7 +265,7 @@ uint32_t deolmutt_call(deolmutt_world *world, uint32_t kind, uint32_t folder, co
                        uint64_t now, const uint64_t *own, uint64_t *job, deolmutt_answer *answer);
 
 /* The answer of a job, DEOLMUTT_NO_ANSWER where it has none yet. Refused: DEOLMUTT_NO_JOB. */
-uint32_t deolmutt_job_answer(deolmutt_world *world, uint64_t job, deolmutt_answer *answer);
+uint32_t deolmutt_job_answer(const deolmutt_world *world, uint64_t job, deolmutt_answer *answer);
 
 /* The world begins again: the same folders, messages and clock, with no job, so that it takes 10,000 calls more. Of the names that were
    used only those are still used that its files have. *job is 0. Refused: DEOLMUTT_UNANSWERED, with *job the first job that has no answer
@@ -243,23 +273,43 @@ uint32_t deolmutt_job_answer(deolmutt_world *world, uint64_t job, deolmutt_answe
 uint32_t deolmutt_settle(deolmutt_world *world, uint64_t *job);
 
 /* The messages of a folder, in order of unique name. Each is `u32 place, u32 length of the name, u64 bytes of the message`, little-endian,
-   and then the whole name of its file. Refused: DEOLMUTT_NO_FOLDER, NO_MEMORY, ROOM (*length is said). */
-uint32_t deolmutt_list(deolmutt_world *world, uint32_t folder, uint8_t *out, size_t room, size_t *length);
+   and then the whole name of its file: deolmutt_next reads them. Refused: DEOLMUTT_NO_FOLDER, NO_MEMORY, ROOM (*length is said). */
+uint32_t deolmutt_list(const deolmutt_world *world, uint32_t folder, uint8_t *out, size_t room, size_t *length);
+
+/* The message at *at of a listing, in bytes, and moves *at on to the one after it. So to go through a listing:
+
+     size_t at = 0;
+     deolmutt_message message;
+     while (deolmutt_next(listing, length, &at, &message) == DEOLMUTT_OK) ..
+
+   Refused, with *at as it was: DEOLMUTT_NOT_THERE at the end; BAD_RECORD where there is no message of a listing. */
+uint32_t deolmutt_next(const uint8_t *listing, size_t length, size_t *at, deolmutt_message *message);
+
+/* A listing whose two halves are read at two moments, with calls between them. deolmutt_first gives the messages of new; at that moment or
+   later deolmutt_second takes this as `first`, reads cur, and gives the messages of cur and those of `first` whose unique name is none of
+   these, in order of unique name. By the listing law each unique name is shown as it was in the folder at some moment between the two; one
+   that was there at both is listed, and none twice. Of another listing as `first` its messages of new count. Refused: as deolmutt_list; and
+   deolmutt_second as DEOLMUTT_BAD_RECORD where `first` is no listing in order of unique name. */
+uint32_t deolmutt_first(const deolmutt_world *world, uint32_t folder, uint8_t *out, size_t room, size_t *length);
+uint32_t deolmutt_second(const deolmutt_world *world, uint32_t folder, const uint8_t *first, size_t first_length, uint8_t *out, size_t room,
+                         size_t *length);
 
 /* The bytes of a message, in new or cur of any folder. Refused: DEOLMUTT_NOT_THERE, ROOM (*length is said). */
-uint32_t deolmutt_read(deolmutt_world *world, const uint8_t *unique, size_t unique_length, uint8_t *out, size_t room, size_t *length);
+uint32_t deolmutt_read(const deolmutt_world *world, const uint8_t *unique, size_t unique_length, uint8_t *out, size_t room,
+                       size_t *length);
 
 /* The name at a position, from 0, of the ordered names of a directory, tmp too. Refused: DEOLMUTT_NO_PLACE, NOT_THERE (past the last, or
    no such folder), ROOM (*length is said). */
-uint32_t deolmutt_names(deolmutt_world *world, uint32_t folder, uint32_t place, uint64_t at, uint8_t *out, size_t room, size_t *length);
+uint32_t deolmutt_names(const deolmutt_world *world, uint32_t folder, uint32_t place, uint64_t at, uint8_t *out, size_t room,
+                        size_t *length);
 
 /* Many calls in one, each as by deolmutt_call without an own moment, at one moment. `records` has for each call, little-endian,
    `u32 kind, u32 folder, u32 to, u32 0, u64 length of unique, u64 of first, u64 of second, u64 number`, 48 bytes, and then the bytes of
    unique, first and second. It stops at the first refused: the calls before it are done, *done says how many, and `answers` has an answer
-   for each of these. Refused: as deolmutt_call; DEOLMUTT_BAD_RECORD where the records end amid one; DEOLMUTT_ROOM where answers, which
-   has room for `room` answers, is full and bytes are left. *done is said after each of these, and the answers past it are as they were.
-   After DEOLMUTT_NO_MEMORY the next call's job may be there without its answer, as after deolmutt_call; deolmutt_settle tells its
-   number. */
+   for each of these. Refused: as deolmutt_call; DEOLMUTT_BAD_RECORD where the records end amid one, or the u32 0 of one is another number;
+   DEOLMUTT_ROOM where answers, which has room for `room` answers, is full and bytes are left. *done is said after each of these, and the
+   answers past it are as they were. After DEOLMUTT_NO_MEMORY the next call's job may be there without its answer, as after deolmutt_call;
+   deolmutt_settle tells its number. */
 uint32_t deolmutt_calls(deolmutt_world *world, const uint8_t *records, size_t length, uint64_t now, deolmutt_answer *answers, size_t room,
                         size_t *done);
 
@@ -314,7 +364,7 @@ uint32_t deolmutt_driven_ask(deolmutt_driven *job, uint64_t second);
 
 /* The call that was asked for, as often as wanted. `out` gets its name and, right after it, its second name or the bytes of an append.
    Refused: DEOLMUTT_NOT_ASKED, NO_MEMORY, ROOM (*request and *length are said). */
-uint32_t deolmutt_driven_request(deolmutt_driven *job, deolmutt_request *request, uint8_t *out, size_t room, size_t *length);
+uint32_t deolmutt_driven_request(const deolmutt_driven *job, deolmutt_request *request, uint8_t *out, size_t room, size_t *length);
 
 /* One row of the reading that was asked for: a name, and the stamp of its file in seconds and its size in bytes. Seen, flag, move, copy and
    expunge go by the name of the first row that is the message's: the others need not be told. A clean goes by each row of tmp, and by its
@@ -327,7 +377,7 @@ uint32_t deolmutt_driven_row(deolmutt_driven *job, const uint8_t *name, size_t l
 uint32_t deolmutt_driven_take(deolmutt_driven *job, uint32_t reply, deolmutt_step_out *step);
 
 /* The answer of a driven job, DEOLMUTT_NO_ANSWER where it has none yet. */
-uint32_t deolmutt_driven_answer(deolmutt_driven *job, deolmutt_answer *answer);
+uint32_t deolmutt_driven_answer(const deolmutt_driven *job, deolmutt_answer *answer);
 
 #ifdef __cplusplus
 }

@@ -1,9 +1,12 @@
 /* Every function of deolmutt.h: what it gives, each refusal that a caller can come to, and every null pointer. Ends with a count. */
 #include "checks.h"
 #include "driven.h"
+#include "folders.h"
+#include "listings.h"
 #include "passed.h"
 #include "worlds.h"
 
+#include <limits.h>
 #include <time.h>
 
 static void test_texts(void) {
@@ -11,13 +14,16 @@ static void test_texts(void) {
                                        29, 30, 31, 32, 40, 41, 42, 50, 51, 52, 53, 54, 55, 56, 57, 58, 59, 60, 61, 62, 63};
     uint8_t text[64];
     uint32_t number, at = 0;
-    CHECK(deolmutt_abi() == DEOLMUTT_ABI);
+    CHECK(deolmutt_abi() == DEOLMUTT_ABI && deolmutt_minor() == DEOLMUTT_MINOR);
     for (number = 0; number < 1000; number++) {
         size_t length = deolmutt_text(number, text, sizeof text);
         int is_one = at < sizeof numbers / sizeof *numbers && numbers[at] == number;
         at += is_one;
         CHECK((length != 0) == is_one && length <= 32);
+        CHECK(!is_one || (strlen(deolmutt_strerror((int)number)) == length && memcmp(deolmutt_strerror((int)number), text, length) == 0));
+        CHECK(is_one || strcmp(deolmutt_strerror((int)number), number == 0 ? "ok" : "no such status") == 0);
     }
+    CHECK(strcmp(deolmutt_strerror(-1), "no such status") == 0 && strcmp(deolmutt_strerror(INT_MIN), "no such status") == 0);
     CHECK(deolmutt_text(DEOLMUTT_NAME_USED, text, sizeof text) == 9 && memcmp(text, "name used", 9) == 0);
     memset(text, '.', sizeof text);
     CHECK(deolmutt_text(DEOLMUTT_NAME_USED, text, 4) == 9 && memcmp(text, "name.", 5) == 0);
@@ -392,6 +398,22 @@ static void test_many(void) {
     }
     memset(records + 16, 255, 8);
     CHECK(deolmutt_calls(world, records, length, 5, answers, 4, &count) == DEOLMUTT_BAD_RECORD && count == 0);
+    put_record(records, DEOLMUTT_DELIVER, 0, 0, "v", "mail", "", 4096);
+    for (cut = 12; cut < 16; cut++) {
+        records[first + cut] = 1;
+        CHECK(deolmutt_calls(world, records, length, 5, answers, 1, &count) == (cut == 12 ? DEOLMUTT_ROOM : DEOLMUTT_NAME_USED));
+        CHECK(count == (cut == 12));
+        CHECK(deolmutt_calls(world, records + first, length - first, 5, answers, 4, &count) == DEOLMUTT_BAD_RECORD && count == 0);
+        records[first + cut] = 0;
+    }
+    records[12] = 1;
+    CHECK(deolmutt_calls(world, records, length, 5, answers, 4, &count) == DEOLMUTT_BAD_RECORD && count == 0);
+    CHECK(deolmutt_calls(world, records, length, 5, NULL, 0, &count) == DEOLMUTT_ROOM && count == 0);
+    put_record(records, DEOLMUTT_SEEN, 0, 0, "v", "SS", "ee", 1);
+    records[first + 15] = 255;
+    CHECK(deolmutt_calls(world, records, length, 5, answers, 4, &count) == DEOLMUTT_BAD_RECORD && count == 1);
+    CHECK(answers[0].kind == DEOLMUTT_FLAGS);
+    records[first + 15] = 0;
     put_record(records, 9, 0, 0, "u", "mail", "", 4096);
     CHECK(deolmutt_calls(world, records, first, 5, answers, 4, &count) == DEOLMUTT_BAD_KIND && count == 0);
     CHECK(deolmutt_calls(NULL, records, length, 5, answers, 4, &count) == DEOLMUTT_NULL);
@@ -579,6 +601,8 @@ int main(void) {
     test_worlds();
     test_driven();
     test_passed();
+    test_folders();
+    test_listings();
     printf("%lu checks\n", checked);
     return 0;
 }

@@ -173,6 +173,10 @@ static int call_without(long at) {
     }
     must(job == 1, "a job");
     WITHOUT(deolmutt_list(world, 0, out, sizeof out, &after));
+    WITHOUT(deolmutt_first(world, 0, out, sizeof out, &length));
+    must((length != 0) == (status == DEOLMUTT_OK), "a first half or none");
+    WITHOUT(deolmutt_second(world, 0, NULL, 0, out, sizeof out, &length));
+    must((length != 0) == (status == DEOLMUTT_OK), "a listing or none");
     WITHOUT(deolmutt_load((const uint8_t *)lines, sizeof lines - 1, &other, &line));
     must((status == DEOLMUTT_OK) == (other != NULL) && line == 0, "a world or none");
     if (other == NULL)
