@@ -264,6 +264,23 @@ uint32_t deolmutt_call(deolmutt_world *world, uint32_t kind, uint32_t folder, co
                        const uint8_t *first, size_t first_length, const uint8_t *second, size_t second_length, uint64_t number,
                        uint64_t now, const uint64_t *own, uint64_t *job, deolmutt_answer *answer);
 
+/* One function for each kind of call, over deolmutt_call. A delivery is written in pieces of 65,536 bytes. The others have one try, which
+   does, since no other job takes a step meanwhile. Flags are letters with a NUL at their end. Refused as deolmutt_call; after
+   DEOLMUTT_NO_MEMORY the job may be there without its answer, and deolmutt_settle tells its number. */
+uint32_t deolmutt_deliver(deolmutt_world *world, uint32_t folder, const void *unique, size_t unique_length, const void *message,
+                          size_t length, uint64_t now, deolmutt_answer *answer);
+uint32_t deolmutt_seen(deolmutt_world *world, uint32_t folder, const void *unique, size_t unique_length, const char *flags, uint64_t now,
+                       deolmutt_answer *answer);
+uint32_t deolmutt_flag(deolmutt_world *world, uint32_t folder, const void *unique, size_t unique_length, const char *add,
+                       const char *remove, uint64_t now, deolmutt_answer *answer);
+uint32_t deolmutt_move(deolmutt_world *world, uint32_t folder, const void *unique, size_t unique_length, uint32_t to, uint64_t now,
+                       deolmutt_answer *answer);
+uint32_t deolmutt_copy(deolmutt_world *world, uint32_t folder, const void *unique, size_t unique_length, uint32_t to, const void *fresh,
+                       size_t fresh_length, uint64_t now, deolmutt_answer *answer);
+uint32_t deolmutt_expunge(deolmutt_world *world, uint32_t folder, const void *unique, size_t unique_length, uint64_t now,
+                          deolmutt_answer *answer);
+uint32_t deolmutt_clean(deolmutt_world *world, uint32_t folder, uint64_t now, deolmutt_answer *answer);
+
 /* The answer of a job, DEOLMUTT_NO_ANSWER where it has none yet. Refused: DEOLMUTT_NO_JOB. */
 uint32_t deolmutt_job_answer(const deolmutt_world *world, uint64_t job, deolmutt_answer *answer);
 

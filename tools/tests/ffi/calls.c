@@ -1,6 +1,7 @@
 /* Every function of deolmutt.h: what it gives, each refusal that a caller can come to, and every null pointer. Ends with a count. */
 #include "checks.h"
 #include "driven.h"
+#include "each.h"
 #include "folders.h"
 #include "listings.h"
 #include "passed.h"
@@ -603,6 +604,7 @@ int main(void) {
     test_passed();
     test_folders();
     test_listings();
+    test_each();
     printf("%lu checks\n", checked);
     return 0;
 }
