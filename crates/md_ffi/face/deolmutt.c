@@ -13,11 +13,7 @@
 #include <stdlib.h>
 #include <unistd.h>
 
-/* How many random bytes names are hashed by, so that nobody can choose names that all collide. */
-#define SEED 16
-
-/* Draws so many random bytes, and says how many: none where the system gives none. */
-static size_t draw(uint8_t *seed) { return getentropy(seed, SEED) == 0 ? SEED : 0; }
+size_t face_draw(uint8_t *seed) { return getentropy(seed, SEED) == 0 ? SEED : 0; }
 
 static struct own own_of(const uint64_t *own) {
     struct own given = {0, 0};
@@ -53,7 +49,7 @@ uint32_t deolmutt_load(const uint8_t *lines, size_t length, deolmutt_world **wor
     made = calloc(1, sizeof *made);
     if (made == NULL)
         return DEOLMUTT_NO_MEMORY;
-    status = md_ffi_load(BYTES(lines, length), seed, draw(seed), &made->marked.handle, line);
+    status = md_ffi_load(BYTES(lines, length), seed, face_draw(seed), &made->marked.handle, line);
     if (status == DEOLMUTT_OK && !face_keep_names(made, BYTES(lines, length))) {
         md_ffi_free(&made->marked.handle);
         status = DEOLMUTT_NO_MEMORY;
@@ -211,7 +207,7 @@ uint32_t deolmutt_transcript(const uint8_t *script, size_t length, uint8_t *out,
         return DEOLMUTT_LENGTH;
     if (OVERLAPS(3, IT(out_length), IT(line), SOME(out, room), SOME(script, length)))
         return DEOLMUTT_OVERLAP;
-    return md_ffi_transcript(BYTES(script, length), seed, draw(seed), ROOM(out, room), out_length, line);
+    return md_ffi_transcript(BYTES(script, length), seed, face_draw(seed), ROOM(out, room), out_length, line);
 }
 
 uint32_t deolmutt_index(const uint8_t *lines, size_t length, uint8_t *out, size_t room, size_t *out_length, uint64_t *line) {
@@ -224,7 +220,7 @@ uint32_t deolmutt_index(const uint8_t *lines, size_t length, uint8_t *out, size_
         return DEOLMUTT_LENGTH;
     if (OVERLAPS(3, IT(out_length), IT(line), SOME(out, room), SOME(lines, length)))
         return DEOLMUTT_OVERLAP;
-    return md_ffi_index(BYTES(lines, length), seed, draw(seed), ROOM(out, room), out_length, line);
+    return md_ffi_index(BYTES(lines, length), seed, face_draw(seed), ROOM(out, room), out_length, line);
 }
 
 uint32_t deolmutt_unique(uint64_t sec, uint64_t micro, uint64_t pid, uint64_t count, const uint8_t *host, size_t host_length, uint8_t *out,

@@ -67,6 +67,12 @@ static inline int enter_driven(const deolmutt_driven *job, uint32_t *status) { r
 static inline uint32_t leave_driven(const deolmutt_driven *job, uint32_t status) { return leave(&job->marked, DRIVEN_MARK, status); }
 static inline struct handle *of_driven(const deolmutt_driven *job) { return (struct handle *)&job->marked.handle; }
 
+/* How many random bytes names are hashed by, so that nobody can choose names that all collide. */
+#define SEED 16
+
+/* Draws so many random bytes, and says how many: none where the system gives none. */
+size_t face_draw(uint8_t *seed);
+
 /* Keeps the names of the folders of lines that were loaded. No, where memory for them is refused. */
 int face_keep_names(deolmutt_world *made, const uint8_t *lines, size_t length);
 
@@ -88,6 +94,8 @@ struct own {
 uint32_t md_ffi_abi(void);
 size_t md_ffi_text(uint32_t refusal, uint8_t *out, size_t room);
 uint32_t md_ffi_load(const uint8_t *lines, size_t length, const uint8_t *seed, size_t drawn, struct handle *handle, uint64_t *line);
+uint32_t md_ffi_load_files(uint32_t folders, const uint8_t *records, size_t length, const uint8_t *seed, size_t drawn,
+                           struct handle *handle);
 uint32_t md_ffi_free(struct handle *handle);
 uint32_t md_ffi_submit(struct handle *handle, const struct asked *asked, const uint8_t *unique, size_t unique_length, const uint8_t *first,
                        size_t first_length, const uint8_t *second, size_t second_length, uint64_t *job);
@@ -100,6 +108,9 @@ uint32_t md_ffi_settle(struct handle *handle, uint64_t *job);
 uint32_t md_ffi_list(struct handle *handle, uint32_t folder, uint8_t *out, size_t room, size_t *length);
 uint32_t md_ffi_read(struct handle *handle, const uint8_t *unique, size_t unique_length, uint8_t *out, size_t room, size_t *length);
 uint32_t md_ffi_names(struct handle *handle, uint32_t folder, uint32_t place, uint64_t at, uint8_t *out, size_t room, size_t *length);
+uint32_t md_ffi_row(struct handle *handle, uint32_t folder, uint32_t place, uint64_t at, deolmutt_row *row);
+uint32_t md_ffi_file(struct handle *handle, uint32_t folder, uint32_t place, const uint8_t *name, size_t name_length, uint8_t *out,
+                     size_t room, size_t *length);
 uint32_t md_ffi_calls(struct handle *handle, const uint8_t *records, size_t length, uint64_t now, deolmutt_answer *answers, size_t room,
                       size_t *done);
 uint32_t md_ffi_transcript(const uint8_t *script, size_t length, const uint8_t *seed, size_t drawn, uint8_t *out, size_t room,

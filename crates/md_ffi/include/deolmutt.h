@@ -35,9 +35,10 @@
  * Moments are seconds since 1970-01-01 00:00:00 UTC. Folders are numbered from 0, in the order in which they were loaded; jobs from 1.
  * Memory comes from malloc, realloc and free; where there is none left, a call is refused as DEOLMUTT_NO_MEMORY.
  *
- * Names are kept in hash tables. So that nobody can choose names that all collide there, deolmutt_load, deolmutt_transcript and
- * deolmutt_index draw 16 random bytes from the system by getentropy (of glibc 2.25 and later), and hash by them. Where the system gives
- * none, they go on, and hash the same way in every process. No answer hangs on these bytes.
+ * Names are kept in hash tables. So that nobody can choose names that all collide there, deolmutt_load, deolmutt_load_files,
+ * deolmutt_transcript and deolmutt_index draw 16 random bytes from the system by getentropy (of glibc 2.25 and later), and hash by them.
+ * Where the system gives none, they go on, and hash the same way in every process. No answer hangs on these bytes. getentropy may wait
+ * while a system starts, and it and malloc may set errno, by which no function here says anything.
  */
 #ifndef DEOLMUTT_H
 #define DEOLMUTT_H
@@ -205,6 +206,29 @@ typedef struct deolmutt_message {
     uint32_t info;        /* 0 no info, 1 flags, 2 other info */
 } deolmutt_message;
 
+/* Bytes, and how many. */
+typedef struct deolmutt_bytes {
+    const void *bytes;
+    size_t length;
+} deolmutt_bytes;
+
+/* A file that a world begins with: its folder and place, its whole name, its stamp in seconds, and its bytes. */
+typedef struct deolmutt_file {
+    uint32_t folder;
+    uint32_t place;
+    const void *name;
+    size_t name_length;
+    uint64_t stamp;
+    const void *body;
+    size_t body_length;
+} deolmutt_file;
+
+/* What is known of a file beside its name and its bytes: its stamp in seconds, and how many bytes it has. */
+typedef struct deolmutt_row {
+    uint64_t stamp;
+    uint64_t size;
+} deolmutt_row;
+
 /* The version of this interface: DEOLMUTT_ABI of the header that the library was built with. It is another one where a call changes; a
    call that is added leaves it, and raises DEOLMUTT_MINOR. */
 uint32_t deolmutt_abi(void);
@@ -220,10 +244,19 @@ size_t deolmutt_text(uint32_t refusal, uint8_t *out, size_t room);
    stays as it is. */
 const char *deolmutt_strerror(int status);
 
-/* A world over folders and files, from `folder NAME` and `file FOLDER PLACE NAME STAMP [BODY]` lines of the script language.
+/* A world over folders and files, from `folder NAME` and `file FOLDER PLACE NAME STAMP [BODY]` lines of the script language. A space ends a
+   NAME: files whose names have one come by deolmutt_load_files.
    Refused as a script's line is, with *line its number, from 1; or, with *line 0, as DEOLMUTT_SAME_PATH, BAD_NAME, LONG_UNIQUE,
    DUPLICATE_UNIQUE or NO_MEMORY. *world is null after each refusal. */
 uint32_t deolmutt_load(const uint8_t *lines, size_t length, deolmutt_world **world, uint64_t *line);
+
+/* A world over folders and files, whose names may have any bytes but those that DEOLMUTT_BAD_NAME is for. Folders are numbered in their
+   order, and their names are kept for deolmutt_folder alone: they may be of any bytes, and empty. Refused: DEOLMUTT_NULL and LENGTH, also
+   for a pointer or a length of one folder or file; NO_FOLDER and NO_PLACE, of the first file that has one; SAME_PATH; BAD_NAME,
+   LONG_UNIQUE or DUPLICATE_UNIQUE; NO_MEMORY. To keep a world and load it again, read its folders by deolmutt_folder_name, and each file
+   of each place by deolmutt_row_at and deolmutt_read_file. */
+uint32_t deolmutt_load_files(const deolmutt_bytes *folders, size_t folder_count, const deolmutt_file *files, size_t file_count,
+                             deolmutt_world **world);
 
 /* Takes a world back. */
 uint32_t deolmutt_free(deolmutt_world *world);
@@ -231,7 +264,7 @@ uint32_t deolmutt_free(deolmutt_world *world);
 /* How many folders a world has. */
 uint32_t deolmutt_folders(const deolmutt_world *world, uint32_t *count);
 
-/* The number of the folder of a name. Refused: DEOLMUTT_UNKNOWN_FOLDER. */
+/* The number of the folder of a name, the first one's where two have it. Refused: DEOLMUTT_UNKNOWN_FOLDER. */
 uint32_t deolmutt_folder(const deolmutt_world *world, const void *name, size_t length, uint32_t *folder);
 
 /* The name of a folder. Refused: DEOLMUTT_NO_FOLDER, ROOM (*length is said). */
@@ -319,6 +352,15 @@ uint32_t deolmutt_read(const deolmutt_world *world, const uint8_t *unique, size_
    no such folder), ROOM (*length is said). */
 uint32_t deolmutt_names(const deolmutt_world *world, uint32_t folder, uint32_t place, uint64_t at, uint8_t *out, size_t room,
                         size_t *length);
+
+/* The name at a position as deolmutt_names gives it, and in *row the stamp and the size of its file. Refused: as deolmutt_names, at ROOM
+   with *row and *length said. */
+uint32_t deolmutt_row_at(const deolmutt_world *world, uint32_t folder, uint32_t place, uint64_t at, deolmutt_row *row, uint8_t *out,
+                         size_t room, size_t *length);
+
+/* The bytes of the file of a whole name in a directory, tmp too. Refused: DEOLMUTT_NO_PLACE, NOT_THERE, ROOM (*length is said). */
+uint32_t deolmutt_read_file(const deolmutt_world *world, uint32_t folder, uint32_t place, const void *name, size_t name_length,
+                            uint8_t *out, size_t room, size_t *length);
 
 /* Many calls in one, each as by deolmutt_call without an own moment, at one moment. `records` has for each call, little-endian,
    `u32 kind, u32 folder, u32 to, u32 0, u64 length of unique, u64 of first, u64 of second, u64 number`, 48 bytes, and then the bytes of

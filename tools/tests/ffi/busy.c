@@ -47,6 +47,7 @@ static void calls_of_a_busy_world(void) {
     uint8_t out[16] = ".";
     uint64_t job;
     uint32_t folder;
+    deolmutt_row row;
     size_t length;
     CHECK(deolmutt_free(world) == DEOLMUTT_BUSY);
     CHECK(deolmutt_submit(world, DEOLMUTT_CLEAN, 0, NO_BYTES, 0, NO_BYTES, NO_BYTES, 0, &job) == DEOLMUTT_BUSY);
@@ -60,6 +61,8 @@ static void calls_of_a_busy_world(void) {
     CHECK(deolmutt_calls(world, NO_BYTES, 1, &answer, 1, &length) == DEOLMUTT_BUSY);
     CHECK(deolmutt_first(world, 0, out, sizeof out, &length) == DEOLMUTT_BUSY);
     CHECK(deolmutt_second(world, 0, NO_BYTES, out, sizeof out, &length) == DEOLMUTT_BUSY);
+    CHECK(deolmutt_row_at(world, 0, DEOLMUTT_NEW, 0, &row, out, sizeof out, &length) == DEOLMUTT_BUSY);
+    CHECK(deolmutt_read_file(world, 0, DEOLMUTT_NEW, "u", 1, out, sizeof out, &length) == DEOLMUTT_BUSY);
     CHECK(deolmutt_folders(world, &folder) == DEOLMUTT_BUSY);
     CHECK(deolmutt_folder(world, "a", 1, &folder) == DEOLMUTT_BUSY);
     CHECK(deolmutt_folder_name(world, 0, out, sizeof out, &length) == DEOLMUTT_BUSY);

@@ -2,6 +2,7 @@
 #include "checks.h"
 #include "driven.h"
 #include "each.h"
+#include "files.h"
 #include "folders.h"
 #include "listings.h"
 #include "passed.h"
@@ -105,6 +106,7 @@ int getentropy(void *buffer, size_t length) {
 static void test_draws(void) {
     static const char lines[] = "folder i\nfile i new u 1 x\n";
     static const char script[] = "folder i\nfile i new u 1 x\nlist i\n";
+    deolmutt_world *world = NULL;
     uint8_t out[64];
     size_t length = 0;
     uint64_t line = 7;
@@ -115,6 +117,8 @@ static void test_draws(void) {
         CHECK(length == 10 && memcmp(out, "new u - 1\n", 10) == 0);
         CHECK(deolmutt_index(TEXT(lines), out, sizeof out, &length, &line) == DEOLMUTT_OK && draws == 3);
         CHECK(length == 8 && memcmp(out, "i u\nend\n", 8) == 0);
+        CHECK(deolmutt_load_files(NULL, 0, NULL, 0, &world) == DEOLMUTT_OK && draws == 4);
+        CHECK(deolmutt_free(world) == DEOLMUTT_OK && draws == 4);
     }
     is_without_random = 0;
 }
@@ -605,6 +609,7 @@ int main(void) {
     test_folders();
     test_listings();
     test_each();
+    test_files();
     printf("%lu checks\n", checked);
     return 0;
 }

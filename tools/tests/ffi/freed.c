@@ -14,6 +14,7 @@ static void calls_of_a_freed_world(deolmutt_world *world) {
     deolmutt_step_out step;
     uint64_t job;
     uint32_t folder;
+    deolmutt_row row;
     CHECK(deolmutt_free(world) == DEOLMUTT_CLOSED);
     CHECK(deolmutt_submit(world, DEOLMUTT_CLEAN, 0, NO_BYTES, 0, NO_BYTES, NO_BYTES, 0, &job) == DEOLMUTT_CLOSED);
     CHECK(deolmutt_step(world, 1, 1, NULL, &step) == DEOLMUTT_CLOSED);
@@ -26,6 +27,8 @@ static void calls_of_a_freed_world(deolmutt_world *world) {
     CHECK(deolmutt_calls(world, NO_BYTES, 1, &answer, 1, &length) == DEOLMUTT_CLOSED);
     CHECK(deolmutt_first(world, 0, out, sizeof out, &length) == DEOLMUTT_CLOSED);
     CHECK(deolmutt_second(world, 0, NO_BYTES, out, sizeof out, &length) == DEOLMUTT_CLOSED);
+    CHECK(deolmutt_row_at(world, 0, DEOLMUTT_NEW, 0, &row, out, sizeof out, &length) == DEOLMUTT_CLOSED);
+    CHECK(deolmutt_read_file(world, 0, DEOLMUTT_NEW, "u", 1, out, sizeof out, &length) == DEOLMUTT_CLOSED);
     CHECK(deolmutt_folders(world, &folder) == DEOLMUTT_CLOSED);
     CHECK(deolmutt_folder(world, "a", 1, &folder) == DEOLMUTT_CLOSED);
     CHECK(deolmutt_folder_name(world, 0, out, sizeof out, &length) == DEOLMUTT_CLOSED);

@@ -125,7 +125,10 @@ static int steps_without(long at) {
 
 /* One call with its allocation `at` refused: whether there was such an allocation. */
 static int call_without(long at) {
+    static const deolmutt_bytes folder = {"a", 1};
+    static const deolmutt_file file = {0, DEOLMUTT_CUR, "old one:2,S", 11, 5, "body", 4};
     static uint8_t out[4096], text[64];
+    deolmutt_row row;
     deolmutt_world *world = loaded(), *other = NULL;
     deolmutt_answer answer;
     deolmutt_step_out step;
@@ -177,6 +180,16 @@ static int call_without(long at) {
     must((length != 0) == (status == DEOLMUTT_OK), "a first half or none");
     WITHOUT(deolmutt_second(world, 0, NULL, 0, out, sizeof out, &length));
     must((length != 0) == (status == DEOLMUTT_OK), "a listing or none");
+    WITHOUT(deolmutt_row_at(world, 0, DEOLMUTT_CUR, 0, &row, out, sizeof out, &length));
+    must(status == DEOLMUTT_OK && row.stamp == 5 && row.size == 4 && length == 7, "a row takes no memory that it can't do without");
+    WITHOUT(deolmutt_read_file(world, 0, DEOLMUTT_CUR, "old:2,S", 7, out, sizeof out, &length));
+    must(status == DEOLMUTT_OK && length == 4 && memcmp(out, "body", 4) == 0, "the bytes of a file take no memory");
+    WITHOUT(deolmutt_load_files(&folder, 1, &file, 1, &other));
+    must((status == DEOLMUTT_OK) == (other != NULL), "a world of files or none");
+    if (other == NULL)
+        must(deolmutt_load_files(&folder, 1, &file, 1, &other) == DEOLMUTT_OK, "a refused load of files may come again");
+    must(deolmutt_free(other) == DEOLMUTT_OK, "free");
+    other = NULL;
     WITHOUT(deolmutt_load((const uint8_t *)lines, sizeof lines - 1, &other, &line));
     must((status == DEOLMUTT_OK) == (other != NULL) && line == 0, "a world or none");
     if (other == NULL)
