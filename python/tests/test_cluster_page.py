@@ -1,4 +1,4 @@
-"""The section of docs/GUIDE.md on more than one process: its commands start what they say, and its session prints what it shows."""
+"""docs/CLUSTER.md: its commands start what they say, and its session prints what it shows."""
 
 from __future__ import annotations
 
@@ -18,8 +18,9 @@ from support import PYTHON, TOP, Case
 if not NO_DASK:
     from distributed import Client
 
-PAGE = (TOP / "docs/GUIDE.md").read_text(encoding="utf-8")
-SECTION = PAGE[PAGE.index("## 10. More than one process") :]
+PAGE = (TOP / "docs/CLUSTER.md").read_text(encoding="utf-8")
+# The guide has the script that the session reads.
+GUIDE = (TOP / "docs/GUIDE.md").read_text(encoding="utf-8")
 PORT = "8786"
 DASK = "import sys; from dask.__main__ import main; sys.exit(main())"
 
@@ -30,21 +31,21 @@ class PageTest(Case):
         with socket.socket() as free:
             free.bind(("127.0.0.1", 0))
             port = str(free.getsockname()[1])
-        commands = [shlex.split(line.replace(PORT, port)) for line in re.findall(r"^    dask (.*)$", SECTION, re.M)]
+        commands = [shlex.split(line.replace(PORT, port)) for line in re.findall(r"^    dask (.*)$", PAGE, re.M)]
         self.assertEqual(["scheduler", "worker", "worker"], [words[0] for words in commands])
         for words in commands:
             self.start(words)
         address = f"tcp://127.0.0.1:{port}"
         with Client(address, timeout=60, set_as_default=False) as client:
             client.wait_for_workers(2, timeout=60)
-        saved = re.search(r"Save this as `headers.script`:\n\n((?:    .*\n)+)", PAGE)
+        saved = re.search(r"Save this as `headers.script`:\n\n((?:    .*\n)+)", GUIDE)
         assert saved is not None
         (self.folder / "headers.script").write_text(re.sub(r"^    ", "", saved[1], flags=re.M))
         here = os.getcwd()
         self.addCleanup(os.chdir, here)
         os.chdir(self.folder)
         names = {"address": address, "folder": str(self.folder / "snapshot")}
-        session = doctest.DocTestParser().get_doctest(SECTION, names, "GUIDE.md", None, 0)
+        session = doctest.DocTestParser().get_doctest(PAGE, names, "CLUSTER.md", None, 0)
         self.assertGreater(len(session.examples), 12)
         ran = doctest.DocTestRunner().run(session)
         self.assertEqual(0, ran.failed)

@@ -8,7 +8,7 @@ from typing import Any, Optional, Sequence
 _ABOUT = """\
 Turns a real maildir tree into scripts of folder and file lines, which
 maildir_cli plays and indexes, and such scripts into a tree. Names, bytes and
-times in whole seconds come back as they were. docs/REAL_MAIL.md says more.
+times in whole seconds come back as they were. docs/DISK.md says more.
 """
 
 _STATUSES = """\

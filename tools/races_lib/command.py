@@ -35,11 +35,15 @@ deolmutt and by maildir_cli, and shows what they printed. With --explore it runs
 directory calls, as tools/explore does, and shows what they did. With --docs it makes docs/races.html and the pictures of docs, of scripts
 and of what is kept in tools/races.d; with --check it makes them and says whether those that are there are equal. With --record it runs the
 scenes of docs/races.html anew, for which strace, the judge and the programs have to be there, and keeps what they did."""
+MORE = """Of a script the orders are its own, and then those that part from it the fewest times. How many there are is counted by states,
+and is called `at least` if 100,000 steps don't suffice. A step keeps the moment that its job has at that step in the script, and the last
+moment holds for all further ones. Of commands an order is `lost or told falsely` if the judge finds something and every status is 0, or if
+it finds GaveUp or AnsweredFalsely, and `said` if a program ended with another status."""
 
 
 def options() -> argparse.ArgumentParser:
     """What the command line may say."""
-    parser = argparse.ArgumentParser(prog="races", description=ABOUT)
+    parser = argparse.ArgumentParser(prog="races", description=ABOUT, epilog=MORE)
     parser.add_argument("files", nargs="*", type=Path, metavar="FILE", help="a script")
     parser.add_argument("-o", dest="out", type=Path, metavar="OUT.html", help="where the page goes")
     explored = "what makes the maildirs, and two commands of sh, each in one word"

@@ -24,6 +24,9 @@ from law_lib.owed_command import broken_in, main  # noqa: E402
 
 PAGE = TOOLS.parent / "docs/LAW.md"
 EXAMPLE = re.compile(r"^\*\*`(\w+)`\.\*\* [^\n]*\n\n((?:    [^\n]*\n)+)", re.MULTILINE)
+JUDGE_PAGE = TOOLS.parent / "docs/JUDGE.md"
+# A row of the table of clauses: the clause, and the lines of its example in the last cell.
+ROW = re.compile(r"^\| (\w+) \| .* \| (`[^|]*`) \|$", re.MULTILINE)
 LOGS = sorted((TOOLS.parent / "crates/judge_examples/data").glob("*.log"))
 MOST_LINES = 60
 
@@ -45,6 +48,13 @@ class Law(unittest.TestCase):
                 said = "".join(f"{number} {clause}\n" for number, clause in found)
                 self.assertEqual(said, log.with_suffix(".found").read_text())
         self.assertEqual(broken, set(LAW), "each clause is broken by a log")
+
+    def test_the_last_line_of_each_example_of_the_page_breaks_its_clause_alone(self) -> None:
+        rows = [(clause, re.findall("`([^`]*)`", cell)) for clause, cell in ROW.findall(JUDGE_PAGE.read_text(encoding="utf-8"))]
+        self.assertEqual([clause for clause, _ in rows], list(LAW))
+        for clause, lines in rows:
+            with self.subTest(clause):
+                self.assertEqual(findings("\n".join(lines).encode(), LAW), [(len(lines), clause)])
 
 
 class Owed(unittest.TestCase):

@@ -71,8 +71,8 @@ impl<'r, R: Host> Acting<'r, R> {
         to: Option<&str>,
     ) -> Result<Acting<'r, R>, Failure> {
         let disk = match to {
-            Some(to) => maildirs(session, &[maildir, to], true)?,
-            None => maildirs(session, &[maildir], true)?,
+            Some(to) => maildirs(session, &[maildir, to])?,
+            None => maildirs(session, &[maildir])?,
         };
         let namer = match &act {
             Act::Copy => Some(session.namer()?),

@@ -6,18 +6,17 @@ use crate::trouble::Trouble;
 use md_disk::{Disk, Folders, has_cur, is_maildir, make_maildir};
 use std::io;
 
-/// The maildirs of these paths, each of which must be there, with tmp, new and cur.
+/// The maildirs of these paths, each of which must be there, with tmp, new and cur. What is changed in them is flushed.
 pub(crate) fn maildirs<'r, R: Host>(
     session: &Session<'r, R>,
     paths: &[&str],
-    flushes: bool,
 ) -> Result<Disk<'r, R>, Failure> {
     let mut folders = Vec::new(session.alloc);
     for path in paths {
         must_be_maildir(session, path)?;
         folders.push(String::from_str(session.alloc, path)?)?;
     }
-    Ok(Disk::new(session.host, Folders::new(folders), flushes))
+    Ok(Disk::new(session.host, Folders::new(folders), true))
 }
 
 /// The maildir of a path, to which messages are delivered. Its cur must be there. tmp and new, where each delivery makes a name, are left

@@ -13,7 +13,7 @@ use std::alloc::{AllocError, Global};
 
 /// Prints a line for each flaw of a maildir, and refuses it where there is one.
 pub(crate) fn checked<R: Host>(session: &Session<'_, R>, maildir: &str) -> Result<Status, Failure> {
-    let disk = maildirs(session, &[maildir], true)?;
+    let disk = maildirs(session, &[maildir])?;
     let (reply, flaws) = check_folders(session.alloc, &disk)?;
     if reply != DirReply::Ok {
         return Err(Failure::caused(session.alloc, Trouble::Fault, disk.cause()));

@@ -110,7 +110,7 @@ fn perform_work<R: Host>(
 
 // Takes away old files of tmp.
 fn cleaned<R: Host>(session: &Session<'_, R>, maildir: &str) -> Result<Status, Failure> {
-    let mut disk = maildirs(session, &[maildir], true)?;
+    let mut disk = maildirs(session, &[maildir])?;
     let answer = clean(session.alloc, &mut disk, 0)?;
     match trouble_of(answer) {
         None => Ok(Status::Done),

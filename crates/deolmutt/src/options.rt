@@ -47,13 +47,24 @@ Examples:
 
 /// The command line: a subcommand and its words.
 pub(crate) fn options<'a>(alloc: Global) -> Result<Command<'a>, AllocError> {
-    Command::new(alloc, PROGRAM)
+    let command = Command::new(alloc, PROGRAM)
         .version("0.1.0")
         .about(ABOUT)
         .after_help(AFTER)
         .no_binary_name(true)
         .subcommand_required(true)
-        .bin_name(PROGRAM)?
+        .bin_name(PROGRAM)?;
+    let command = with_mail(alloc, command)?;
+    let command = with_changes(alloc, command)?;
+    let command = with_care(alloc, command)?;
+    with_scripts(alloc, command)?
+        .subcommand(log(alloc)?)?
+        .subcommand(judge(alloc)?)
+}
+
+// The subcommands that make maildirs, and bring and show mail.
+fn with_mail<'a>(alloc: Global, command: Command<'a>) -> Result<Command<'a>, AllocError> {
+    command
         .subcommand(on_box(
             alloc,
             "make",
@@ -61,7 +72,12 @@ pub(crate) fn options<'a>(alloc: Global) -> Result<Command<'a>, AllocError> {
         )?)?
         .subcommand(deliver(alloc)?)?
         .subcommand(list(alloc)?)?
-        .subcommand(read(alloc)?)?
+        .subcommand(read(alloc)?)
+}
+
+// The subcommands that change messages.
+fn with_changes<'a>(alloc: Global, command: Command<'a>) -> Result<Command<'a>, AllocError> {
+    command
         .subcommand(on_keys(
             alloc,
             "seen",
@@ -82,7 +98,12 @@ pub(crate) fn options<'a>(alloc: Global) -> Result<Command<'a>, AllocError> {
             alloc,
             "expunge",
             "Takes away messages of cur that have the flag T",
-        )?)?
+        )?)
+}
+
+// The subcommands that take care of a maildir.
+fn with_care<'a>(alloc: Global, command: Command<'a>) -> Result<Command<'a>, AllocError> {
+    command
         .subcommand(on_box(
             alloc,
             "clean",
@@ -92,7 +113,12 @@ pub(crate) fn options<'a>(alloc: Global) -> Result<Command<'a>, AllocError> {
             alloc,
             "check",
             "Prints what breaks the format of a maildir, a line for each flaw",
-        )?)?
+        )?)
+}
+
+// The subcommands that run scripts over a store in memory.
+fn with_scripts<'a>(alloc: Global, command: Command<'a>) -> Result<Command<'a>, AllocError> {
+    command
         .subcommand(Command::new(alloc, "play").about("Plays the script on standard input"))?
         .subcommand(counted(
             alloc,
@@ -105,9 +131,7 @@ pub(crate) fn options<'a>(alloc: Global) -> Result<Command<'a>, AllocError> {
             "index",
             "Prints the header summaries of the script's files that are messages, made by N workers, 1 to 64",
             count(alloc, "How many workers, 1 to 64", MOST_WORKERS as i64),
-        )?)?
-        .subcommand(log(alloc)?)?
-        .subcommand(judge(alloc)?)
+        )?)
 }
 
 // A run of a script that wants a number.

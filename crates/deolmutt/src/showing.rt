@@ -32,7 +32,7 @@ pub(crate) fn listed<R: Host>(
     maildir: &str,
     shape: Shape,
 ) -> Result<Status, Failure> {
-    let disk = maildirs(session, &[maildir], true)?;
+    let disk = maildirs(session, &[maildir])?;
     let (reply, all) = list_folder(session.alloc, &disk, 0)?;
     if reply != DirReply::Ok {
         return Err(Failure::caused(session.alloc, Trouble::Fault, disk.cause()));
@@ -133,7 +133,7 @@ pub(crate) fn read<R: Host>(
     maildir: &str,
     word: &str,
 ) -> Result<Status, Failure> {
-    let mut disk = maildirs(session, &[maildir], true)?;
+    let mut disk = maildirs(session, &[maildir])?;
     let read = match parse_key(maildir.as_bytes(), word.as_bytes()) {
         Some(key) => copied_out(session, &mut disk, key.unique),
         None => Err(Failure::from(Trouble::BadKey)),

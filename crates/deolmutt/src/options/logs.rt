@@ -12,7 +12,7 @@ Examples:
   deolmutt log < script
   deolmutt log --states < script | less
 
-docs/TRACE.md says what the log has of a script.";
+docs/JUDGE.md says what the log has of a script.";
 
 const AFTER_JUDGE: &str =
     "A finding has its line, actor, call and clause, why, and the earlier line that it goes back to.

@@ -1,0 +1,1 @@
+"""What tools/check_pages looks for in the pages."""
