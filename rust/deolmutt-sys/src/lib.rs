@@ -1,5 +1,5 @@
-//! The functions of `deolmutt.h` that the crate `deolmutt` calls safely, as they are: its comments say what each does, and what it asks of its
-//! caller. Those that stand over others, for C, are left out.
+//! The functions of `deolmutt.h` that the crate `deolmutt` calls safely, as they are: its comments say what each does, and what it asks
+//! of its caller. Those that stand over others, for C, are left out.
 
 #![no_std]
 
