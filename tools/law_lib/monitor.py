@@ -248,7 +248,7 @@ def owes_written_late(j: Judged) -> bool:
 TWO_NAMES: dict[str, Callable[[Judged], bool]] = {
     "TwoNames": lambda j: adds_message(j, lambda path, unique, _: paths_of(j.after, path.folder, unique) > 1),
 }
-LAW = {
+LAW: dict[str, Callable[[Judged], bool]] = {
     "Overwritten": lambda j: j.turned is not None,
     "SeenBeforeWhole": shows_too_early,
     "Mixed": lambda j: writes(j, lambda file: not is_maker(j, file)),
@@ -256,7 +256,7 @@ LAW = {
     **TWO_NAMES,
     "Gone": is_gone, "UsedAgain": is_used_again, "MovedBack": is_moved_back, "CleanedEarly": is_cleaned_early,
 }  # fmt: skip
-OWED = {
+OWED: dict[str, Callable[[Judged], bool]] = {
     **TWO_NAMES, "InTwoFolders": owes_in_two_folders,
     "Mixed": lambda j: may_write(j, lambda file: not is_maker(j, file)),
     "NamedByAnother": owes_named_by_another, "CleanedEarly": is_cleaned_early,

@@ -34,15 +34,18 @@ class Call(NamedTuple):
 
 
 class Answer(NamedTuple):
-    """What a job answers: a word, and of Flags the flags."""
+    """What a job answers: a word, of Flags the flags, and of Cleaned how many files."""
 
     word: str
     flags: Optional[frozenset[str]] = None
+    files: Optional[int] = None
 
     def is_success(self) -> bool:
         return self.word in ("Delivered", "Flags", "Moved", "Copied", "Expunged")
 
     def __str__(self) -> str:
+        if self.files is not None:
+            return f"{self.word} {self.files}"
         return self.word if self.flags is None else f"{self.word} {letters(self.flags) or '-'}"
 
 

@@ -7,7 +7,7 @@ import sys
 import time
 from collections.abc import Mapping, Sequence
 from pathlib import Path
-from typing import Optional
+from typing import Any, Optional
 
 from law_lib.monitor import OWED
 
@@ -64,7 +64,7 @@ def main(words: Optional[Sequence[str]] = None) -> int:
 def _options() -> argparse.ArgumentParser:
     form = argparse.RawDescriptionHelpFormatter
     parser = argparse.ArgumentParser(prog="tools/search-law", description=_ABOUT, epilog=_MORE, formatter_class=form)
-    number = {"type": int, "metavar": "N"}
+    number: dict[str, Any] = {"type": int, "metavar": "N"}
     parser.add_argument("scenes", nargs="*", metavar="SCENE", help="these scenes, in place of all")
     parser.add_argument("--foreign", default=3, help="in a scene, at most so many steps of another (3)", **number)
     parser.add_argument("--faults", default=0, help="in a scene, at most so many calls of ours that fail (0)", **number)

@@ -32,6 +32,7 @@ class Stage(NamedTuple):
     name: bytes = b""
     tries: int = 0
     names: tuple[bytes, ...] = ()
+    files: int = 0
 
 
 class After(NamedTuple):
@@ -73,7 +74,9 @@ class Machines:
         if stage.at != "writing" or own - stage.start >= DAY:
             return At("unlink", tmp, ""), b""
         piece = call.body[stage.written : stage.written + call.chunk]
-        return (At("write", tmp, ""), piece) if piece else (Between("link", tmp, tmp._replace(place="new"), ""), b"")
+        if piece:
+            return At("write", tmp, ""), piece
+        return Between("link", tmp, tmp._replace(place="new"), ""), b""
 
     def deed(self, call: Call, old: Path) -> Asked:
         had = flags_of(old.name) or frozenset()
@@ -91,9 +94,10 @@ class Machines:
             return self.delivery_follows(call, stage, own, asked, reply)
         if stage.at == "list":
             old = tuple(row.name for row in rows if own - row.stamp >= OLD)
-            return self.after_next(old) if reply == "ok" else ends(stage, "Fault")
+            return self.after_next(old, len(old)) if reply == "ok" else ends(stage, "Fault")
         if stage.at == "remove":
-            return self.after_next(stage.names[1:]) if reply in ("ok", "notfound") else ends(stage, "Fault")
+            files = stage.files - (reply == "notfound")
+            return self.after_next(stage.names[1:], files) if reply in ("ok", "notfound") else ends(stage, "Fault")
         return self.after_look(call, stage, reply, rows) if stage.at == "look" else self.after_act(call, stage, reply)
 
     def delivery_follows(self, call: Call, stage: Stage, own: int, asked: Asked, reply: str) -> After:
@@ -115,8 +119,9 @@ class Machines:
             return After(Stage("linked"), None, Answer("Delivered"))
         return After(stage._replace(written=stage.written + call.chunk))
 
-    def after_next(self, names: tuple[bytes, ...]) -> After:
-        return After(Stage("remove", names=names)) if names else ends(Stage("remove"), "Cleaned")
+    def after_next(self, names: tuple[bytes, ...], files: int) -> After:
+        stage = Stage("remove", names=names, files=files)
+        return After(stage) if names else After(stage, Answer("Cleaned", files=files))
 
     def after_look(self, call: Call, stage: Stage, reply: str, rows: list[Row]) -> After:
         if reply != "ok":

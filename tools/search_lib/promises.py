@@ -4,10 +4,13 @@ from __future__ import annotations
 
 from typing import NamedTuple, Optional
 
+from judge_lib.names import Path
 from law_lib import monitor
+from law_lib.histories import At, List
+from law_lib.histories import Call as Asked
 
 from .calls import Answer, Call, alone
-from .machines import After, Stage
+from .machines import OLD, After, Row, Stage
 from .worlds import World
 
 TWO_PATHS = "a message has two paths"
@@ -31,6 +34,10 @@ class Job(NamedTuple):
     # how often others took its message away, at most as often as it has tries, and whether one took its file in tmp
     taken: int = 0
     is_tmp_taken: bool = False
+    # of a clean: the names that it has to unlink yet, how many it took, and whether it took a step that it had not to
+    left: tuple[bytes, ...] = ()
+    cleaned: int = 0
+    is_astray: bool = False
 
 
 class Story(NamedTuple):
@@ -77,6 +84,16 @@ def of_clauses(story: Story, call: Call, owed: frozenset[str], law: frozenset[st
     return wrong + tuple(f"it breaks {clause}, which it owes" for clause in monitor.OWED if clause in owed)
 
 
+def clean_on(job: Job, call: Asked, own: int, rows: list[Row]) -> Job:
+    """A clean after a step: it lists tmp, and then unlinks each name whose file was old there, once and in order."""
+    if job.began is None and isinstance(call, List) and call[:3] == (job.call.folder, "tmp", "ok"):
+        return job._replace(left=tuple(row.name for row in rows if own - row.stamp >= OLD))
+    if job.began is None or not job.left or not isinstance(call, At) or call.reply not in ("ok", "notfound"):
+        return job._replace(is_astray=True)
+    is_next = call[:2] == ("unlink", Path(job.call.folder, "tmp", job.left[0]))
+    return job._replace(left=job.left[1:], cleaned=job.cleaned + (call.reply == "ok"), is_astray=job.is_astray or not is_next)
+
+
 def may_break(story: Story, call: Call, clause: str) -> bool:
     return {
         "NotFlushed": call.kind == "deliver", "MovedBack": call.looks_in_both(), "Unlisted": call.looks_in_both(),
@@ -101,5 +118,6 @@ def _is_so(job: Job, word: str) -> bool:
     is_delivery = job.call.kind == "deliver"
     return {
         "Lost": job.call.kind not in ("deliver", "clean") and job.taken >= job.call.tries, "TimedOut": is_delivery and job.is_late,
-        "TmpGone": is_delivery and job.is_tmp_taken, "Fault": job.is_faulted, "Cleaned": job.call.kind == "clean",
+        "TmpGone": is_delivery and job.is_tmp_taken, "Fault": job.is_faulted,
+        "Cleaned": job.call.kind == "clean" and not job.is_astray and not job.left and job.answer == Answer("Cleaned", files=job.cleaned),
     }.get(word, word in job.could)  # fmt: skip

@@ -83,7 +83,7 @@ class Run:
 
     def call(self, there: list[Path], fresh: bytes) -> Call:
         """A call, half of the time on what is there."""
-        kind, folder, unique = (self.random.choice(each) for each in (KINDS, FOLDERS, self.names))
+        kind, folder, unique = self.random.choice(KINDS), self.random.choice(FOLDERS), self.random.choice(self.names)
         if there and self.random.random() < 0.5:
             path = self.random.choice(there)
             folder, unique = path.folder, unique_of(path.name)

@@ -106,6 +106,7 @@ def _own(story: Story, deed: Own, machines: Machines) -> Taken:
     gone = machines.follows(job.call, job.stage, own, asked, reply, world.rows(asked))
     step = judged(world, job.name, answered(world, asked, reply))
     then = after(world, step, b"" if deed.is_faulted else written)
+    job = promises.clean_on(job, step.call, own, world.rows(asked)) if job.call.kind == "clean" else job
     moved = _moved_on(job, gone, own, deed.is_faulted, UNDONE & {alone(job.call, world.box)[0].word})
     jobs = _seen_by_all((*story.jobs[: deed.number], moved, *story.jobs[deed.number + 1 :]), step, then, deed.number)
     law = frozenset(step.broken(monitor.LAW))
