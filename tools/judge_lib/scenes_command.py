@@ -11,7 +11,8 @@ from typing import List, Optional, Sequence
 
 from .exploring import Bounds
 from .judge_run import BUILT, deolmutt
-from .outcomes import markdown, repeated, text
+from .grades import GRADES
+from .outcomes import chosen, markdown, repeated, text
 from .refused import Refused
 from .results import Results
 from .scene import OWN, Scene, read_scenes, version_of
@@ -46,6 +47,8 @@ def _options() -> argparse.ArgumentParser:
     parser.add_argument("--resume", action="store_true", help="takes from --logs what a scene has shown there, with the same packages")
     parser.add_argument("--runs", type=int, default=1000, metavar="N", help="at most so many runs of two commands (1000)")
     parser.add_argument("--seconds", type=float, default=120, metavar="N", help="at most so many seconds for two commands (120)")
+    parser.add_argument("--least", choices=GRADES, metavar="GRADE",
+                        help="shows what was found of this grade or a worse one: " + ", ".join(f"{grade} ({says})" for grade, says in GRADES.items()))
     parser.add_argument("--jobs", type=int, default=1, metavar="N", help="so many scenes side by side (1)")
     parser.add_argument("names", nargs="*", metavar="SCENE", help="which scenes; without any, all")
     return parser
@@ -93,10 +96,19 @@ def _run(scenes: List[Scene], options: argparse.Namespace) -> int:
         for outcome in side_by_side(lambda scene: options.resume and results.former(scene) or _staged(scene, bounds, results), there):
             if outcome is not None:
                 outcomes.append(outcome)
-                _say("" if options.markdown else "\n".join(text(outcome)))
+                shown = _shown(outcome, options)
+                _say("" if options.markdown or not shown else "\n".join(text(shown[0])))
     if options.markdown:
-        print("\n".join(markdown(outcomes)))
+        print("\n".join(markdown([shown for outcome in outcomes for shown in _shown(outcome, options)])))
     return 1 if len(outcomes) < len(there) else 0
+
+
+def _shown(outcome: Outcome, options: argparse.Namespace) -> List[Outcome]:
+    """What is shown of an outcome: where only some grades are, nothing of one that has none of them."""
+    if options.least is None:
+        return [outcome]
+    graded = chosen(outcome, options.least)
+    return [graded] if graded.found else []
 
 
 def _is_there(scene: Scene) -> bool:

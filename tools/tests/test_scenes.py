@@ -12,11 +12,12 @@ from judge_support import TOOLS
 
 from judge_lib import outcomes, results
 from judge_lib.claims import read_claim
-from judge_lib.judge_run import judge, deolmutt
+from judge_lib.grades import GRADES
+from judge_lib.judge_run import Finding, judge, deolmutt
 from judge_lib.refused import Refused
 from judge_lib.results import Results
 from judge_lib.scene import FOLDER, read_scene, read_scenes
-from judge_lib.staging import Found, Outcome, check_expected
+from judge_lib.staging import Found, Gathered, Outcome, check_expected
 
 TRACED = """\
 package  p
@@ -96,14 +97,35 @@ class Scenes(unittest.TestCase):
                                                                        "  --status 'A: 0' --status 'B: 0 1' --stop-at names q t"])
 
     def test_rows(self):
-        found = [Found("Gone", 2, "q unlink box/cur/u|v ok", "it goes")]
+        found = [Found("Gone", 2, "q unlink box/cur/u|v ok", "it goes", "", "owed"), Found("GaveUp", 1, "q answer done box u", "it gave up", "", "custom")]
         rows = [Outcome(self.read(TRACED), "1-2", 1, True, [], b""), Outcome(self.read(EXPLORED), "3", 4, True, found, b""),
                 Outcome(self.read(EXPLORED), "3", 4, False, [], b"")]
+        head = ["", "| Program | Scene | What the judge found | Shown by |", "|---|---|---|---|"]
         with mock.patch.object(outcomes, "ran_here", return_value="Run here."):
-            self.assertEqual(outcomes.markdown(rows)[4:], [
+            self.assertEqual(outcomes.markdown(rows), [
+                "Run here.", "", "### Owed: " + GRADES["owed"], *head,
+                "| `q`, p 3 | does it | *owed*: `Gone` in 2 of 4 interleavings, it goes: `q unlink box/cur/u\\|v ok`; "
+                "*custom*: `GaveUp` in 1 of 4 interleavings, it gave up: `q answer done box u` (no claims) | `tools/scenes one` |",
+                "", "### Nothing is found", *head,
                 "| `q r`, p 1-2 | does it | nothing | `tools/scenes one` |",
-                "| `q`, p 3 | does it | `Gone` in 2 of 4 interleavings, it goes: `q unlink box/cur/u\\|v ok` (no claims) | `tools/scenes one` |",
                 "| `q`, p 3 | does it | nothing in 4 interleavings, and there are more (no claims) | `tools/scenes one` |"])
+            self.assertEqual(outcomes.text(rows[1])[1:], ["  owed: Gone in 2 of 4 interleavings: it goes: q unlink box/cur/u|v ok",
+                                                          "  custom: GaveUp in 1 of 4 interleavings: it gave up: q answer done box u"])
+
+    def test_grades_are_chosen(self):
+        found = [Found("Gone", 1, "q unlink box/cur/u ok", "it goes", "", "owed"), Found("GaveUp", 1, "q answer done box u", "it gave up", "", "custom")]
+        outcome = Outcome(self.read(TRACED), "1", 1, True, found, b"")
+        self.assertEqual([[each.clause for each in outcomes.chosen(outcome, grade).found] for grade in GRADES], [[], [], ["Gone"], ["Gone", "GaveUp"]])
+
+    def test_what_is_found_is_gathered_by_clause_and_grade(self):
+        """The first line of each, in how many runs, and the log of the worst."""
+        log = b"file box/cur/u:2,S 1\nfile box/new/v 1\n1 A rename box/new/v box/new/w ok\n1 B unlink box/cur/u:2,S ok\n"
+        gathered = Gathered()
+        gathered.add(log[:-1] + b"\n# one\n", [Finding(3, "Gone")])
+        gathered.add(log, [Finding(3, "Gone"), Finding(4, "Gone")])
+        self.assertEqual([(each.grade, each.runs, each.line, each.actors) for each in gathered.found()],
+                         [("lost", 1, "B unlink box/cur/u:2,S ok", "B"), ("custom", 2, "A rename box/new/v box/new/w ok", "A")])
+        self.assertEqual(gathered.log(), log)
 
     def test_a_status_that_nobody_expected_fails_a_scene(self):
         traced, explored = self.read(TRACED), self.read(EXPLORED)
@@ -127,6 +149,8 @@ class Scenes(unittest.TestCase):
         with mock.patch.object(results, "version_of", return_value=None):
             self.assertEqual(kept.former(scene), outcome, "its packages had to go for others")
         self.assertEqual((self.room / "logs/one.log").read_bytes(), b"log\n")
+        with mock.patch.object(results, "version_of", return_value="3"), mock.patch.object(results.Found, "_fields", ("clause",)):
+            self.assertIsNone(kept.former(scene), "it was kept in other words")
 
     def test_judge(self):
         """The program is one that prints `LINE CLAUSE`, and whose status is 0, 1 or 2."""
