@@ -48,8 +48,9 @@ examples:
 
 status:
   0    no interleaving that was tried breaks the law
-  1    one does, or a command ends with a status that nobody expected; or mail
-       is lost or cut short, or a call failed and the status is 0 all the same
+  1    one does, or a command ends with a status that nobody expected, or calls
+       nothing in a maildir; or mail is lost or cut short, or a call failed and
+       the status is 0 all the same
   2    refused: wrong words, no strace, no judge, a command that does not run
        (status 126 or 127) or does not end
 """
@@ -140,7 +141,7 @@ def _show(explored: Explored, expected: Expected, options: argparse.Namespace) -
     else:
         for line in _lines(explored, expected, options):
             print(line)
-    return 1 if explored.broken or all_unexpected(explored, expected) else 0
+    return 1 if explored.broken or all_unexpected(explored, expected) or explored.without_call() else 0
 
 
 def _lines(explored: Explored, expected: Expected, options: argparse.Namespace) -> List[str]:

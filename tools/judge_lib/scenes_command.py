@@ -30,7 +30,7 @@ explored beside itself and beside others: the built one, or DEOLMUTT's.
 _MORE = """\
 status:
   0    all scenes that were asked for were run, or left out as not installed
-  1    a scene could not be run
+  1    a scene could not be run, or none of them was
   2    refused: wrong words, no strace, no judge
 """
 
@@ -100,7 +100,9 @@ def _run(scenes: List[Scene], options: argparse.Namespace) -> int:
                 _say("" if options.markdown or not shown else "\n".join(text(shown[0])))
     if options.markdown:
         print("\n".join(markdown([shown for outcome in outcomes for shown in _shown(outcome, options)])))
-    return 1 if len(outcomes) < len(there) else 0
+    if not there:
+        _say("no scene was run")
+    return 1 if len(outcomes) < len(there) or not there else 0
 
 
 def _shown(outcome: Outcome, options: argparse.Namespace) -> List[Outcome]:

@@ -76,10 +76,22 @@ class BadPrograms(unittest.TestCase):
         self.assertEqual(run.returncode, 2)
         self.assertIn("explore: the commands did not end, after the calls A", run.stderr)
 
+    def test_a_command_that_never_ran_or_did_nothing_is_no_good_run(self):
+        setup = ["--setup", "mkdir -p box/tmp box/new box/cur"]
+        run = self.run_tool("explore", *setup, "--claims", "A: delivered box", "nosuchcommand box", "true")
+        self.assertEqual((run.returncode, run.stdout), (2, ""))
+        self.assertRegex(run.stderr, "^explore: A did not run: status 127: .*nosuchcommand")
+        run = self.run_tool("explore", *setup, "ls box/new; exit 3", "ls box/new")
+        self.assertEqual(run.returncode, 1, run.stderr)
+        self.assertIn(": nobody expected that of A (--status)\n", run.stdout)
+        run = self.run_tool("explore", *setup, "ls box/new", "true")
+        self.assertEqual(run.returncode, 1, run.stderr)
+        self.assertIn("no call         B: never called in a maildir\n", run.stdout)
+
     def test_a_file_gets_no_longer_than_its_limit(self):
         writes = "head -c 200000000 /dev/zero > box/tmp/u"
         run = self.run_tool("explore", "--keep", "kept", "--status", "A: 0 1 2 153", "--stop-at", "names", "--setup",
-                            "mkdir -p box/tmp box/new box/cur", f"{writes}; stat -c %s box/tmp/u", "true")
+                            "mkdir -p box/tmp box/new box/cur", f"{writes}; stat -c %s box/tmp/u", "ls box/new")
         self.assertEqual(run.returncode, 0, run.stderr + run.stdout)
         said = next((self.room / "kept").glob("A*/A.out")).read_text()
         self.assertIn(str(64 << 20), said)

@@ -1,5 +1,7 @@
 """Tests of tools/scenes: the files of scenes, and the table of what they showed."""
 
+import contextlib
+import io
 import os
 import subprocess
 import sys
@@ -10,7 +12,7 @@ from unittest import mock
 
 from judge_support import TOOLS
 
-from judge_lib import outcomes, results
+from judge_lib import outcomes, results, scene, scenes_command
 from judge_lib.claims import read_claim
 from judge_lib.grades import GRADES
 from judge_lib.judge_run import Finding, judge, deolmutt
@@ -163,6 +165,20 @@ class Scenes(unittest.TestCase):
                 judge(b"no log\n")
         with mock.patch.dict(os.environ, {"DEOLMUTT": "/nowhere"}), self.assertRaisesRegex(Refused, "/nowhere: is no program"):
             deolmutt()
+
+    def test_a_scene_that_can_not_be_run_is_no_good_run(self):
+        """Nor is a run of no scene at all."""
+        def status(version, *stages):
+            shown = [Outcome(read_scenes(["safecat"])[0], "1", 1, True, [], b"")]
+            with mock.patch.object(scenes_command, "strace"), mock.patch.object(scenes_command, "deolmutt"), \
+                    mock.patch.object(scenes_command, "version_of", return_value=version), \
+                    mock.patch.object(scene, "version_of", return_value=version), \
+                    mock.patch.object(scenes_command, "stage", side_effect=stages or shown), \
+                    contextlib.redirect_stdout(io.StringIO()), contextlib.redirect_stderr(io.StringIO()) as said:
+                return scenes_command.main(["safecat"]), said.getvalue()
+        self.assertEqual(status("1"), (0, ""))
+        self.assertEqual(status("1", Refused("safecat: sh ended with status 1")), (1, "scenes: safecat: sh ended with status 1\n"))
+        self.assertEqual(status(None), (1, "scenes: safecat: left out: not installed: safecat\nscenes: no scene was run\n"))
 
     def test_program(self):
         run = subprocess.run([sys.executable, TOOLS / "scenes", "--list", "mdeliver"], capture_output=True, text=True, check=False)
