@@ -75,7 +75,8 @@ def _cell(outcome: Optional[Outcome]) -> str:
 
 def _row(outcome: Outcome) -> str:
     scene = outcome.scene
-    found = "; ".join(f"*{each.grade}*: `{each.clause}`{_share(each, outcome)}, {each.sentence}: `{_short(each.line)}`" for each in outcome.found)
+    found = "; ".join(f"*{each.grade}*: `{each.clause}`{_share(each, outcome)}, {each.sentence}: `{_short(each.line)}`"
+                      for each in outcome.found)
     cell = found or f"nothing{_of_runs(outcome)}"
     return f"| {program_of(outcome)} | {scene.about} | {cell}{_unjudged(outcome)} | `tools/scenes {scene.name}` |"
 

@@ -48,7 +48,8 @@ def _options() -> argparse.ArgumentParser:
     parser.add_argument("--runs", type=int, default=1000, metavar="N", help="at most so many runs of two commands (1000)")
     parser.add_argument("--seconds", type=float, default=120, metavar="N", help="at most so many seconds for two commands (120)")
     parser.add_argument("--least", choices=GRADES, metavar="GRADE",
-                        help="shows what was found of this grade or a worse one: " + ", ".join(f"{grade} ({says})" for grade, says in GRADES.items()))
+                        help="shows what was found of this grade or a worse one: "
+                             + ", ".join(f"{grade} ({says})" for grade, says in GRADES.items()))
     parser.add_argument("--jobs", type=int, default=1, metavar="N", help="so many scenes side by side (1)")
     parser.add_argument("names", nargs="*", metavar="SCENE", help="which scenes; without any, all")
     return parser

@@ -46,8 +46,8 @@ class Grades(unittest.TestCase):
                                "1 p unlink box/new/u ok"), "custom")
 
     def test_what_was_said(self):
-        for words, wanted in (("flags F box u", "lost"), ("delivered box u", "lost"), ("moved far box u", "lost"), ("failed box u", "misled"),
-                              ("notthere box u", "misled"), ("expunged box u", "misled")):
+        for words, wanted in (("flags F box u", "lost"), ("delivered box u", "lost"), ("moved far box u", "lost"),
+                              ("failed box u", "misled"), ("notthere box u", "misled"), ("expunged box u", "misled")):
             self.assertEqual(grade("AnsweredFalsely", "1 p answer " + words), wanted)
 
     def test_a_file_that_was_made_elsewhere(self):

@@ -99,7 +99,8 @@ class Scenes(unittest.TestCase):
                                                                        "  --status 'A: 0' --status 'B: 0 1' --stop-at names q t"])
 
     def test_rows(self):
-        found = [Found("Gone", 2, "q unlink box/cur/u|v ok", "it goes", "", "owed"), Found("GaveUp", 1, "q answer done box u", "it gave up", "", "custom")]
+        found = [Found("Gone", 2, "q unlink box/cur/u|v ok", "it goes", "", "owed"),
+                 Found("GaveUp", 1, "q answer done box u", "it gave up", "", "custom")]
         rows = [Outcome(self.read(TRACED), "1-2", 1, True, [], b""), Outcome(self.read(EXPLORED), "3", 4, True, found, b""),
                 Outcome(self.read(EXPLORED), "3", 4, False, [], b"")]
         head = ["", "| Program | Scene | What the judge found | Shown by |", "|---|---|---|---|"]
@@ -115,9 +116,11 @@ class Scenes(unittest.TestCase):
                                                           "  custom: GaveUp in 1 of 4 interleavings: it gave up: q answer done box u"])
 
     def test_grades_are_chosen(self):
-        found = [Found("Gone", 1, "q unlink box/cur/u ok", "it goes", "", "owed"), Found("GaveUp", 1, "q answer done box u", "it gave up", "", "custom")]
+        found = [Found("Gone", 1, "q unlink box/cur/u ok", "it goes", "", "owed"),
+                 Found("GaveUp", 1, "q answer done box u", "it gave up", "", "custom")]
         outcome = Outcome(self.read(TRACED), "1", 1, True, found, b"")
-        self.assertEqual([[each.clause for each in outcomes.chosen(outcome, grade).found] for grade in GRADES], [[], [], ["Gone"], ["Gone", "GaveUp"]])
+        chosen = [[each.clause for each in outcomes.chosen(outcome, grade).found] for grade in GRADES]
+        self.assertEqual(chosen, [[], [], ["Gone"], ["Gone", "GaveUp"]])
 
     def test_what_is_found_is_gathered_by_clause_and_grade(self):
         """The first line of each, in how many runs, and the log of the worst."""

@@ -196,11 +196,10 @@ class WhoIsAnActor(unittest.TestCase):
     def test_a_server_that_forks(self):
         """What two children read at once counts, where each is an actor; of one actor they would drop each other's readings."""
         new = opened(3, f"{BOX_AT}/new")
-        lines = trace("1 clone(flags=SIGCHLD) = 2", "1 clone(flags=SIGCHLD) = 3", *(f"{pid} getdents64({new}, [{{d_name={quoted('u')}}}], 32768) = 24"
-                                                                                     for pid in (2, 3)),
-                      *(f"{pid} getdents64({new}, [], 32768) = 0" for pid in (2, 3)))
-        for how, ends in (("fork", ["a.2 list box new ok", "a.3 list box new ok"]), ("one", ["# not said: a part of a reading of new, as another came "
-                                                                                           "between its parts", "a list box new ok"])):
+        parts = [f"getdents64({new}, [{{d_name={quoted('u')}}}], 32768) = 24", f"getdents64({new}, [], 32768) = 0"]
+        lines = trace("1 clone(flags=SIGCHLD) = 2", "1 clone(flags=SIGCHLD) = 3", *(f"{pid} {part}" for part in parts for pid in (2, 3)))
+        dropped = "# not said: a part of a reading of new, as another came between its parts"
+        for how, ends in (("fork", ["a.2 list box new ok", "a.3 list box new ok"]), ("one", [dropped, "a list box new ok"])):
             self.assertEqual(steps_of(log_of(lines, [("new", b"u")], actors=Actors(how, "a")))[-2:], ends)
 
     def test_threads(self):
