@@ -25,6 +25,7 @@ _TOOLS = Path(__file__).resolve().parent.parent
 _MOST_SECONDS = 60
 _MOST_SAID = 2000
 _ENDED = re.compile(r"^# (\S+) ended with (?:status (\d+)|a signal)$", re.MULTILINE)
+_CALL = re.compile(rb"^\d\S* \S+ (?!answer )", re.MULTILINE)
 _NOBODY = 65534
 # Some programs refuse to run as root.
 _AS_NOBODY = ["setpriv", f"--reuid={_NOBODY}", f"--regid={_NOBODY}", "--clear-groups"]
@@ -61,6 +62,7 @@ def stage(scene: Scene, version: str, bounds: Bounds, tell: Tell) -> Outcome:
         base = os.path.join(top, "work")
         os.mkdir(base)
         log = traced(scene, base, os.path.join(top, "log"))
+    check_calls(scene, log)
     gathered = Gathered()
     gathered.add(log, judge(log))
     return Outcome(scene, version, 1, True, gathered.found(), log)
@@ -104,6 +106,12 @@ def traced(scene: Scene, base: str, log: str) -> bytes:
     ended = {actor: int(status) if status else None for actor, status in _ENDED.findall(text.decode("utf-8", "replace"))}
     check_expected(scene, ended, said)
     return text
+
+
+def check_calls(scene: Scene, log: bytes) -> None:
+    """Refuses a scene whose command did nothing in a maildir: it shows nothing."""
+    if not _CALL.search(log):
+        raise Refused(f"{scene.name}: its command made no call in a maildir")
 
 
 def check_expected(scene: Scene, statuses: Statuses, said: str) -> None:

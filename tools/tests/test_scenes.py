@@ -12,14 +12,15 @@ from unittest import mock
 
 from judge_support import TOOLS
 
-from judge_lib import outcomes, results, scene, scenes_command
+from judge_lib import outcomes, results, scene, scenes_command, staging
 from judge_lib.claims import read_claim
+from judge_lib.exploring import Bounds
 from judge_lib.grades import GRADES
 from judge_lib.judge_run import Finding, judge, deolmutt
 from judge_lib.refused import Refused
 from judge_lib.results import Results
 from judge_lib.scene import FOLDER, read_scene, read_scenes
-from judge_lib.staging import Found, Gathered, Outcome, check_expected
+from judge_lib.staging import Found, Gathered, Outcome, check_calls, check_expected
 
 TRACED = """\
 package  p
@@ -139,6 +140,15 @@ class Scenes(unittest.TestCase):
         for scene, statuses in ((traced, {"q": 0}), (explored, {"A": 1, "B": 0}), (explored, {"A": 0, "B": None})):
             with self.assertRaisesRegex(Refused, "which the scene doesn't expect: said"):
                 check_expected(scene, statuses, "said")
+
+    def test_a_command_that_does_nothing_fails_a_scene(self):
+        head = b"maildir_log 1\nfolder box\nfile box/cur/u:2,S 1000\n1 q answer failed box u\n"
+        check_calls(self.read(TRACED), head + b"1@2..3 q list box new ok\n")
+        with self.assertRaisesRegex(Refused, "one: its command made no call in a maildir"):
+            check_calls(self.read(TRACED), head)
+        explored = mock.Mock(without_call=lambda: "B")
+        with mock.patch.object(staging, "explore", return_value=explored), self.assertRaisesRegex(Refused, "one: B made no call in a maildir"):
+            staging.stage(self.read(EXPLORED), "1", Bounds(1, 1), print)
 
     def test_a_run_goes_on(self):
         """What a scene showed is taken again, unless the scene or a package is another since then."""
