@@ -8,8 +8,9 @@ import sys
 from typing import List, Optional, Sequence
 
 from . import explored_table, trials_table
-from .explored_table import all_unexpected
 from .claims import read_claims
+from .ending import end_by_signals
+from .explored_table import all_unexpected
 from .exploring import STOPS, Bounds, Explored, Pairing, explore, explore_one
 from .judge_run import SENTENCES, deolmutt
 from .keeping import Keeper
@@ -83,6 +84,7 @@ def _options() -> argparse.ArgumentParser:
 def main(words: Optional[Sequence[str]] = None) -> int:
     """Explores what the words say, and answers the status."""
     options = _options().parse_args(words)
+    end_by_signals()
     try:
         strace()
         deolmutt()

@@ -6,9 +6,11 @@ import argparse
 import os
 import subprocess
 import sys
+import threading
 from concurrent.futures import ThreadPoolExecutor
 from typing import List, Optional, Sequence
 
+from .ending import end_by_signals
 from .exploring import Bounds
 from .judge_run import BUILT, deolmutt
 from .grades import GRADES
@@ -26,6 +28,9 @@ in an empty directory of its own. A program that isn't installed is named, and
 its scenes are left out. Of `deolmutt`, which has to be named, each command is
 explored beside itself and beside others: the built one, or DEOLMUTT's.
 """
+
+# Scenes at work side by side end after their next run once this is set.
+_STOPPED = threading.Event()
 
 _MORE = """\
 status:
@@ -58,6 +63,7 @@ def _options() -> argparse.ArgumentParser:
 def main(words: Optional[Sequence[str]] = None) -> int:
     """Does what the words say, and answers the status."""
     options = _options().parse_args(words)
+    end_by_signals()
     os.environ["PATH"] = os.path.dirname(os.environ.get("DEOLMUTT", BUILT)) + ":" + os.environ["PATH"]
     try:
         scenes = read_scenes(options.names)
@@ -77,6 +83,8 @@ def main(words: Optional[Sequence[str]] = None) -> int:
         return 2
     except KeyboardInterrupt:
         return 130
+    finally:
+        _STOPPED.clear()
 
 
 def _install(scenes: List[Scene], is_now: bool) -> int:
@@ -94,11 +102,15 @@ def _run(scenes: List[Scene], options: argparse.Namespace) -> int:
     there = [scene for scene in scenes if options.resume and results.former(scene) or _is_there(scene)]
     with ThreadPoolExecutor(options.jobs) as pool:
         side_by_side = map if options.jobs == 1 else pool.map
-        for outcome in side_by_side(lambda scene: options.resume and results.former(scene) or _staged(scene, bounds, results), there):
-            if outcome is not None:
-                outcomes.append(outcome)
-                shown = _shown(outcome, options)
-                _say("" if options.markdown or not shown else "\n".join(text(shown[0])))
+        try:
+            for outcome in side_by_side(lambda scene: options.resume and results.former(scene) or _staged(scene, bounds, results), there):
+                if outcome is not None:
+                    outcomes.append(outcome)
+                    shown = _shown(outcome, options)
+                    _say("" if options.markdown or not shown else "\n".join(text(shown[0])))
+        except KeyboardInterrupt:
+            _STOPPED.set()
+            raise
     if options.markdown:
         print("\n".join(markdown([shown for outcome in outcomes for shown in _shown(outcome, options)])))
     if not there:
@@ -132,6 +144,8 @@ def _staged(scene: Scene, bounds: Bounds, results: Results) -> Optional[Outcome]
 
 
 def _tell(words: str) -> None:
+    if _STOPPED.is_set() and threading.current_thread() is not threading.main_thread():
+        raise Refused("stopped before the end of a scene")
     if sys.stderr.isatty():
         print(f"\r{words}\033[K", end="", file=sys.stderr, flush=True)
 

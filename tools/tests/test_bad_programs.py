@@ -52,11 +52,11 @@ class BadPrograms(unittest.TestCase):
         return run
 
     def left(self):
-        """The processes that are still at work in the folder."""
+        """The processes that are still at work in the folder, or below it."""
         there = []
         for name in filter(str.isdigit, os.listdir("/proc")):
             try:
-                if os.readlink(f"/proc/{name}/cwd") == str(self.room):
+                if os.readlink(f"/proc/{name}/cwd").startswith(str(self.room)):
                     there.append(name)
             except OSError:
                 pass
@@ -102,6 +102,17 @@ class BadPrograms(unittest.TestCase):
         self.assertEqual((run.returncode, run.stderr), (2, "trace: other: is no maildir: it lacks tmp, new or cur\n"))
         run = self.run_tool("trace", "--folder", "none", "true")
         self.assertRegex(run.stderr, "trace: .*/none: is no maildir, and the command made none there\n")
+
+    def test_a_tool_that_is_ended_leaves_nothing(self):
+        """Its commands are stopped at a call, or sleep."""
+        environment = {**os.environ, "DEOLMUTT": shutil.which("true"), "TMPDIR": str(self.room)}
+        words = [sys.executable, TOOLS / "explore", "--setup", "mkdir -p box/tmp box/new box/cur", "touch box/tmp/u; exec sleep 1000", "ls box/new"]
+        with subprocess.Popen(words, cwd=self.room, env=environment, start_new_session=True) as tool:
+            self.wait_for(lambda: list(self.room.glob("explore-*/work/box/tmp/u")))
+            tool.terminate()
+            self.assertEqual(tool.wait(SECONDS), 130)
+        self.wait_for(lambda: not self.left())
+        self.assertEqual(list(self.room.glob("explore-*")), [])
 
     def wait_for(self, is_so):
         until = time.monotonic() + SECONDS
