@@ -89,13 +89,17 @@ def program_of(outcome: Outcome) -> str:
 
 
 def _share(found: Found, outcome: Outcome) -> str:
-    return "" if outcome.scene.beside is None else f" in {found.runs} of {outcome.runs} interleavings"
+    return "" if outcome.scene.beside is None else f" in {found.runs} of {outcome.runs} interleavings{_and_more(outcome)}"
 
 
 def _of_runs(outcome: Outcome) -> str:
     if outcome.scene.beside is None:
         return ""
-    return f" in {outcome.runs} interleavings" + ("" if outcome.is_whole else ", and there are more")
+    return f" in {outcome.runs} interleavings{_and_more(outcome)}"
+
+
+def _and_more(outcome: Outcome) -> str:
+    return "" if outcome.is_whole else ", and there are more"
 
 
 def _unjudged(outcome: Outcome) -> str:

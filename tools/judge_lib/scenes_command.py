@@ -107,7 +107,9 @@ def _run(scenes: List[Scene], options: argparse.Namespace) -> int:
                 if outcome is not None:
                     outcomes.append(outcome)
                     shown = _shown(outcome, options)
-                    _say("" if options.markdown or not shown else "\n".join(text(shown[0])))
+                    _tell("")
+                    if shown and not options.markdown:
+                        print("\n".join(text(shown[0])), flush=True)
         except KeyboardInterrupt:
             _STOPPED.set()
             raise
@@ -152,6 +154,4 @@ def _tell(words: str) -> None:
 
 def _say(words: str) -> None:
     _tell("")
-    if words:
-        is_outcome = "\n" in words
-        print(words if is_outcome else f"scenes: {words}", file=sys.stdout if is_outcome else sys.stderr, flush=True)
+    print(f"scenes: {words}", file=sys.stderr, flush=True)

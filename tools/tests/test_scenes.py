@@ -113,6 +113,7 @@ class Scenes(unittest.TestCase):
                 "", "### Nothing is found", *head,
                 "| `q r`, p 1-2 | does it | nothing | `tools/scenes one` |",
                 "| `q`, p 3 | does it | nothing in 4 interleavings, and there are more (no claims) | `tools/scenes one` |"])
+            self.assertIn(" in 2 of 4 interleavings, and there are more: it goes", outcomes.text(rows[1]._replace(is_whole=False))[1])
             self.assertEqual(outcomes.text(rows[1])[1:], ["  owed: Gone in 2 of 4 interleavings: it goes: q unlink box/cur/u|v ok",
                                                           "  custom: GaveUp in 1 of 4 interleavings: it gave up: q answer done box u"])
 
@@ -190,7 +191,7 @@ class Scenes(unittest.TestCase):
                     contextlib.redirect_stdout(io.StringIO()), contextlib.redirect_stderr(io.StringIO()) as said:
                 return scenes_command.main(["safecat"]), said.getvalue()
         self.assertEqual(status("1"), (0, ""))
-        self.assertEqual(status("1", Refused("safecat: sh ended with status 1")), (1, "scenes: safecat: sh ended with status 1\n"))
+        self.assertEqual(status("1", Refused("safecat: sh ended with status 1:\nit said")), (1, "scenes: safecat: sh ended with status 1:\nit said\n"))
         self.assertEqual(status(None), (1, "scenes: safecat: left out: not installed: safecat\nscenes: no scene was run\n"))
 
     def test_program(self):
