@@ -69,7 +69,7 @@ def _table_of(pairs: Dict[Tuple[str, str], Outcome]) -> List[str]:
 def _cell(outcome: Optional[Outcome]) -> str:
     if outcome is None:
         return "-"
-    found = "".join(f"; {each.clause} by {each.actors} in {each.runs}" for each in outcome.found)
+    found = "".join(f"; *{each.grade}*: {each.clause} by {each.actors} in {each.runs}" for each in outcome.found)
     return f"{outcome.runs}{'' if outcome.is_whole else ' of more'}{found}"
 
 
