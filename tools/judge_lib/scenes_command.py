@@ -3,12 +3,14 @@
 from __future__ import annotations
 
 import argparse
+import contextlib
 import os
 import subprocess
 import sys
+import tempfile
 import threading
 from concurrent.futures import ThreadPoolExecutor
-from typing import List, Optional, Sequence
+from typing import Iterator, List, Optional, Sequence
 
 from .ending import end_by_signals
 from .exploring import Bounds
@@ -24,9 +26,10 @@ from .tracing import strace
 _ABOUT = """\
 Runs scenes of real mail programs, of Debian's packages, and says what
 `deolmutt judge` finds in each. Each scene is a file of tools/scenes.d, and runs
-in an empty directory of its own. A program that isn't installed is named, and
-its scenes are left out. Of `deolmutt`, which has to be named, each command is
-explored beside itself and beside others: the built one, or DEOLMUTT's.
+in an empty directory of its own; the home of all is another. A program that
+isn't installed is named, and its scenes are left out. Of `deolmutt`, which has
+to be named, each command is explored beside itself and beside others: the
+built one, or DEOLMUTT's.
 """
 
 # Scenes at work side by side end after their next run once this is set.
@@ -77,7 +80,8 @@ def main(words: Optional[Sequence[str]] = None) -> int:
             raise Refused("--resume goes on with what --logs DIR has")
         strace()
         deolmutt()
-        return _run(scenes, options)
+        with _own_home():
+            return _run(scenes, options)
     except (Refused, OSError) as error:
         print(f"scenes: {error}", file=sys.stderr)
         return 2
@@ -85,6 +89,19 @@ def main(words: Optional[Sequence[str]] = None) -> int:
         return 130
     finally:
         _STOPPED.clear()
+
+
+@contextlib.contextmanager
+def _own_home() -> Iterator[None]:
+    """Gives all programs a home of their own, so that they read and write nothing in the user's."""
+    former = os.environ.get("HOME")
+    with tempfile.TemporaryDirectory(prefix="scenes-home-") as home:
+        os.environ["HOME"] = home
+        try:
+            yield
+        finally:
+            if former is not None:
+                os.environ["HOME"] = former
 
 
 def _install(scenes: List[Scene], is_now: bool) -> int:

@@ -195,6 +195,14 @@ class Scenes(unittest.TestCase):
         self.assertEqual(status("1", Refused("safecat: sh ended with status 1:\nit said")), (1, "scenes: safecat: sh ended with status 1:\nit said\n"))
         self.assertEqual(status(None), (1, "scenes: safecat: left out: not installed: safecat\nscenes: no scene was run\n"))
 
+    def test_programs_have_a_home_of_their_own(self):
+        before, seen = os.environ.get("HOME"), []
+        with scenes_command._own_home():
+            seen.append(os.environ["HOME"])
+            self.assertEqual(os.listdir(seen[0]), [])
+        self.assertEqual(os.environ.get("HOME"), before)
+        self.assertFalse(os.path.exists(seen[0]))
+
     def test_program(self):
         run = subprocess.run([sys.executable, TOOLS / "scenes", "--list", "mdeliver"], capture_output=True, text=True, check=False)
         self.assertEqual((run.returncode, run.stdout), (0, "mdeliver                   mdeliver delivers a message\n"))
