@@ -92,7 +92,7 @@ class Scenes(unittest.TestCase):
                 "With deolmutt 1, mblaze 1.", "", "|  | itself | mblaze |", "| --- | --- | --- |", "| flag cur | 4 | - |",
                 "| seen new | - | 4 of more; *lost*: Gone by B in 2 |"])
         self.assertEqual(rows[0].scene.claims, ["A: flags box u +F", "B: flags box u +F"])
-        self.assertEqual([row.scene.status for row in rows], [["A: 0 65", "B: 0 65"], ["A: 0 65", "B: 0 "]])
+        self.assertEqual([row.scene.status for row in rows], [["A: 0 65", "B: 0 65"], ["A: 0 65", "B: 0 3"]])
 
     def test_repeated(self):
         traced = "tools/trace --actor q --claims 'done box u' --fail unlink:error=EIO -o log sh -c 'q r < s'"
