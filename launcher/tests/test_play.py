@@ -79,7 +79,8 @@ class Unproved(Scene):
         words = [*without_rights(), os.path.join(self.top, 'deolmutt'), self.script()]
         ran = subprocess.run(words, capture_output=True, text=True, env=self.environment, cwd='/', check=False)
         self.assertEqual((ran.returncode, ran.stdout, ran.stderr.count('\n')), (0, PLAYED, 1), ran.stderr)
-        ran = subprocess.run([*words[:-1], 'play'], capture_output=True, input=SCRIPT, text=True, env=self.environment, cwd='/', check=False)
+        how = {'capture_output': True, 'input': SCRIPT, 'text': True, 'env': self.environment, 'cwd': '/'}
+        ran = subprocess.run([*words[:-1], 'play'], check=False, **how)
         self.assertEqual((ran.returncode, ran.stdout, ran.stderr.count('\n')), (0, PLAYED, 1), ran.stderr)
         self.assertEqual((self.kept(), os.listdir(self.temporary)), ([], []))
 
@@ -134,7 +135,8 @@ class Unproved(Scene):
 
     def test_right_words_are_not(self):
         self.set_clauses()
-        for words in (('play', '--'), ('threads', '+02'), ('index', '64'), ('judge', '--allow=Gone', '-'), ('judge', '--json', '--allow', 'Mixed')):
+        of_judge = (('judge', '--allow=Gone', '-'), ('judge', '--json', '--allow', 'Mixed'))
+        for words in (('play', '--'), ('threads', '+02'), ('index', '64'), *of_judge):
             self.assertEqual(self.run_launcher(*words, input=SCRIPT).stdout, shown(words))
 
     def set_clauses(self):

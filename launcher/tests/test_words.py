@@ -41,7 +41,8 @@ class Words(Scene):
         os.mkdir(self.path('a folder'))
         for words in (('no file',), ('a folder',), ('x', 'play')):
             self.refused(64, f"{words[0]}: no such file, and no command; try", *words)
-        for word, near in {'buidl': 'build', 'instal': 'install', 'unistall': 'uninstall', 'lst': 'list', 'plsy': 'play', 'judgge': 'judge'}.items():
+        nearest = {'buidl': 'build', 'instal': 'install', 'unistall': 'uninstall', 'lst': 'list', 'plsy': 'play', 'judgge': 'judge'}
+        for word, near in nearest.items():
             self.refused(64, f"{word}: no such file, and no command: a similar one is '{near}'; try", word, 'Mail')
         self.refused(64, "unexpected argument '-x' found", '-x')
         self.assertEqual(self.calls(), [])

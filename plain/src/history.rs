@@ -1,6 +1,7 @@
 //! What a store keeps of its run for those who use it: the steps that were taken, and their effects on the mailbox.
 //!
-//! No script asks for them, so no code here reads them. They are kept as the proved store keeps them, so that both programs do the same work.
+//! No script asks for them, and no code here reads them. They are kept as the proved store keeps them, so that both programs do the
+//! same work.
 
 use crate::directories::Path;
 use crate::jobs::Answer;

@@ -28,6 +28,8 @@ REFUSALS: dict[int, type[DeolmuttError]] = {
     12: errors.NotAsked,
     13: errors.AskedBefore,
     14: errors.Misused,
+    15: errors.Misused,
+    16: errors.Misused,
     20: errors.BadName,
     21: errors.LongUnique,
     22: errors.DuplicateUnique,

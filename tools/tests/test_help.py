@@ -11,13 +11,11 @@ from pathlib import Path
 TOP = Path(__file__).resolve().parents[2]
 FOLDERS = ("tools", "launcher", "bench/*", ".ci")
 MOST_SECONDS = 20
-# The check of the library for C answers none yet.
-LEFT_OUT = {"tools/check_ffi"}
 
 
 def commands() -> list[Path]:
     found = [path for folder in FOLDERS for path in TOP.glob(f"{folder}/*") if path.is_file() and os.access(path, os.X_OK)]
-    return sorted(path for path in found if str(path.relative_to(TOP)) not in LEFT_OUT)
+    return sorted(found)
 
 
 class HelpTest(unittest.TestCase):

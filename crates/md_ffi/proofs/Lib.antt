@@ -1,4 +1,5 @@
 pub mod DrivenSlots
+pub mod Filed
 pub mod Laid
 pub mod Listed
 pub mod Records

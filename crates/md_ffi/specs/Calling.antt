@@ -15,7 +15,6 @@ use Rattle.md_ffi.specs.Shown.{answer_shown}
 use Rattle.md_ffi.specs.declared.asked.Asked.{Asked}
 use Rattle.md_ffi.specs.declared.jobs.NoAnswer.{NoAnswer}
 use Rattle.md_ffi.specs.declared.jobs.NoAnswer.TheVariants.{Refused, Stopped}
-use Rattle.md_ffi.specs.declared.refusal.Refusal.{Refusal}
 use Rattle.md_ffi.specs.declared.refusal.Refusal.TheVariants.{Kind}
 use Rattle.md_ffi.specs.declared.shown.AnswerShown.{AnswerShown}
 

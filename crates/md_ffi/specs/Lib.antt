@@ -4,7 +4,9 @@ pub mod Beginning
 pub mod Calling
 pub mod Doing
 pub mod Driving
+pub mod Files
 pub mod Handled
+pub mod Keeping
 pub mod Laying
 pub mod Loads
 pub mod Naming

@@ -20,8 +20,8 @@ struct Record<'a> {
     rest: &'a [u8],
 }
 
-// The first bytes, so many, and the rest.
-fn cut(bytes: &[u8], count: u64) -> Result<(&[u8], &[u8]), Refusal>
+/// The first bytes, so many, and the rest.
+pub(crate) fn cut(bytes: &[u8], count: u64) -> Result<(&[u8], &[u8]), Refusal>
     ensures cut { MatchResult result
         (λ parts. cut count bytes.now ≡ Ok (parts.0.now, parts.1.now))
         (λ e. (cut count bytes.now ≡ Err BadRecord) × (e ≡ BadRecord)) }
@@ -34,8 +34,8 @@ fn cut(bytes: &[u8], count: u64) -> Result<(&[u8], &[u8]), Refusal>
     Ok(bytes.split_at(count as usize))
 }
 
-// The number in 4 bytes at a place.
-fn four_at(bytes: &[u8], at: usize) -> u32
+/// The number in 4 bytes at a place.
+pub(crate) fn four_at(bytes: &[u8], at: usize) -> u32
     requires { at + 4 ≤ length bytes.now }
     ensures { result ≡ four_at at bytes.now }
 {
@@ -43,8 +43,8 @@ fn four_at(bytes: &[u8], at: usize) -> u32
     u32::from_le_bytes(*front)
 }
 
-// The number in 8 bytes at a place.
-fn eight_at(bytes: &[u8], at: usize) -> u64
+/// The number in 8 bytes at a place.
+pub(crate) fn eight_at(bytes: &[u8], at: usize) -> u64
     requires { at + 8 ≤ length bytes.now }
     ensures { result ≡ eight_at at bytes.now }
 {

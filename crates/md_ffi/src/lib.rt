@@ -1,7 +1,7 @@
 //! The store for C: worlds behind handles, jobs whose directory calls C makes itself, scripts, indexes, names and header summaries.
 //! `include/deolmutt.h` has the interface.
 //!
-//! Each exported function here takes references, and `face/deolmutt.c` makes them of C's pointers, which it tests for null first.
+//! Each exported function here takes references, and the files of `face/` make them of C's pointers, which they test for null first.
 #![tactic(auto)]
 
 mod asked;
@@ -11,10 +11,12 @@ mod driven;
 mod driven_handle;
 mod driven_slot;
 pub mod driving;
+pub mod files;
 mod handle;
 mod held;
 pub mod indexing;
 pub mod jobs;
+pub mod keeping;
 pub mod load;
 mod loose;
 pub mod names;
@@ -34,6 +36,7 @@ pub use driven_handle::DrivenHandle;
 pub use driven_slot::DrivenSlot;
 pub use handle::Handle;
 pub use held::Held;
+pub use keeping::RowShown;
 pub use refusal::Refusal;
 pub use request::RequestShown;
 pub use shown::{AnswerShown, StepShown};

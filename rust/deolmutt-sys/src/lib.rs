@@ -1,5 +1,5 @@
-//! The functions of `deolmutt.h`, as they are: its comments say what each does, and what it asks of its caller. The crate `deolmutt` calls
-//! them safely.
+//! The functions of `deolmutt.h` that the crate `deolmutt` calls safely, as they are: its comments say what each does, and what it asks
+//! of its caller. Those that stand over others, for C, are left out.
 
 #![no_std]
 
@@ -88,11 +88,11 @@ extern "C" {
         job: *mut u64,
         answer: *mut Answer,
     ) -> u32;
-    pub fn deolmutt_job_answer(world: *mut World, job: u64, answer: *mut Answer) -> u32;
+    pub fn deolmutt_job_answer(world: *const World, job: u64, answer: *mut Answer) -> u32;
     pub fn deolmutt_settle(world: *mut World, job: *mut u64) -> u32;
-    pub fn deolmutt_list(world: *mut World, folder: u32, out: *mut u8, room: usize, length: *mut usize) -> u32;
+    pub fn deolmutt_list(world: *const World, folder: u32, out: *mut u8, room: usize, length: *mut usize) -> u32;
     pub fn deolmutt_read(
-        world: *mut World,
+        world: *const World,
         unique: *const u8,
         unique_length: usize,
         out: *mut u8,
@@ -100,7 +100,7 @@ extern "C" {
         length: *mut usize,
     ) -> u32;
     pub fn deolmutt_names(
-        world: *mut World,
+        world: *const World,
         folder: u32,
         place: u32,
         at: u64,
@@ -174,7 +174,7 @@ extern "C" {
     pub fn deolmutt_driven_free(job: *mut Driven) -> u32;
     pub fn deolmutt_driven_ask(job: *mut Driven, second: u64) -> u32;
     pub fn deolmutt_driven_request(
-        job: *mut Driven,
+        job: *const Driven,
         request: *mut Request,
         out: *mut u8,
         room: usize,
@@ -182,5 +182,5 @@ extern "C" {
     ) -> u32;
     pub fn deolmutt_driven_row(job: *mut Driven, name: *const u8, length: usize, stamp: u64, size: u64) -> u32;
     pub fn deolmutt_driven_take(job: *mut Driven, reply: u32, step: *mut Step) -> u32;
-    pub fn deolmutt_driven_answer(job: *mut Driven, answer: *mut Answer) -> u32;
+    pub fn deolmutt_driven_answer(job: *const Driven, answer: *mut Answer) -> u32;
 }

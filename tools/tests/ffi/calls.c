@@ -1,27 +1,42 @@
 /* Every function of deolmutt.h: what it gives, each refusal that a caller can come to, and every null pointer. Ends with a count. */
 #include "checks.h"
 #include "driven.h"
+#include "each.h"
+#include "files.h"
+#include "folders.h"
+#include "listings.h"
+#include "passed.h"
 #include "worlds.h"
 
+#include <limits.h>
 #include <time.h>
 
 static void test_texts(void) {
-    static const uint32_t numbers[] = {1,  2,  3,  4,  5,  6,  7,  8,  9,  10, 11, 12, 13, 14, 20, 21, 22, 23, 24, 25, 26, 27, 28, 29, 30,
-                                       31, 32, 40, 41, 42, 50, 51, 52, 53, 54, 55, 56, 57, 58, 59, 60, 61, 62, 63};
+    static const uint32_t numbers[] = {1,  2,  3,  4,  5,  6,  7,  8,  9,  10, 11, 12, 13, 14, 15, 16, 20, 21, 22, 23, 24, 25, 26, 27, 28,
+                                       29, 30, 31, 32, 40, 41, 42, 50, 51, 52, 53, 54, 55, 56, 57, 58, 59, 60, 61, 62, 63};
     uint8_t text[64];
     uint32_t number, at = 0;
-    CHECK(deolmutt_abi() == DEOLMUTT_ABI);
+    CHECK(deolmutt_abi() == DEOLMUTT_ABI && deolmutt_minor() == DEOLMUTT_MINOR);
     for (number = 0; number < 1000; number++) {
         size_t length = deolmutt_text(number, text, sizeof text);
         int is_one = at < sizeof numbers / sizeof *numbers && numbers[at] == number;
         at += is_one;
         CHECK((length != 0) == is_one && length <= 32);
+        CHECK(!is_one || (strlen(deolmutt_strerror((int)number)) == length && memcmp(deolmutt_strerror((int)number), text, length) == 0));
+        CHECK(is_one || strcmp(deolmutt_strerror((int)number), number == 0 ? "ok" : "no such status") == 0);
     }
+    CHECK(strcmp(deolmutt_strerror(-1), "no such status") == 0 && strcmp(deolmutt_strerror(INT_MIN), "no such status") == 0);
     CHECK(deolmutt_text(DEOLMUTT_NAME_USED, text, sizeof text) == 9 && memcmp(text, "name used", 9) == 0);
     memset(text, '.', sizeof text);
     CHECK(deolmutt_text(DEOLMUTT_NAME_USED, text, 4) == 9 && memcmp(text, "name.", 5) == 0);
     CHECK(deolmutt_text(DEOLMUTT_NAME_USED, NULL, 0) == 9);
     CHECK(deolmutt_text(DEOLMUTT_NAME_USED, NULL, 4) == 0);
+    CHECK(deolmutt_text(DEOLMUTT_NAME_USED, text, (size_t)PTRDIFF_MAX + 1) == 0);
+    memset(text, '.', sizeof text);
+    CHECK(deolmutt_text(DEOLMUTT_BUSY, text, 3) == 4 && memcmp(text, "bus.", 4) == 0);
+    CHECK(deolmutt_text(DEOLMUTT_BUSY, text, 5) == 4 && memcmp(text, "busy.", 5) == 0);
+    CHECK(deolmutt_text(DEOLMUTT_OVERLAP, text, sizeof text) == 7 && memcmp(text, "overlap", 7) == 0);
+    CHECK(deolmutt_text(DEOLMUTT_BUSY, NULL, 0) == 4 && deolmutt_text(DEOLMUTT_BUSY, NULL, 1) == 0);
 }
 
 static void refused_load(const char *lines, uint32_t status, uint64_t line) {
@@ -91,6 +106,7 @@ int getentropy(void *buffer, size_t length) {
 static void test_draws(void) {
     static const char lines[] = "folder i\nfile i new u 1 x\n";
     static const char script[] = "folder i\nfile i new u 1 x\nlist i\n";
+    deolmutt_world *world = NULL;
     uint8_t out[64];
     size_t length = 0;
     uint64_t line = 7;
@@ -101,6 +117,8 @@ static void test_draws(void) {
         CHECK(length == 10 && memcmp(out, "new u - 1\n", 10) == 0);
         CHECK(deolmutt_index(TEXT(lines), out, sizeof out, &length, &line) == DEOLMUTT_OK && draws == 3);
         CHECK(length == 8 && memcmp(out, "i u\nend\n", 8) == 0);
+        CHECK(deolmutt_load_files(NULL, 0, NULL, 0, &world) == DEOLMUTT_OK && draws == 4);
+        CHECK(deolmutt_free(world) == DEOLMUTT_OK && draws == 4);
     }
     is_without_random = 0;
 }
@@ -141,9 +159,9 @@ static void test_submits(void) {
     CHECK(SUBMIT(DEOLMUTT_DELIVER, 0, "u", 0, "x", "", 0) == DEOLMUTT_BAD_CHUNK);
     CHECK(SUBMIT(DEOLMUTT_DELIVER, 0, "old", 0, "x", "", 1) == DEOLMUTT_NAME_USED);
     CHECK(SUBMIT(DEOLMUTT_COPY, 0, "old", 1, "old", "", 1) == DEOLMUTT_NAME_USED);
-    CHECK(job == 99);
+    CHECK(job == 0);
     CHECK(SUBMIT(DEOLMUTT_DELIVER, 0, "u", 0, "x", "", 1) == DEOLMUTT_OK && job == 1);
-    CHECK(SUBMIT(DEOLMUTT_DELIVER, 0, "u", 0, "x", "", 1) == DEOLMUTT_NAME_USED && job == 1);
+    CHECK(SUBMIT(DEOLMUTT_DELIVER, 0, "u", 0, "x", "", 1) == DEOLMUTT_NAME_USED && job == 0);
     CHECK(SUBMIT(DEOLMUTT_CLEAN, 1, "", 0, "", "", 0) == DEOLMUTT_OK && job == 2);
 #undef SUBMIT
     CHECK(deolmutt_submit(NULL, 7, 0, NO_BYTES, 0, NO_BYTES, NO_BYTES, 0, &job) == DEOLMUTT_NULL);
@@ -154,7 +172,7 @@ static void test_submits(void) {
     CHECK(deolmutt_submit(world, 7, 0, bytes, long_length, 0, NO_BYTES, NO_BYTES, 0, &job) == DEOLMUTT_LENGTH);
     CHECK(deolmutt_submit(world, 7, 0, NO_BYTES, 0, bytes, long_length, NO_BYTES, 0, &job) == DEOLMUTT_LENGTH);
     CHECK(deolmutt_submit(world, 7, 0, NO_BYTES, 0, NO_BYTES, bytes, long_length, 0, &job) == DEOLMUTT_LENGTH);
-    CHECK(job == 2);
+    CHECK(job == 0);
     {
         uint8_t *body = calloc(1, 16777217);
         CHECK(body != NULL);
@@ -173,7 +191,7 @@ static void test_steps(void) {
     uint64_t job = 0, own = 50;
     memset(&step, 9, sizeof step);
     CHECK(deolmutt_step(world, 1, 1, NULL, &step) == DEOLMUTT_NO_JOB);
-    CHECK(deolmutt_job_answer(world, 1, &answer) == DEOLMUTT_NO_JOB && answer.kind == 77);
+    CHECK(deolmutt_job_answer(world, 1, &answer) == DEOLMUTT_NO_JOB && answer.kind == 0 && answer.value == 0);
     CHECK(deolmutt_submit(world, DEOLMUTT_DELIVER, 0, TEXT("u"), 0, TEXT("hello"), NO_BYTES, 3, &job) == DEOLMUTT_OK);
     CHECK(deolmutt_job_answer(world, job, &answer) == DEOLMUTT_OK && answer.kind == DEOLMUTT_NO_ANSWER && answer.value == 0);
     CHECK(deolmutt_step(world, job, 50, &own, &step) == DEOLMUTT_OK);
@@ -314,11 +332,11 @@ static void test_reading(void) {
     CHECK(little(out + 21, 4) == DEOLMUTT_NEW && little(out + 25, 4) == 1 && memcmp(out + 37, "v", 1) == 0);
     CHECK(deolmutt_list(world, 1, out, 0, &length) == DEOLMUTT_OK && length == 0);
     length = 99;
-    CHECK(deolmutt_list(world, 2, out, sizeof out, &length) == DEOLMUTT_NO_FOLDER && length == 99);
+    CHECK(deolmutt_list(world, 2, out, sizeof out, &length) == DEOLMUTT_NO_FOLDER && length == 0);
     CHECK(deolmutt_read(world, TEXT("u"), out, sizeof out, &length) == DEOLMUTT_OK && length == 5 && memcmp(out, "hello", 5) == 0);
     CHECK(deolmutt_read(world, TEXT("u"), out, 4, &length) == DEOLMUTT_ROOM && length == 5);
     length = 99;
-    CHECK(deolmutt_read(world, TEXT("w"), out, sizeof out, &length) == DEOLMUTT_NOT_THERE && length == 99);
+    CHECK(deolmutt_read(world, TEXT("w"), out, sizeof out, &length) == DEOLMUTT_NOT_THERE && length == 0);
     CHECK(deolmutt_read(world, NULL, 0, out, sizeof out, &length) == DEOLMUTT_NOT_THERE);
     CHECK(deolmutt_names(world, 0, DEOLMUTT_TMP, 0, out, sizeof out, &length) == DEOLMUTT_OK && length == 1 && out[0] == 't');
     CHECK(deolmutt_names(world, 0, DEOLMUTT_CUR, 0, out, 4, &length) == DEOLMUTT_ROOM && length == 5);
@@ -385,6 +403,22 @@ static void test_many(void) {
     }
     memset(records + 16, 255, 8);
     CHECK(deolmutt_calls(world, records, length, 5, answers, 4, &count) == DEOLMUTT_BAD_RECORD && count == 0);
+    put_record(records, DEOLMUTT_DELIVER, 0, 0, "v", "mail", "", 4096);
+    for (cut = 12; cut < 16; cut++) {
+        records[first + cut] = 1;
+        CHECK(deolmutt_calls(world, records, length, 5, answers, 1, &count) == (cut == 12 ? DEOLMUTT_ROOM : DEOLMUTT_NAME_USED));
+        CHECK(count == (cut == 12));
+        CHECK(deolmutt_calls(world, records + first, length - first, 5, answers, 4, &count) == DEOLMUTT_BAD_RECORD && count == 0);
+        records[first + cut] = 0;
+    }
+    records[12] = 1;
+    CHECK(deolmutt_calls(world, records, length, 5, answers, 4, &count) == DEOLMUTT_BAD_RECORD && count == 0);
+    CHECK(deolmutt_calls(world, records, length, 5, NULL, 0, &count) == DEOLMUTT_ROOM && count == 0);
+    put_record(records, DEOLMUTT_SEEN, 0, 0, "v", "SS", "ee", 1);
+    records[first + 15] = 255;
+    CHECK(deolmutt_calls(world, records, length, 5, answers, 4, &count) == DEOLMUTT_BAD_RECORD && count == 1);
+    CHECK(answers[0].kind == DEOLMUTT_FLAGS);
+    records[first + 15] = 0;
     put_record(records, 9, 0, 0, "u", "mail", "", 4096);
     CHECK(deolmutt_calls(world, records, first, 5, answers, 4, &count) == DEOLMUTT_BAD_KIND && count == 0);
     CHECK(deolmutt_calls(NULL, records, length, 5, answers, 4, &count) == DEOLMUTT_NULL);
@@ -415,8 +449,8 @@ static void test_names(void) {
     CHECK(length == 6 && info == 1 && flags == ((uint64_t)1 << 5 | (uint64_t)1 << 18));
     CHECK(deolmutt_split(TEXT("u"), &length, &info, &flags) == DEOLMUTT_OK && length == 1 && info == 0 && flags == 0);
     CHECK(deolmutt_split(TEXT("u:1,x"), &length, &info, &flags) == DEOLMUTT_OK && length == 1 && info == 2 && flags == 0);
-    length = 99;
-    CHECK(deolmutt_split(TEXT(".u"), &length, &info, &flags) == DEOLMUTT_NO_MESSAGE_NAME && length == 99);
+    length = info = flags = 99;
+    CHECK(deolmutt_split(TEXT(".u"), &length, &info, &flags) == DEOLMUTT_NO_MESSAGE_NAME && length == 0 && info == 0 && flags == 0);
     CHECK(deolmutt_split(NO_BYTES, &length, &info, &flags) == DEOLMUTT_NO_MESSAGE_NAME);
     CHECK(deolmutt_split(NULL, 1, &length, &info, &flags) == DEOLMUTT_NULL);
     CHECK(deolmutt_split(NO_BYTES, NULL, &info, &flags) == DEOLMUTT_NULL);
@@ -507,7 +541,7 @@ static void test_settle(void) {
     size_t length;
     uint64_t job = 99;
     CHECK(deolmutt_settle(NULL, &job) == DEOLMUTT_NULL);
-    CHECK(deolmutt_settle(world, NULL) == DEOLMUTT_NULL && job == 99);
+    CHECK(deolmutt_settle(world, NULL) == DEOLMUTT_NULL && job == 0);
     CHECK(deolmutt_settle(world, &job) == DEOLMUTT_OK && job == 0);
     CHECK(done(world, DEOLMUTT_DELIVER, 0, "u", 0, "mail", "", 1, 1, &answer) == DEOLMUTT_OK && answer.kind == DEOLMUTT_DELIVERED);
     CHECK(done(world, DEOLMUTT_SEEN, 0, "u", 0, "T", "", 1, 1, &answer) == DEOLMUTT_OK && answer.kind == DEOLMUTT_FLAGS);
@@ -571,6 +605,11 @@ int main(void) {
     test_full();
     test_worlds();
     test_driven();
+    test_passed();
+    test_folders();
+    test_listings();
+    test_each();
+    test_files();
     printf("%lu checks\n", checked);
     return 0;
 }

@@ -219,25 +219,25 @@ static void test_driven_replies(void) {
 /* Ask, request, row and take come in this order. */
 static void test_driven_order(void) {
     deolmutt_driven *job = driven(DEOLMUTT_EXPUNGE, 7, "u", 0, "", "", 1);
-    deolmutt_request asked, untouched;
-    deolmutt_step_out step, unmade;
+    deolmutt_request asked, no_request;
+    deolmutt_step_out step, no_step;
     uint8_t out[16];
     size_t length = 99;
-    memset(&untouched, 9, sizeof untouched);
-    memset(&unmade, 9, sizeof unmade);
-    asked = untouched;
-    step = unmade;
+    memset(&no_request, 0, sizeof no_request);
+    memset(&no_step, 0, sizeof no_step);
+    memset(&asked, 9, sizeof asked);
+    memset(&step, 9, sizeof step);
     memset(out, '.', sizeof out);
     CHECK(deolmutt_driven_request(job, &asked, out, sizeof out, &length) == DEOLMUTT_NOT_ASKED);
-    CHECK(length == 99 && memcmp(&asked, &untouched, sizeof asked) == 0 && out[0] == '.');
+    CHECK(length == 0 && memcmp(&asked, &no_request, sizeof asked) == 0 && out[0] == '.');
     CHECK(deolmutt_driven_row(job, TEXT("u:2,T"), 0, 0) == DEOLMUTT_NOT_ASKED);
-    CHECK(deolmutt_driven_take(job, DEOLMUTT_DONE, &step) == DEOLMUTT_NOT_ASKED && memcmp(&step, &unmade, sizeof step) == 0);
+    CHECK(deolmutt_driven_take(job, DEOLMUTT_DONE, &step) == DEOLMUTT_NOT_ASKED && memcmp(&step, &no_step, sizeof step) == 0);
     CHECK(deolmutt_driven_ask(job, 1) == DEOLMUTT_OK);
     CHECK(deolmutt_driven_ask(job, 1) == DEOLMUTT_ASKED);
     CHECK(deolmutt_driven_request(job, &asked, NULL, 0, &length) == DEOLMUTT_OK && length == 0);
     CHECK(asked.call == DEOLMUTT_LIST && asked.folder == 7 && asked.place == DEOLMUTT_CUR && asked.name == 0 && asked.second == 0);
     CHECK(deolmutt_driven_row(job, TEXT("u:2,T"), 0, 0) == DEOLMUTT_OK);
-    CHECK(deolmutt_driven_take(job, 0, &step) == DEOLMUTT_BAD_REPLY && memcmp(&step, &unmade, sizeof step) == 0);
+    CHECK(deolmutt_driven_take(job, 0, &step) == DEOLMUTT_BAD_REPLY && memcmp(&step, &no_step, sizeof step) == 0);
     CHECK(deolmutt_driven_take(job, 5, &step) == DEOLMUTT_BAD_REPLY);
     CHECK(deolmutt_driven_take(job, DEOLMUTT_DONE, &step) == DEOLMUTT_OK && step.answer.kind == DEOLMUTT_NO_ANSWER);
     CHECK(deolmutt_driven_take(job, DEOLMUTT_DONE, &step) == DEOLMUTT_NOT_ASKED);

@@ -90,24 +90,24 @@ static int steps_without(long at) {
     static const uint32_t calls[] = {DEOLMUTT_CREATE, DEOLMUTT_APPEND, DEOLMUTT_APPEND, DEOLMUTT_LINK, DEOLMUTT_UNLINK};
     static const uint64_t values[] = {0, 4, 2, 0, 0};
     deolmutt_world *world = NULL;
-    deolmutt_step_out step, untouched;
+    deolmutt_step_out step, nothing;
     uint64_t job = 0, line = 0, clock = 1000, late;
     uint32_t status;
     int was_met = 0;
     must(deolmutt_load((const uint8_t *)"folder a\n", 9, &world, &line) == DEOLMUTT_OK, "load");
     must(deolmutt_submit(world, DEOLMUTT_DELIVER, 0, (const uint8_t *)"u", 1, 0, (const uint8_t *)"hello\n", 6, NULL, 0, 4, &job) ==
              DEOLMUTT_OK && job == 1, "submit");
-    memset(&untouched, 9, sizeof untouched);
+    memset(&nothing, 0, sizeof nothing);
     for (late = 2000; late < 2005; late++) {
         seen before = see(world), after;
-        step = untouched;
+        memset(&step, 9, sizeof step);
         WITHOUT(deolmutt_step(world, job, late, NULL, &step));
         if (status == DEOLMUTT_OK) {
             clock = late;
         } else {
             after = see(world);
             must(memcmp(&after, &before, sizeof after) == 0, "a refused step changes nothing");
-            must(memcmp(&step, &untouched, sizeof step) == 0, "and shows nothing");
+            must(memcmp(&step, &nothing, sizeof step) == 0, "and shows nothing");
             must(deolmutt_step(world, job, 1000, NULL, &step) == DEOLMUTT_OK, "a refused step may come again");
         }
         must(step.call == calls[late - 2000] && step.value == values[late - 2000] && step.reply == DEOLMUTT_DONE, "it makes its call");
@@ -125,7 +125,10 @@ static int steps_without(long at) {
 
 /* One call with its allocation `at` refused: whether there was such an allocation. */
 static int call_without(long at) {
+    static const deolmutt_bytes folder = {"a", 1};
+    static const deolmutt_file file = {0, DEOLMUTT_CUR, "old one:2,S", 11, 5, "body", 4};
     static uint8_t out[4096], text[64];
+    deolmutt_row row;
     deolmutt_world *world = loaded(), *other = NULL;
     deolmutt_answer answer;
     deolmutt_step_out step;
@@ -167,12 +170,26 @@ static int call_without(long at) {
     job = 99;
     WITHOUT(deolmutt_submit(world, DEOLMUTT_SEEN, 0, (const uint8_t *)"u", 1, 0, (const uint8_t *)"S", 1, NULL, 0, 1, &job));
     if (status == DEOLMUTT_NO_MEMORY) {
-        must(job == 99 && deolmutt_job_answer(world, 1, &answer) == DEOLMUTT_NO_JOB, "a refused submit is no job");
+        must(job == 0 && deolmutt_job_answer(world, 1, &answer) == DEOLMUTT_NO_JOB, "a refused submit is no job");
         must(deolmutt_submit(world, DEOLMUTT_SEEN, 0, (const uint8_t *)"u", 1, 0, (const uint8_t *)"S", 1, NULL, 0, 1, &job) == DEOLMUTT_OK,
              "a refused submit may come again");
     }
     must(job == 1, "a job");
     WITHOUT(deolmutt_list(world, 0, out, sizeof out, &after));
+    WITHOUT(deolmutt_first(world, 0, out, sizeof out, &length));
+    must((length != 0) == (status == DEOLMUTT_OK), "a first half or none");
+    WITHOUT(deolmutt_second(world, 0, NULL, 0, out, sizeof out, &length));
+    must((length != 0) == (status == DEOLMUTT_OK), "a listing or none");
+    WITHOUT(deolmutt_row_at(world, 0, DEOLMUTT_CUR, 0, &row, out, sizeof out, &length));
+    must(status == DEOLMUTT_OK && row.stamp == 5 && row.size == 4 && length == 7, "a row takes no memory that it can't do without");
+    WITHOUT(deolmutt_read_file(world, 0, DEOLMUTT_CUR, "old:2,S", 7, out, sizeof out, &length));
+    must(status == DEOLMUTT_OK && length == 4 && memcmp(out, "body", 4) == 0, "the bytes of a file take no memory");
+    WITHOUT(deolmutt_load_files(&folder, 1, &file, 1, &other));
+    must((status == DEOLMUTT_OK) == (other != NULL), "a world of files or none");
+    if (other == NULL)
+        must(deolmutt_load_files(&folder, 1, &file, 1, &other) == DEOLMUTT_OK, "a refused load of files may come again");
+    must(deolmutt_free(other) == DEOLMUTT_OK, "free");
+    other = NULL;
     WITHOUT(deolmutt_load((const uint8_t *)lines, sizeof lines - 1, &other, &line));
     must((status == DEOLMUTT_OK) == (other != NULL) && line == 0, "a world or none");
     if (other == NULL)
@@ -193,13 +210,13 @@ static int driven_without(long at) {
     static const size_t unique = sizeof long_name - 1 - 4;
     static uint8_t out[256];
     deolmutt_driven *job = NULL;
-    deolmutt_request asked, untouched;
-    deolmutt_step_out step, unmade;
+    deolmutt_request asked, no_request;
+    deolmutt_step_out step, no_step;
     size_t length = 0;
     uint32_t status;
     int was_met = 0, made;
-    memset(&untouched, 9, sizeof untouched);
-    memset(&unmade, 9, sizeof unmade);
+    memset(&no_request, 0, sizeof no_request);
+    memset(&no_step, 0, sizeof no_step);
     WITHOUT(deolmutt_drive(DEOLMUTT_FLAG, 0, long_name, unique, 0, (const uint8_t *)"F", 1, NULL, 0, 1, &job));
     must((status == DEOLMUTT_OK) == (job != NULL), "a driven job or none");
     if (job == NULL)
@@ -207,11 +224,11 @@ static int driven_without(long at) {
     for (made = 0; made < 2; made++) {
         WITHOUT(deolmutt_driven_ask(job, 1));
         must(status == DEOLMUTT_OK, "to ask takes no memory");
-        asked = untouched;
+        memset(&asked, 9, sizeof asked);
         length = 99;
         WITHOUT(deolmutt_driven_request(job, &asked, out, sizeof out, &length));
         if (status == DEOLMUTT_NO_MEMORY) {
-            must(memcmp(&asked, &untouched, sizeof asked) == 0 && length == 99, "a refused request shows nothing");
+            must(memcmp(&asked, &no_request, sizeof asked) == 0 && length == 0, "a refused request shows nothing");
             must(deolmutt_driven_request(job, &asked, out, sizeof out, &length) == DEOLMUTT_OK, "and may come again");
         }
         must(asked.call == (made ? DEOLMUTT_RENAME : DEOLMUTT_LIST) && asked.name + asked.second == length, "it shows the call");
@@ -220,10 +237,10 @@ static int driven_without(long at) {
             if (status == DEOLMUTT_NO_MEMORY)
                 must(deolmutt_driven_row(job, long_name, sizeof long_name - 1, 0, 0) == DEOLMUTT_OK, "a refused row may come again");
         }
-        step = unmade;
+        memset(&step, 9, sizeof step);
         WITHOUT(deolmutt_driven_take(job, DEOLMUTT_DONE, &step));
         if (status == DEOLMUTT_NO_MEMORY) {
-            must(memcmp(&step, &unmade, sizeof step) == 0, "a refused reply shows nothing");
+            must(memcmp(&step, &no_step, sizeof step) == 0, "a refused reply shows nothing");
             must(deolmutt_driven_ask(job, 1) == DEOLMUTT_ASKED, "and is still waited for");
             must(deolmutt_driven_take(job, DEOLMUTT_DONE, &step) == DEOLMUTT_OK, "and may come again");
         }

@@ -88,7 +88,7 @@ static void test_split(void) {
         const char *name = no_messages[at];
         must(deolmutt_split(of(name), strlen(name), &length, &info, &flags) == DEOLMUTT_NO_MESSAGE_NAME, "no message's name", name);
     }
-    must(length == 99 && info == 9 && flags == 9, "what is refused sets nothing", "");
+    must(length == 0 && info == 0 && flags == 0, "what is refused says nothing", "");
 }
 
 static deolmutt_world *loaded(const char *lines) {
@@ -166,7 +166,7 @@ static void is_bad_host(struct bytes host) {
     /* Too many microseconds make none, whatever the host is. */
     must(deolmutt_unique(1000, 1000000, 7, 1, of(host.at), host.length, made_name, sizeof made_name, &length) == DEOLMUTT_BAD_MICRO,
          "no microseconds", host.at);
-    must(length == 99, "what is refused sets nothing", host.at);
+    must(length == 0, "what is refused says nothing", host.at);
 }
 
 /* Whether a delivery is taken under a name. */
