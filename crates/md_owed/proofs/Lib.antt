@@ -1,0 +1,9 @@
+pub mod Keys
+pub mod Turning
+pub mod Counting
+pub mod Filing
+pub mod Touching
+pub mod Keeping
+pub mod Going
+pub mod Noticing
+pub mod Breaking
