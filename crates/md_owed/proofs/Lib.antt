@@ -7,3 +7,5 @@ pub mod Keeping
 pub mod Going
 pub mod Noticing
 pub mod Breaking
+pub mod Beginning
+pub mod Telling

@@ -46,14 +46,43 @@ stamp-there : (now : ℕ) (o : Option FileKept) → IsSome o → stamp_of (optio
 stamp-there now None there = absurd (cc there)
 stamp-there now (Some f) there = refl
 
+-- ---- a file that is made
+
+module _ (now : ℕ) (maker : Option (List ℕ)) (old new : List FileKept) (does : Adds (made maker now) old new) where
+  pub added : {A : Type 0} (part : Option FileKept → A) → part (Some (made maker now)) ≡ part None → (n : ℕ)
+      → part (slice_get new n) ≡ part (slice_get old n)
+  added part makes n = ap part (does.kept n) ∙ by (n == length old) refl
+    where
+      by : (b : Bool) → (n == length old) ≡ b → part (cond b (Some (made maker now)) (slice_get old n)) ≡ part (slice_get old n)
+      by true is = makes ∙ ap part (sym (past-last old n (sym ((Decides-eqb n (length old)).0 is))))
+      by false is = refl
+
+  pub made-stamps : (s : State) → length old ≡ length s.files → (p : Path)
+      → ((n : ℕ) (f : File) → file_by s.files n ≡ Some f → stamp_in old n ≡ f.stamp)
+      → (n : ℕ) (f : File) → file_by (with_new_file p (empty_file now) s).files n ≡ Some f → stamp_in new n ≡ f.stamp
+  made-stamps s count p stamps n f is = ap stamp_of (does.kept n) ∙ by_number n (length s.files)
+      (λ last. ap (λ b. stamp_of (cond b (Some (made maker now)) (slice_get old n))) ((Decides-eqb n (length old)).1 (last ∙ sym count))
+      ∙ sym (made-stamp p s now f (ap (file_by (with_new_file p (empty_file now) s).files) (sym last) ∙ is)))
+      (λ other. by other (n == length old) refl)
+    where
+      some : IsSome (file_by (with_new_file p (empty_file now) s).files n)
+      some = subst (λ (o : Option File). IsSome o) (sym is) refl
+
+      low : (n ≡ length s.files → ⊥) → n < length s.files
+      low other =
+          let within = file-within (with_new_file p (empty_file now) s).files n some in
+          let long = at-files deed.Create reply.Ok p now s in
+          omega (arith, within, long, other)
+
+      by : (n ≡ length s.files → ⊥) → (b : Bool) → (n == length old) ≡ b → stamp_of (cond b (Some (made maker now)) (slice_get old n)) ≡ f.stamp
+      by other true here = absurd (other ((Decides-eqb n (length old)).0 here ∙ count))
+      by other false beside = stamps n f (sym (made-other p s now n (low other)) ∙ is)
+
 module _ (now : ℕ) (actor : List ℕ) (old new : List FileKept) where
   -- ---- what no call changes so
 
   module _ {A : Type 0} (part : Option FileKept → A) (makes : part (Some (made (Some actor) now)) ≡ part None)
       (keeps : (f : FileKept) → part (Some (stamped now f)) ≡ part (Some f)) where
-    added : (n : ℕ) (b : Bool) → (n == length old) ≡ b → part (cond b (Some (made (Some actor) now)) (slice_get old n)) ≡ part (slice_get old n)
-    added n true is = makes ∙ ap part (sym (past-last old n (sym ((Decides-eqb n (length old)).0 is))))
-    added n false is = refl
 
     changed : (b : Bool) (o : Option FileKept) → part (cond b (option_map (stamped now) o) o) ≡ part o
     changed true None = refl
@@ -65,7 +94,7 @@ module _ (now : ℕ) (actor : List ℕ) (old new : List FileKept) where
     wrote (Some m) does n = ap part (does.kept n) ∙ changed (n == m) (slice_get old n)
 
     pub touched : (f : Path → Option ℕ) (c : Call) → touching f now actor c old new → (n : ℕ) → part (slice_get new n) ≡ part (slice_get old n)
-    touched f (call.At deed.Create p reply.Ok) does n = ap part (does.kept n) ∙ added n (n == length old) refl
+    touched f (call.At deed.Create p reply.Ok) does n = added now (Some actor) old new does part makes n
     touched f (call.At deed.Write p reply.Ok) does n = wrote (f p) does n
     touched f c same n = ap (λ (xs : List FileKept). part (slice_get xs n)) same
 
@@ -115,25 +144,6 @@ module _ (now : ℕ) (actor : List ℕ) (old new : List FileKept) where
         → Stamps old s → Stamps new t
     same-stamps t same was stamps n f is = ap (λ (xs : List FileKept). stamp_in xs n) same ∙ stamps n f (was n f is)
 
-    made-stamps : (p : Path) → Adds (made (Some actor) now) old new → Stamps old s → Stamps new (with_new_file p (empty_file now) s)
-    made-stamps p does stamps n f is = by_number n (length s.files)
-        (λ last. ap stamp_of (does.kept n) ∙ ap (λ b. stamp_of (cond b (Some (made (Some actor) now)) (slice_get old n))) ((Decides-eqb n (length old)).1 (last ∙ sym count))
-        ∙ sym (made-stamp p s now f (ap (file_by (with_new_file p (empty_file now) s).files) (sym last) ∙ is)))
-        (λ other. ap stamp_of (does.kept n) ∙ by other (n == length old) refl)
-      where
-        some : IsSome (file_by (with_new_file p (empty_file now) s).files n)
-        some = subst (λ (o : Option File). IsSome o) (sym is) refl
-
-        low : (n ≡ length s.files → ⊥) → n < length s.files
-        low other =
-            let within = file-within (with_new_file p (empty_file now) s).files n some in
-            let long = at-files deed.Create reply.Ok p now s in
-            omega (arith, within, long, other)
-
-        by : (n ≡ length s.files → ⊥) → (b : Bool) → (n == length old) ≡ b → stamp_of (cond b (Some (made (Some actor) now)) (slice_get old n)) ≡ f.stamp
-        by other true here = absurd (other ((Decides-eqb n (length old)).0 here ∙ count))
-        by other false beside = stamps n f (sym (made-other p s now n (low other)) ∙ is)
-
     wrote-stamps : HasFiles s → (p : Path) → writing now (file_at s p) old new → Stamps old s → Stamps new (after_call (call.At deed.Write p reply.Ok) now s)
     wrote-stamps filed p does stamps n f is = by (file_at s p) refl does is
       where
@@ -151,7 +161,7 @@ module _ (now : ℕ) (actor : List ℕ) (old new : List FileKept) where
             ∙ stamps n f (sym (written-other s now n (Some m) (λ one. other (sym (let number : m ≡ n = cc one in number)))) ∙ is))
 
     pub touched-stamps : HasFiles s → (c : Call) → touching (file_at s) now actor c old new → Stamps old s → Stamps new (after_call c now s)
-    touched-stamps filed (call.At deed.Create p reply.Ok) does stamps = made-stamps p does stamps
+    touched-stamps filed (call.At deed.Create p reply.Ok) does stamps = made-stamps now (Some actor) old new does s count p stamps
     touched-stamps filed (call.At deed.Write p reply.Ok) does stamps = wrote-stamps filed p does stamps
     touched-stamps filed (call.At deed.Unlink p reply.Ok) same stamps = same-stamps _ same (λ n f is. unlinked-file p s n f is) stamps
     touched-stamps filed (call.Between n o q reply.Ok) same stamps = same-stamps _ same (λ k f is. between-file n o q s k f is) stamps

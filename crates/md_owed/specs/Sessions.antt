@@ -1,5 +1,6 @@
 -- What a session has taken in, and what it has found.
-use Rattle.std.specs.Prelude.{ℕ, suc, ◌≡◌, ◌≢◌, ◌<◌, ◌↔◌, ◌⊎◌, ◌++◌, ◌∷◌, [], List, Some, Ok, fold, take, length, slice_get}
+use Rattle.std.specs.Prelude.{ℕ, suc, ◌≡◌, ◌≢◌, ◌<◌, ◌↔◌, ◌⊎◌, ◌++◌, ◌∷◌, [], List, Some, Result, Ok, fold, take, length, slice_get}
+use Rattle.md_log.specs.declared.error.LineFault.{LineFault}
 use Rattle.md_log.specs.declared.line.Line.{Line}
 use Rattle.md_log.specs.declared.line.Line.TheVariants as line
 use Rattle.md_log.specs.declared.line.Step.{Step}
@@ -38,6 +39,10 @@ pub record HasRead (l : Log) (s : Session) : Type 0 where
   pub plain : HasNoTicks l
   pub holds : Holds (history l (length l.steps)) s.watch
   pub found : (number : ℕ) (c : OwedClause) (actor : List ℕ) → IsAmong s.findings.items number c actor ↔ IsFinding l number c actor
+
+-- a line makes this log of the one before, and the session has read it
+abbrev pub Reads : Result Log LineFault → Session → Type 0
+Reads read s = (l : Log) × (read ≡ Ok l) × HasRead l s
 
 -- A session has taken in these lines. They are a log, of which the first is the head, and it has read that.
 pub record HasTaken (texts : List (List ℕ)) (s : Session) : Type 0 where

@@ -1,5 +1,5 @@
 -- What a watch holds: that what it keeps is what the monitor keeps of a history.
-use Rattle.std.specs.Prelude.{ℕ, ◌≡◌, ◌↔◌, ◌++◌, ◌∷◌, [], List, Option, Some, None, Bool, true, is_some, nat_lt, length, max}
+use Rattle.std.specs.Prelude.{ℕ, ◌≡◌, ◌↔◌, List, Option, Some, None, Bool, true, Result, Ok, length}
 use Rattle.md_dirs.specs.State.{State, file_at, file_by}
 use Rattle.md_dirs.specs.Calls.{with_new_file, with_path, empty_file}
 use Rattle.md_dirs.specs.declared.paths.Path.{Path}
@@ -16,6 +16,7 @@ use Rattle.md_monitor.specs.Messages.{MessagesKept, messages_kept, paths_of, is_
 use Rattle.md_monitor.specs.Finds.{BreaksOwed}
 use Rattle.md_judge.specs.Filed.{HasFiles}
 use Rattle.md_judge.specs.Logs.{Log}
+use Rattle.md_log.specs.declared.error.LineFault.{LineFault}
 use Rattle.md_owed.specs.declared.clause.OwedClause.{OwedClause}
 use Rattle.md_owed.specs.declared.files.FileKept.{FileKept as Kept}
 use Rattle.md_owed.specs.declared.messages.Messages.{Messages}
@@ -72,6 +73,10 @@ Finds b h = (c : OwedClause) → IsBroken b c ↔ BreaksOwed (meant c) h
 -- the history of a log before its first step
 abbrev pub beginning : Log → History
 beginning l = opening (record { state = l.opening; now = l.clock })
+
+-- a line of the beginning makes this log of the one before, and the watch holds what is so then
+abbrev pub Begins : Result Log LineFault → Watch → Type 0
+Begins read w = (l : Log) × (read ≡ Ok l) × Holds (beginning l) w
 
 -- ---- how it goes on
 

@@ -2,7 +2,7 @@
 ghost use Rattle.std.specs.Prelude.{◌≡◌, ◌≢◌, ◌+◌, ◌↔◌, ◌++◌, ◌∷◌, [], ℕ, List, Ok, OnOk, IfOk};
 ghost use Rattle.md_judge.specs.Logs.{Log, log_by, with_line, with_text};
 ghost use Rattle.md_owed.specs.declared.clause.OwedClause.{OwedClause};
-ghost use Rattle.md_owed.specs.Sessions.{HasTaken, HasRead, IsAmong, IsFinding, IsHead, AddsFinding, with_step};
+ghost use Rattle.md_owed.specs.Sessions.{HasTaken, HasRead, Reads, IsAmong, IsFinding, IsHead, AddsFinding, with_step};
 
 use crate::clause::{OWED, OwedClause};
 use crate::fault::{Fault, Why};
@@ -86,7 +86,7 @@ impl Session {
 
     fn take(&mut self, number: u64, text: &[u8]) -> Result<(), Why>
         ensures { (l : Log) → HasRead l self.old
-            → OnOk result ((l' : Log) × (with_text l number text.now ≡ Ok l') × HasRead l' self.new) }
+            → OnOk result (Reads (with_text l number text.now) self.new) }
     {
         if is_passed_over(text) {
             return Ok(());
@@ -101,9 +101,11 @@ impl Session {
     }
 
     fn take_head(&mut self, line: Line) -> Result<(), LineFault>
-        ensures { (l : Log) (number : ℕ) → HasRead l self.old → l.steps ≡ [] → IsHead line
-            → OnOk result ((l' : Log) × (with_line l number line ≡ Ok l') × HasRead l' self.new) }
+        ensures { (l : Log) (number : ℕ) → HasRead l self.old → IsHead line → OnOk result (Reads (with_line l number line) self.new) }
     {
+        if self.has_begun {
+            return Err(LineFault::TooLate);
+        }
         match line {
             Line::Folder { name } => name_folder(&mut self.folders, name.as_slice()),
             Line::File { path, stamp } => self.watch.put_file(&path, stamp),

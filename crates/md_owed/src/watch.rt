@@ -1,12 +1,11 @@
 //! What a history of directories tells so far, and what its steps break of what is owed.
-ghost use Rattle.std.specs.Prelude.{◌≡◌, ℕ, Ok, OnOk, IfOk};
+ghost use Rattle.std.specs.Prelude.{◌≡◌, OnOk, IfOk};
 ghost use Rattle.md_law.specs.History.{History, next};
 ghost use Rattle.md_judge.specs.Logs.{Log, empty_log, with_file_line, with_also_line};
-ghost use Rattle.md_judge.specs.Recalled.{Agrees};
 ghost use Rattle.md_owed.specs.Changes.{turn_of, adding};
 ghost use Rattle.md_owed.specs.Clauses.{is_broken};
 ghost use Rattle.md_owed.specs.Found.{before_of, after_of};
-ghost use Rattle.md_owed.specs.Watches.{Holds, beginning, Finds, Touches, Follows};
+ghost use Rattle.md_owed.specs.Watches.{Holds, beginning, Begins, Finds, Touches, Follows};
 
 mod finding;
 
@@ -105,9 +104,7 @@ impl Watch {
 
     /// At the beginning a file is there, which was last made or written to at the moment `stamp`. After a refusal the watch is not to be used.
     pub fn put_file(&mut self, path: &Path, stamp: u64) -> Result<(), LineFault>
-        ensures holds { (l l' : Log) → Holds (beginning l) self.old → with_file_line l path.now stamp ≡ Ok l'
-            → OnOk result (Holds (beginning l') self.new) }
-        ensures agrees { (l : Log) → Holds (beginning l) self.old → Agrees result (with_file_line l path.now stamp) }
+        ensures { (l : Log) → Holds (beginning l) self.old → OnOk result (Begins (with_file_line l path.now stamp) self.new) }
     {
         if self.paths.file_at(path).is_some() {
             return Err(LineFault::SamePath);
@@ -121,9 +118,7 @@ impl Watch {
 
     /// At the beginning a file has a further path. After a refusal the watch is not to be used.
     pub fn put_name(&mut self, path: &Path, old: &Path) -> Result<(), LineFault>
-        ensures holds { (l l' : Log) → Holds (beginning l) self.old → with_also_line l path.now old.now ≡ Ok l'
-            → OnOk result (Holds (beginning l') self.new) }
-        ensures agrees { (l : Log) → Holds (beginning l) self.old → Agrees result (with_also_line l path.now old.now) }
+        ensures { (l : Log) → Holds (beginning l) self.old → OnOk result (Begins (with_also_line l path.now old.now) self.new) }
     {
         if self.paths.file_at(path).is_some() {
             return Err(LineFault::SamePath);
