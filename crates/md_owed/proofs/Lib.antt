@@ -9,3 +9,4 @@ pub mod Noticing
 pub mod Breaking
 pub mod Beginning
 pub mod Telling
+pub mod Taking
