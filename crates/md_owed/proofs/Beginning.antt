@@ -1,34 +1,37 @@
 -- What a watch keeps follows the lines of the beginning.
-use Rattle.std.proofs.Common.{ℕ, ◌≡◌, ◌+◌, ◌==◌, ◌&&◌, ◌||◌, cond, nat_lt, List, Option, Some, None, IsSome, Bool, true, false, not, is_some, length, Result, Ok, refl, sym, ap, subst, ◌∙◌, arith}
-use Rattle.std.specs.Prelude.{max}
+use Rattle.std.proofs.Common.{ℕ, ◌≡◌, ◌+◌, ◌==◌, ◌&&◌, ◌||◌, cond, nat_lt, List, [], Option, Some, None, IsSome, Bool, true, false, not, is_some, length, Result, Ok, refl, sym, ap, subst, ◌∙◌, arith}
+use Rattle.std.specs.Prelude.{max, unwrap_or}
 use Rattle.std.specs.Ordering.{eq_by_cmp}
 use Rattle.std.specs.List.{count_by}
 use Rattle.std.specs.FinMap as finmap
-use Rattle.std.specs.FinMap.{get-insert}
+use Rattle.std.specs.FinMap.{get-insert, get-empty}
 use Rattle.std.proofs.lemmas.Bool.{lt-ltb}
 use Rattle.std.proofs.lemmas.List.{length_push}
 use Rattle.std.proofs.lemmas.Option.{some_pair_parts}
 use Rattle.lists.proofs.Maps as maps
 use Rattle.md_dirs.specs.Calls.{with_new_file, with_path, empty_file}
 use Rattle.md_dirs.specs.Path.{path_cmp}
-use Rattle.md_dirs.specs.State.{State, file_at, file_by}
+use Rattle.md_dirs.specs.State.{State, bare, file_at, file_by}
 use Rattle.md_dirs.specs.declared.paths.File.{File}
 use Rattle.md_dirs.specs.declared.paths.Path.{Path}
 use Rattle.md_dirs.proofs.PathOrder.{path_total, path_exact}
+use Rattle.md_log.specs.declared.clause.Clause.{Clause}
 use Rattle.md_log.specs.declared.error.LineFault.TheVariants.{SamePath, NoSuchPath}
 use Rattle.md_text.specs.Bind.{◌>>=◌, require}
 use Rattle.md_law.specs.History.{Moment, opening, moment}
 use Rattle.md_law.specs.Messages.{is_message, is_tmp}
 use Rattle.md_monitor.specs.Changes.{with_file}
 use Rattle.md_monitor.specs.Files.{FileKept, is_some_and, is_cur_message, count_where, kept_first, files_kept}
-use Rattle.md_monitor.specs.Messages.{PathKept, no_path, path_after, path_named, path_first, messages_first, messages_kept, is_of_any}
+use Rattle.md_monitor.specs.Messages.{PathKept, no_path, path_after, path_named, path_first, messages_first, messages_kept, is_of, is_of_any}
 use Rattle.md_monitor.proofs.Recounting.{put-count}
 use Rattle.md_judge.specs.Filed.{HasFiles}
-use Rattle.md_judge.specs.Logs.{Log, with_file_line, with_also_line}
+use Rattle.md_judge.specs.Logs.{Log, empty_log, with_file_line, with_also_line}
 use Rattle.md_judge.proofs.Stored.{has-made, has-named}
 use Rattle.md_owed.specs.declared.watch.Watch.{Watch}
 use Rattle.md_owed.specs.Changes.{adding, file_in}
-use Rattle.md_owed.specs.Files.{Adds, made_by, maker_of, times_of}
+use Rattle.md_owed.specs.Files.{Adds, made_by, maker_of, times_of, maker_in, was_cur_in, was_seen_in, times_in}
+use Rattle.md_owed.specs.Messages as messages
+use Rattle.md_owed.specs.Drafts as drafts
 use Rattle.md_owed.specs.Watches.{AreFiles, AreMessages, AreDrafts, Keeps, Holds, Begins, Follows, beginning}
 use Rattle.md_owed.proofs.Counting.{one}
 use Rattle.md_owed.proofs.Keeping.{Leads, AreTouched, turned}
@@ -90,7 +93,7 @@ module _ (s s' : State) (p : Path) (n : ℕ) (free : file_at s p ≡ None) (name
 -- ---- a file
 
 pub put-file : (l : Log) (p : Path) (stamp : ℕ) (w mid new : Watch) → Holds (beginning l) w → file_in w.paths p ≡ None
-    → mid.now ≡ max w.now stamp → mid.paths ≡ w.paths → Adds (made_by None stamp) w.files.all.items mid.files.all.items
+    → mid.clock ≡ max w.clock stamp → mid.paths ≡ w.paths → Adds (made_by None stamp) w.files.all.items mid.files.all.items
     → mid.messages ≡ w.messages → mid.drafts ≡ w.drafts
     → Follows (adding p (length w.files.all.items)) mid new → Begins (with_file_line l p stamp) new
 unfolding moment files_kept messages_kept with_file_line
@@ -98,7 +101,7 @@ put-file l p stamp w mid new holds free clock paths does sameMessages sameDrafts
   record l { opening = s'; clock = max l.clock stamp },
   ap (λ o. require (not (is_some o)) SamePath >>= (λ u. Ok (record l { opening = s'; clock = max l.clock stamp }))) none,
   turned (adding p number) s s' (kept_first s) (kept_first s') (messages_first s) (messages_first s') leads
-  (max l.clock stamp) mid new (clock ∙ ap (λ k. max k stamp) holds.now) (λ q. ap (λ (ps : _). file_in ps q) paths ∙ holds.paths q)
+  (max l.clock stamp) mid new (clock ∙ ap (λ k. max k stamp) holds.clock) (λ q. ap (λ (ps : _). file_in ps q) paths ∙ holds.paths q)
   touched
   (subst (λ m. AreMessages s (messages_first s) m) (sym sameMessages) holds.messages)
   (subst (λ d. AreDrafts (messages_first s) d) (sym sameDrafts) holds.drafts)
@@ -139,7 +142,7 @@ put-name l p old n w new holds free named follows = (
   record l { opening = s' },
   (λ i. require (not (is_some (none i))) SamePath >>= (λ u. require (is_some (at i)) NoSuchPath >>= (λ v. Ok (record l { opening = with_path p s (at i) })))),
   turned (adding p n) s s' (kept_first s) (kept_first s') (messages_first s) (messages_first s')
-  (adds s s' p n none refl (has-named s p n holds.filed (holds.filed old n at))) l.clock w new holds.now holds.paths touched holds.messages holds.drafts follows,
+  (adds s s' p n none refl (has-named s p n holds.filed (holds.filed old n at))) l.clock w new holds.clock holds.paths touched holds.messages holds.drafts follows,
 )
   where
     s : State
@@ -163,3 +166,61 @@ put-name l p old n w new holds free named follows = (
       times = λ k. holds.files.times k;
       stamp = holds.files.stamp;
     }
+
+-- ---- nothing
+
+no-count : (test : Path × ℕ → Bool) → count_where test (bare 0) ≡ 0
+no-count test = ap (count_by test) (maps.entries-empty path_cmp)
+
+pub nothing-held : (w : Watch) → w.clock ≡ 0 → ((p : Path) → file_in w.paths p ≡ None) → w.files.all.items ≡ [] → messages.KeepsNone w.messages
+    → drafts.KeepsNone w.drafts → Holds (beginning empty_log) w
+unfolding moment files_kept messages_kept
+nothing-held w clock paths none ofMessages ofDrafts = record {
+  clock = clock;
+  paths = λ p. paths p ∙ sym (get-empty path_cmp p);
+  filed = λ p n is. let empty : None ≡ Some n = sym (get-empty path_cmp p) ∙ is in absurd (cc empty);
+  files = record {
+    count = ap length none;
+    maker = λ n. ap (λ xs. maker_in xs n) none;
+    was_cur = λ n. ap (λ xs. was_cur_in xs n) none ∙ ap (nat_lt 0) (sym (no-count (λ e. e.1 == n && is_cur_message e.0)));
+    was_seen = λ n. ap (λ xs. was_seen_in xs n) none ∙ ap (nat_lt 0) (sym (no-count (λ e. e.1 == n && is_message e.0)));
+    times = λ n. ap (λ xs. times_in xs n) none ∙ sym (no-count (λ e. e.1 == n && is_message e.0));
+    stamp = λ n f is. absurd (cc is);
+  };
+  messages = record {
+    in_folder = λ f u. ap (λ o. unwrap_or o 0) (ofMessages.in_folder f u) ∙ sym (no-count (λ e. is_of f u e.0));
+    anywhere = λ u. ap (λ o. unwrap_or o 0) (ofMessages.anywhere u) ∙ sym (no-count (λ e. is_of_any u e.0));
+    was = λ u. ap is_some (ofMessages.anywhere u) ∙ ap (nat_lt 0) (sym (no-count (λ e. is_of_any u e.0)));
+    was_file = λ u n. ap is_some (ofMessages.as_file n u) ∙ ap (nat_lt 0) (sym (no-count (λ e. e.1 == n && is_of_any u e.0)));
+  };
+  drafts = λ p tmp. ofDrafts p.folder p.name ∙ (λ i. record { first = (sym (get-empty path_cmp p)) i; has_other = false })
+      ∙ ap (λ b. cond b (record { first = file_at (bare 0) p; has_other = false }) no_path) (sym tmp);
+}
+
+-- folders are no part of what a watch holds
+pub refoldered : (l : Log) (folders : List (List ℕ)) (n : ℕ) (w : Watch) → Holds (beginning l) w
+    → Holds (beginning (record l { folders = folders; opening = record l.opening { folders = n } })) w
+unfolding moment files_kept messages_kept
+refoldered l folders n w holds = record {
+  clock = holds.clock;
+  paths = holds.paths;
+  filed = holds.filed;
+  files = record {
+    count = holds.files.count;
+    maker = holds.files.maker;
+    was_cur = holds.files.was_cur;
+    was_seen = holds.files.was_seen;
+    times = holds.files.times;
+    stamp = holds.files.stamp;
+  };
+  messages = record {
+    in_folder = holds.messages.in_folder;
+    anywhere = holds.messages.anywhere;
+    was = holds.messages.was;
+    was_file = holds.messages.was_file;
+  };
+  drafts = holds.drafts;
+}
+
+pub allowed-held : (l : Log) (allowed : List Clause) (w : Watch) → Holds (beginning l) w → Holds (beginning (record l { allowed = allowed })) w
+allowed-held l allowed w holds = holds

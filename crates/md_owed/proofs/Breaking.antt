@@ -24,7 +24,7 @@ use Rattle.md_owed.proofs.Turning.{turn}
 
 -- the watch before a step, at the clock of the step
 abbrev pub clocked : Watch → Step → Watch
-clocked w x = record w { now = max w.now x.moment }
+clocked w x = record w { clock = max w.clock x.moment }
 
 module _ (h : History) (x : Step) (w new : Watch) (holds : Holds h w) (after : Holds (next h x) new) where
   abbrev t : Turn
@@ -35,7 +35,7 @@ module _ (h : History) (x : Step) (w new : Watch) (holds : Holds h w) (after : H
 
   before : Keeps (at h) clock (files_kept h) (messages_kept h) (clocked w x)
   before = record {
-    now = ap (λ n. max n x.moment) holds.now;
+    clock = ap (λ n. max n x.moment) holds.clock;
     paths = holds.paths;
     filed = holds.filed;
     files = holds.files;
@@ -53,8 +53,8 @@ module _ (h : History) (x : Step) (w new : Watch) (holds : Holds h w) (after : H
   is-found NamedByAnother = noticing.named_by_another (at h) (files_kept h) (clocked w x) holds.files clock x
   is-found CleanedEarly = noticing.cleaned_early (at h) (files_kept h) (clocked w x) holds.files holds.filed x new
       (λ n. noticing.seen-is (after_call x.call clock (at h)) (files_kept (next h x)) new after.files n
-      ∙ ap (λ k. is_seen (after_call x.call k (at h)) n) (sym before.now))
-      ∙ ap (λ k. finds_owed (at h) k (kept_of h) x (meant CleanedEarly)) before.now
+      ∙ ap (λ k. is_seen (after_call x.call k (at h)) n) (sym before.clock))
+      ∙ ap (λ k. finds_owed (at h) k (kept_of h) x (meant CleanedEarly)) before.clock
   is-found Rewritten = ap (λ f. found.is_rewritten (clocked w x) (found.written_by f x.call)) (same-paths (clocked w x) before)
       ∙ noticing.rewritten (at h) (files_kept h) (clocked w x) holds.files clock x
   is-found MovedBack = noticing.moved_back (at h) (files_kept h) (clocked w x) holds.files clock x
@@ -62,7 +62,7 @@ module _ (h : History) (x : Step) (w new : Watch) (holds : Holds h w) (after : H
   is-found MadeAgain = noticing.made_again (at h) (messages_kept h) (clocked w x) holds.drafts clock x
   is-found WrittenLate = ap (λ f. found.is_late (clocked w x) (found.written_by f x.call)) (same-paths (clocked w x) before)
       ∙ noticing.written_late (at h) (files_kept h) (clocked w x) holds.files holds.filed x
-      ∙ ap (λ k. finds_owed (at h) k (kept_of h) x (meant WrittenLate)) before.now
+      ∙ ap (λ k. finds_owed (at h) k (kept_of h) x (meant WrittenLate)) before.clock
 
   pub breaks : (u : Turn) → u ≡ turn_by (file_in w.paths) (length w.files.all.items) x.call
       → Finds (found.after_of new u (found.before_of (clocked w x) u x)) (next h x)

@@ -1,12 +1,15 @@
 -- What tables count and note follows what the directories show.
-use Rattle.std.proofs.Common.{ℕ, ◌≡◌, ◌+◌, ◌-◌, ◌==◌, ◌&&◌, ◌||◌, cond, List, [], ◌∷◌, Option, Some, None, Bool, true, false, is_some, refl, sym, ap, ◌∙◌, arith}
+use Rattle.std.proofs.Common.{ℕ, ◌≡◌, ◌+◌, ◌-◌, ◌==◌, ◌&&◌, ◌||◌, cond, not, List, [], ◌∷◌, Option, Some, None, Bool, true, false, is_some, refl, sym, ap, ◌∙◌, arith}
 use Rattle.std.specs.Prelude.{unwrap_or}
 use Rattle.std.specs.List.{count_by}
 use Rattle.std.specs.Option.{option_map}
+use Rattle.std.specs.Str.{bytes_eq}
 use Rattle.std.specs.FinMap as finmap
 use Rattle.std.proofs.lemmas.List.Sums.{sum_by-cons}
 use Rattle.md_dirs.specs.State.{State}
 use Rattle.md_dirs.specs.declared.paths.Path.{Path}
+use Rattle.md_name.specs.Names.{unique_of}
+use Rattle.md_law.specs.Messages.{is_message}
 use Rattle.md_monitor.specs.Files.{is_some_and, count_where}
 use Rattle.md_monitor.specs.Messages.{is_of, is_of_any, paths_of, paths_beside}
 use Rattle.md_owed.specs.Changes.{Turn}
@@ -88,7 +91,7 @@ module _ (here beside all : Path × ℕ → Bool) (parted : (e : Path × ℕ) �
       let rest = counts es in
       omega (arith, a, b, c, at, rest)
 
-part : (message folder name : Bool) → one ((message && folder) && name) + one ((message && name) && cond folder false true) ≡ one (message && name)
+part : (message folder name : Bool) → one ((message && folder) && name) + one ((message && name) && not folder) ≡ one (message && name)
 part true true true = refl
 part true true false = refl
 part true false true = refl
@@ -97,4 +100,4 @@ part false folder name = refl
 
 pub in-and-beside : (s : State) (folder : ℕ) (unique : List ℕ)
     → paths_of s folder unique + paths_beside s folder unique ≡ count_where (λ e. is_of_any unique e.0) s
-in-and-beside s folder unique = counts _ _ _ (λ e. part _ _ _) (finmap.entries s.names)
+in-and-beside s folder unique = counts _ _ _ (λ e. part (is_message e.0) (e.0.folder == folder) (bytes_eq (unique_of e.0.name) unique)) (finmap.entries s.names)

@@ -58,19 +58,19 @@ same-turn s w keeps x t is = is ∙ (λ i. turn_by (same-paths w keeps i) (keeps
 
 pub stepped : (h : History) (x : Step) (w mid new : Watch) (t : Turn) → Holds h w
     → t ≡ turn_by (file_in w.paths) (length w.files.all.items) x.call
-    → Touches x (record w { now = max w.now x.moment }) mid → Follows t mid new → Holds (next h x) new
+    → Touches x (record w { clock = max w.clock x.moment }) mid → Follows t mid new → Holds (next h x) new
 unfolding moment files_kept messages_kept
 stepped h x w mid new t holds is touches follows =
     let s = at h in
     let clock = max (now h) x.moment in
-    let clock-is : max w.now x.moment ≡ clock = ap (λ n. max n x.moment) holds.now in
+    let clock-is : max w.clock x.moment ≡ clock = ap (λ n. max n x.moment) holds.clock in
     let turn-is : t ≡ turn s (change_of s x.call) = same-turn s w holds x t is in
     let follows-it = subst (λ u. Follows u mid new) turn-is follows in
     let does = (subst (λ f. touching f clock x.actor x.call w.files.all.items mid.files.all.items) (same-paths w holds)
     (subst (λ n. touching (file_in w.paths) n x.actor x.call w.files.all.items mid.files.all.items) clock-is touches.files)) in
     turned (turn s (change_of s x.call)) s (after_call x.call clock s) (files_kept h) (files_kept (next h x)) (messages_kept h) (messages_kept (next h x))
     (step-leads s clock x (files_kept h) (messages_kept h) holds.filed)
-    clock mid new (touches.now ∙ clock-is) (λ p. ap (λ (ps : _). file_in ps p) touches.paths ∙ holds.paths p)
+    clock mid new (touches.clock ∙ clock-is) (λ p. ap (λ (ps : _). file_in ps p) touches.paths ∙ holds.paths p)
     (step-touched s clock x (files_kept h) (messages_kept h) holds.filed w.files.all.items mid.files.all.items holds.files does)
     (subst (λ m. AreMessages s (messages_kept h) m) (sym touches.messages) holds.messages)
     (subst (λ d. AreDrafts (messages_kept h) d) (sym touches.drafts) holds.drafts)

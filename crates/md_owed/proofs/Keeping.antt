@@ -16,7 +16,7 @@ use Rattle.md_owed.specs.declared.messages.Messages.{Messages}
 use Rattle.md_owed.specs.declared.drafts.Drafts.{Drafts}
 use Rattle.md_owed.specs.declared.watch.Watch.{Watch}
 use Rattle.md_owed.specs.Tables.{value_at, is_key}
-use Rattle.md_owed.specs.Changes.{Turn, file_in, after_turn, taking, naming}
+use Rattle.md_owed.specs.Changes.{Turn, file_in, after_turn, with_taken, with_named}
 use Rattle.md_owed.specs.Files as files
 use Rattle.md_owed.specs.Messages as messages
 use Rattle.md_owed.specs.Drafts as drafts
@@ -91,11 +91,11 @@ module _ (t : Turn) (s s' : State) (kept kept' : ℕ → FileKept) (told told' :
       by None k = refl
       by (Some e) k = ap (λ b. cond b (path_named k e.1) k) (draft-is e.0 p tmp)
 
-  pub turned : (now : ℕ) (old new : Watch) → old.now ≡ now → ((p : Path) → file_in old.paths p ≡ file_at s p)
+  pub turned : (now : ℕ) (old new : Watch) → old.clock ≡ now → ((p : Path) → file_in old.paths p ≡ file_at s p)
       → AreTouched s s' kept kept' old.files.all.items → AreMessages s told old.messages → AreDrafts told old.drafts
       → Follows t old new → Keeps s' now kept' told' new
   turned now old new clock paths are ofMessages ofDrafts follows = record {
-    now = follows.now ∙ clock;
+    clock = follows.clock ∙ clock;
     paths = λ q. follows.paths q ∙ after-same t.named t.taken q ∙ sym (leads.paths q);
     filed = leads.filed;
     files = turned-files old.files.all.items new.files.all.items are follows.files;
@@ -103,11 +103,11 @@ module _ (t : Turn) (s s' : State) (kept kept' : ℕ → FileKept) (told told' :
     drafts = turned-drafts old.drafts new.drafts ofDrafts follows.drafts;
   }
     where
-      taken-same : (o : Option (Path × ℕ)) (q : Path) → taking o (file_in old.paths) q ≡ taking o (file_at s) q
+      taken-same : (o : Option (Path × ℕ)) (q : Path) → with_taken o (file_in old.paths) q ≡ with_taken o (file_at s) q
       taken-same None q = paths q
       taken-same (Some e) q = ap (λ f. cond (eq_by_cmp path_cmp q e.0) None f) (paths q)
 
       after-same : (named taken : Option (Path × ℕ)) (q : Path)
-          → naming named (taking taken (file_in old.paths)) q ≡ naming named (taking taken (file_at s)) q
+          → with_named named (with_taken taken (file_in old.paths)) q ≡ with_named named (with_taken taken (file_at s)) q
       after-same None taken q = taken-same taken q
       after-same (Some e) taken q = ap (λ f. cond (eq_by_cmp path_cmp q e.0) (Some e.1) f) (taken-same taken q)

@@ -1,5 +1,5 @@
 -- Keys of tables, and the paths that they stand for.
-use Rattle.std.proofs.Common.{ℕ, ◌≡◌, ◌×◌, ◌==◌, ◌&&◌, cond, List, [], ◌∷◌, Option, Some, None, Bool, true, false, refl, sym, ap, ◌∙◌}
+use Rattle.std.proofs.Common.{ℕ, ◌≡◌, ◌==◌, ◌&&◌, cond, List, [], ◌∷◌, Option, Some, None, Bool, true, false, is_some, Result, Ok, Err, OnOk, refl, sym, ap, ◌∙◌}
 use Rattle.std.specs.Bool.{Decides}
 use Rattle.std.specs.Map.{lookup_key}
 use Rattle.std.specs.Ordering.{eq_by_cmp, is_eq}
@@ -17,8 +17,10 @@ use Rattle.md_dirs.specs.declared.paths.Place.TheVariants.{Tmp}
 use Rattle.md_dirs.proofs.PathOrder.{path_total, path_exact}
 use Rattle.md_dirs.proofs.Directories.{path-number}
 use Rattle.md_dirs.specs.Index.{path_at}
-use Rattle.md_law.specs.Messages.{is_tmp}
+use Rattle.md_name.specs.Names.{unique_of}
+use Rattle.md_law.specs.Messages.{is_message, is_tmp}
 use Rattle.md_monitor.proofs.Tests.{tmp-is}
+use Rattle.md_owed.specs.Changes.{message_of}
 use Rattle.md_owed.specs.Tables.{is_key}
 
 -- two tests that hold together are one
@@ -67,3 +69,21 @@ found-key k (e ∷ es) found is = by (found-key k es found) (is_key k e.0) refl 
         let parts = (key-is k e.0).0 same in
         here ∙ (λ i. ((sym parts.0) i, (sym parts.1) i))
     by rest false other some = rest some
+
+-- ---- what is known of an answer
+
+pub then : {A E P Q : Type 0} (r : Result A E) → (P → Q) → OnOk r P → OnOk r Q
+then (Ok x) f p = f p
+then (Err e) f p = tt
+
+pub none-of : {A : Type 0} (o : Option A) → is_some o ≡ false → o ≡ None
+none-of None is = refl
+none-of (Some x) is = absurd (cc is)
+
+-- a path with a unique name is a message's
+pub message-is : (p : Path) (u : List ℕ) → Some u ≡ message_of p → (is_message p ≡ true) × (u ≡ unique_of p.name)
+message-is p u = by (is_message p)
+  where
+    by : (b : Bool) → Some u ≡ cond b (Some (unique_of p.name)) None → (b ≡ true) × (u ≡ unique_of p.name)
+    by true is = (refl, cc is)
+    by false is = absurd (cc is)

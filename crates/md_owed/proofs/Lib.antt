@@ -1,6 +1,7 @@
 pub mod Keys
 pub mod Turning
 pub mod Counting
+pub mod Leaving
 pub mod Filing
 pub mod Touching
 pub mod Keeping
@@ -10,3 +11,4 @@ pub mod Breaking
 pub mod Beginning
 pub mod Telling
 pub mod Taking
+pub mod Heading

@@ -86,7 +86,7 @@ module _ (s : State) (kept : ℕ → FileKept) (w : Watch) (are : AreFiles s kep
   by_stamp filed test p n at = by (file_by s.files n) refl
     where
       by : (o : Option File) → file_by s.files n ≡ o → test (stamp_in w.files.all.items n) ≡ is_some_and o (λ file. test file.stamp)
-      by None none = let there = filed p n at in absurd (let no : IsSome None = subst (λ o. IsSome o) none there in cc)
+      by None none = let there = filed p n at in absurd (let no = subst (λ (o : Option File). IsSome o) none there in cc)
       by (Some f) is = ap test (are.stamp n f is)
 
   -- ---- clauses by files that are written to
@@ -98,10 +98,10 @@ module _ (s : State) (kept : ℕ → FileKept) (w : Watch) (are : AreFiles s kep
   pub rewritten : (now : ℕ) (x : Step) → found.is_rewritten w (found.written_by (file_at s) x.call) ≡ files.owes_rewritten s now kept x
   rewritten now x = same-at (found.written_by (file_at s) x.call) _ _ (λ n is. are.was_seen n) ∙ wrote s (λ n. (kept n).was_seen) x.call
 
-  pub written_late : HasFiles s → (x : Step) → found.is_late w (found.written_by (file_at s) x.call) ≡ files.owes_written_late s w.now kept x
+  pub written_late : HasFiles s → (x : Step) → found.is_late w (found.written_by (file_at s) x.call) ≡ files.owes_written_late s w.clock kept x
   written_late filed x = same-at (found.written_by (file_at s) x.call) _ _ (λ n is. let at = wrote-at s x.call n is in
-      by_stamp filed (λ stamp. nat_le 129600 (w.now - stamp)) at.0 n at.1)
-      ∙ wrote s (λ n. is_some_and (file_by s.files n) (λ file. nat_le 129600 (w.now - file.stamp))) x.call
+      by_stamp filed (λ stamp. nat_le 129600 (w.clock - stamp)) at.0 n at.1)
+      ∙ wrote s (λ n. is_some_and (file_by s.files n) (λ file. nat_le 129600 (w.clock - file.stamp))) x.call
 
   -- ---- clauses by paths that come to name a file
 
@@ -147,15 +147,15 @@ module _ (s : State) (kept : ℕ → FileKept) (w : Watch) (are : AreFiles s kep
   swaps true true true true = refl
   swaps true true true false = refl
 
-  early : HasFiles s → (x : Step) (after : Watch) → ((n : ℕ) → is_seen_in after.files.all.items n ≡ is_seen (after_call x.call w.now s) n)
+  early : HasFiles s → (x : Step) (after : Watch) → ((n : ℕ) → is_seen_in after.files.all.items n ≡ is_seen (after_call x.call w.clock s) n)
       → (o : Option (Path × ℕ)) → IsPathOf o
-      → (found.is_early w x.actor o && found.is_hidden after o) ≡ is_some_and o (files.is_cleaned_early s w.now kept x)
+      → (found.is_early w x.actor o && found.is_hidden after o) ≡ is_some_and o (files.is_cleaned_early s w.clock kept x)
   early filed x after sees None of = refl
   early filed x after sees (Some e) of =
-      swaps (is_tmp e.0.place) (not (is_maker_in w.files.all.items e.1 x.actor)) (nat_lt (w.now - stamp_in w.files.all.items e.1) 129600)
+      swaps (is_tmp e.0.place) (not (is_maker_in w.files.all.items e.1 x.actor)) (nat_lt (w.clock - stamp_in w.files.all.items e.1) 129600)
       (not (is_seen_in after.files.all.items e.1))
       ∙ (λ i. ((is_tmp e.0.place && not (sees e.1 i)) && not (maker-is e.1 x.actor i))
-      && by_stamp filed (λ stamp. nat_lt (w.now - stamp) 129600) e.0 e.1 (of e.0 e.1 refl) i)
+      && by_stamp filed (λ stamp. nat_lt (w.clock - stamp) 129600) e.0 e.1 (of e.0 e.1 refl) i)
 
   taken-of : (x : Step) (now : ℕ) → IsPathOf (change_of s x.call).taken
   taken-of x now p n is = (((led s x.call now).taken p n).0 is).0
@@ -164,13 +164,13 @@ module _ (s : State) (kept : ℕ → FileKept) (w : Watch) (are : AreFiles s kep
   turned-of None p n is = absurd (cc is)
   turned-of (Some e) p n is = let both = (with_file-is e.0 (file_at s e.0) p n).0 is in ap (file_at s) (sym both.0) ∙ both.1
 
-  pub cleaned_early : HasFiles s → (x : Step) (after : Watch) → ((n : ℕ) → is_seen_in after.files.all.items n ≡ is_seen (after_call x.call w.now s) n)
+  pub cleaned_early : HasFiles s → (x : Step) (after : Watch) → ((n : ℕ) → is_seen_in after.files.all.items n ≡ is_seen (after_call x.call w.clock s) n)
       → let t = turn s (change_of s x.call) in
       ((found.is_early w x.actor t.taken && found.is_hidden after t.taken) || (found.is_early w x.actor t.turned && found.is_hidden after t.turned))
-      ≡ (is_some_and (change_of s x.call).taken (files.is_cleaned_early s w.now kept x)
-      || is_some_and (turned_by s (change_of s x.call).named) (files.is_cleaned_early s w.now kept x))
+      ≡ (is_some_and (change_of s x.call).taken (files.is_cleaned_early s w.clock kept x)
+      || is_some_and (turned_by s (change_of s x.call).named) (files.is_cleaned_early s w.clock kept x))
   cleaned_early filed x after sees = λ i.
-      early filed x after sees (change_of s x.call).taken (taken-of x w.now) i
+      early filed x after sees (change_of s x.call).taken (taken-of x w.clock) i
       || early filed x after sees (turned_by s (change_of s x.call).named) (turned-of (change_of s x.call).named) i
 
 -- ---- messages

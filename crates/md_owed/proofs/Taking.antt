@@ -78,3 +78,10 @@ taken-next (head ∷ texts) text s t number taken is high later =
         counted reads.0 t number reads.2,
       );
     }
+
+-- the log that lines are is the one that was read
+pub found-of : (texts : List (List ℕ)) (l : Log) (s : Session) → HasTaken texts s → log_by texts ≡ Ok l → HasRead l s
+found-of texts l s taken is =
+    let was = taken.read (λ none. let bad : log_by [] ≡ Ok l = ap log_by (sym none) ∙ is in cc bad) in
+    let same : was.0 ≡ l = (let both : Ok was.0 ≡ Ok l = sym was.1 ∙ is in cc both) in
+    subst (λ (m : Log). HasRead m s) same was.2

@@ -2,8 +2,8 @@
 use Rattle.std.proofs.Common.{ℕ, suc, ◌≡◌, ◌<◌, ◌≤◌, ◌+◌, ◌↔◌, ◌⊎◌, inl, inr, List, [], ◌∷◌, ◌++◌, Option, Some, None, Bool, true, false, nat_lt, slice_get, get_or, length, Result, Ok, refl, sym, ap, subst, ◌∙◌, arith}
 use Rattle.std.specs.Prelude.{fold, take, if◌then◌else◌}
 use Rattle.std.proofs.lemmas.Bool.{cases_lt, lt-ltb}
-use Rattle.std.proofs.lemmas.List.{take-append-le, take_all, length_push, slice_get-get_or, get_or_from_slice_get}
-use Rattle.std.proofs.lemmas.Option.{slice_get_within}
+use Rattle.std.proofs.lemmas.List.{take-append-le, take_all, length_push}
+use Rattle.std.proofs.lemmas.Option.{slice_get_within, slice_get-get_or, get_or_from_slice_get}
 use Rattle.md_log.specs.declared.error.LineFault.{LineFault}
 use Rattle.md_log.specs.declared.line.Line.{Line}
 use Rattle.md_log.specs.declared.line.Step.{Step}
@@ -12,7 +12,7 @@ use Rattle.md_text.specs.Bind.{◌>>=◌}
 use Rattle.md_text.specs.Words.{is_passed_over}
 use Rattle.md_law.specs.History.{History, next}
 use Rattle.md_monitor.specs.Finds.{BreaksOwed}
-use Rattle.md_judge.specs.Logs.{Log, Numbered, has_begun, with_text, with_line}
+use Rattle.md_judge.specs.Logs.{Log, Numbered, empty_log, has_begun, with_text, with_line}
 use Rattle.md_judge.specs.Verdict.{HasNoTicks}
 use Rattle.md_judge.proofs.Longer.{same-step}
 use Rattle.md_judge.proofs.Verdicts.{last-is, first-are, begun-after}
@@ -272,3 +272,20 @@ pub held : (l : Log) (s : Session) → HasRead l s → s.has_begun ≡ false →
 held l s read begun =
     let none = no-steps l.steps (sym read.begun ∙ begun) in
     subst (λ xs. Holds (fold going (beginning l) (take (length xs) xs)) s.watch) none read.holds
+
+-- ---- no line
+
+none-at : {A : Type 0} (k : ℕ) (x : A) → slice_get [] k ≡ Some x → ⊥
+none-at k x is = cc is
+
+pub nothing-read : (s : Session) → s.folders ≡ [] → s.has_begun ≡ false → Holds (beginning empty_log) s.watch → s.findings.items ≡ [] → HasRead empty_log s
+nothing-read s folders begun holds none = record {
+  folders = folders;
+  begun = begun;
+  plain = λ k x at. absurd (none-at k x at);
+  holds = holds;
+  found = λ n c who. (
+    λ among. absurd (none-at among.0 among.1 (subst (λ fs. slice_get fs among.0 ≡ Some among.1) none among.2)),
+    λ is. absurd (none-at is.0 (record { number = n; step = is.1 }) is.2),
+  );
+}

@@ -16,11 +16,11 @@ use Rattle.md_log.specs.declared.line.Deed.TheVariants as deed
 use Rattle.md_log.specs.declared.line.Naming.TheVariants as naming
 use Rattle.md_log.specs.declared.line.Reply.{Reply}
 use Rattle.md_log.specs.declared.line.Reply.TheVariants as reply
-use Rattle.md_law.specs.History.{after_call}
+use Rattle.md_law.specs.History.{ask_at, after_call}
 use Rattle.md_monitor.specs.Changes.{is_file}
 use Rattle.md_monitor.specs.Files.{made_by}
 use Rattle.md_judge.specs.Filed.{HasFiles}
-use Rattle.md_judge.proofs.Afters.{at-files, between-files}
+use Rattle.md_judge.proofs.Afters.{after-cases, at-files, between-files}
 use Rattle.md_judge.proofs.Stored.{unlinked-file, between-file, written-stamp, written-other, made-stamp, made-other}
 use Rattle.md_owed.specs.declared.files.FileKept.{FileKept}
 use Rattle.md_owed.specs.Files.{Adds, Changes, made_by as made, stamped, maker_of, maker_in, stamp_of, stamp_in}
@@ -165,4 +165,6 @@ module _ (now : ℕ) (actor : List ℕ) (old new : List FileKept) where
     touched-stamps filed (call.At deed.Write p reply.Ok) does stamps = wrote-stamps filed p does stamps
     touched-stamps filed (call.At deed.Unlink p reply.Ok) same stamps = same-stamps _ same (λ n f is. unlinked-file p s n f is) stamps
     touched-stamps filed (call.Between n o q reply.Ok) same stamps = same-stamps _ same (λ k f is. between-file n o q s k f is) stamps
+    touched-stamps filed (call.At deed.Flush p r) same stamps = same-stamps _ same (after-cases r (ask_at deed.Flush p now) s
+        (λ t. (n : ℕ) (f : File) → file_by t.files n ≡ Some f → file_by s.files n ≡ Some f) (λ n f is. is) (λ n f is. is)) stamps
     touched-stamps filed c same stamps = same-stamps s same (λ n f is. is) stamps

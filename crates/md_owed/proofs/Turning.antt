@@ -13,7 +13,7 @@ use Rattle.md_law.specs.History.{after_call}
 use Rattle.md_monitor.specs.Changes.{Change, no_change, change_of, naming_change, turned_by, with_file, is_file}
 use Rattle.md_monitor.proofs.Changing.{Leads, led}
 use Rattle.md_monitor.proofs.Tests.{file-is}
-use Rattle.md_owed.specs.Changes.{Turn, still, naming_by, turn_by, after_turn, taking, naming as naming_after}
+use Rattle.md_owed.specs.Changes.{Turn, still, naming_by, turn_by, after_turn, with_taken, with_named}
 use Rattle.md_owed.proofs.Keys.{path-is}
 
 -- a change of the monitor's, as a turn
@@ -48,7 +48,7 @@ module _ (c : Change) (before after : Path → Option ℕ) (leads : Leads c befo
       by None ia (Some m) ib = absurd (untaken m ((leads.taken q m).1 (ib, ia)))
       by (Some n) ia b ib = by_file n ia (is_file (before q) n) refl
 
-  by_taken : (q : Path) → ((n : ℕ) → c.named ≡ Some (q, n) → ⊥) → (o : Option (Path × ℕ)) → c.taken ≡ o → after q ≡ taking o before q
+  by_taken : (q : Path) → ((n : ℕ) → c.named ≡ Some (q, n) → ⊥) → (o : Option (Path × ℕ)) → c.taken ≡ o → after q ≡ with_taken o before q
   by_taken q unnamed None is = stays q unnamed (λ n some. cc)
   by_taken q unnamed (Some e) is = by (eq_by_cmp path_cmp q e.0) refl
     where
@@ -58,11 +58,11 @@ module _ (c : Change) (before after : Path → Option ℕ) (leads : Leads c befo
           let one : Some e ≡ Some (q, n) = sym is ∙ some in
           let path : q ≡ e.0 = cc one in let t = (path-is q e.0).1 path in cc)
 
-  by_named : (q : Path) → (o : Option (Path × ℕ)) → c.named ≡ o → after q ≡ naming_after o (taking c.taken before) q
+  by_named : (q : Path) → (o : Option (Path × ℕ)) → c.named ≡ o → after q ≡ with_named o (with_taken c.taken before) q
   by_named q None is = by_taken q (λ n some. cc) c.taken refl
   by_named q (Some e) is = by (eq_by_cmp path_cmp q e.0) refl
     where
-      by : (b : Bool) → eq_by_cmp path_cmp q e.0 ≡ b → after q ≡ cond b (Some e.1) (taking c.taken before q)
+      by : (b : Bool) → eq_by_cmp path_cmp q e.0 ≡ b → after q ≡ cond b (Some e.1) (with_taken c.taken before q)
       by true same = ((leads.named q e.1).0 (is ∙ ap (λ (w : Path). Some (w, e.1)) (sym ((path-is q e.0).0 same)))).0
       by false other = by_taken q (λ n some.
           let one : Some e ≡ Some (q, n) = sym is ∙ some in

@@ -66,14 +66,14 @@ after_taken p before q = if eq_by_cmp path_cmp q p then None else before q
 abbrev pub after_named : Path → ℕ → (Path → Option ℕ) → Path → Option ℕ
 after_named p n before q = if eq_by_cmp path_cmp q p then Some n else before q
 
-abbrev pub taking : Option (Path × ℕ) → (Path → Option ℕ) → Path → Option ℕ
-taking None before q = before q
-taking (Some e) before q = after_taken e.0 before q
+abbrev pub with_taken : Option (Path × ℕ) → (Path → Option ℕ) → Path → Option ℕ
+with_taken None before q = before q
+with_taken (Some e) before q = after_taken e.0 before q
 
-abbrev pub naming : Option (Path × ℕ) → (Path → Option ℕ) → Path → Option ℕ
-naming None before q = before q
-naming (Some e) before q = after_named e.0 e.1 before q
+abbrev pub with_named : Option (Path × ℕ) → (Path → Option ℕ) → Path → Option ℕ
+with_named None before q = before q
+with_named (Some e) before q = after_named e.0 e.1 before q
 
 -- what paths name after a turn
 abbrev pub after_turn : Turn → (Path → Option ℕ) → Path → Option ℕ
-after_turn t before q = naming t.named (taking t.taken before) q
+after_turn t before q = with_named t.named (with_taken t.taken before) q

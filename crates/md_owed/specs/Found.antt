@@ -35,7 +35,7 @@ adds t = is_some_and t.named (λ e. is_none t.turned && is_message e.0)
 module _ (w : Watch) where
   abbrev pub is_early : List ℕ → Option (Path × ℕ) → Bool
   is_early actor named = is_some_and named (λ e.
-      is_tmp e.0.place && not (is_maker_in w.files.all.items e.1 actor) && nat_lt (w.now - stamp_in w.files.all.items e.1) 129600)
+      is_tmp e.0.place && not (is_maker_in w.files.all.items e.1 actor) && nat_lt (w.clock - stamp_in w.files.all.items e.1) 129600)
 
   abbrev pub is_mixed : List ℕ → Option ℕ → Bool
   is_mixed actor file = is_some_and file (λ n. not (is_maker_in w.files.all.items n actor))
@@ -58,7 +58,7 @@ module _ (w : Watch) where
   is_made_again named = is_some_and named (λ e. is_tmp e.0.place && named_other (path_in w.drafts e.0.folder e.0.name) e.1)
 
   abbrev pub is_late : Option ℕ → Bool
-  is_late file = is_some_and file (λ n. nat_le 129600 (w.now - stamp_in w.files.all.items n))
+  is_late file = is_some_and file (λ n. nat_le 129600 (w.clock - stamp_in w.files.all.items n))
 
   abbrev pub is_second : Option (Path × ℕ) → Bool
   is_second named = is_some_and named (λ e. is_some_and (message_of e.0) (λ u. nat_lt 1 (count_in_folder w.messages e.0.folder u)))

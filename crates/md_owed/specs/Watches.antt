@@ -53,7 +53,7 @@ AreDrafts kept d = (p : Path) → is_tmp p.place ≡ true → drafts.path_in d p
 
 -- What a watch keeps is so of these directories and this clock, and is what the monitor keeps.
 pub record Keeps (s : State) (now : ℕ) (kept : ℕ → FileKept) (told : MessagesKept) (w : Watch) : Type 0 where
-  pub now : w.now ≡ now
+  pub clock : w.clock ≡ now
   pub paths : (p : Path) → file_in w.paths p ≡ file_at s p
   pub filed : HasFiles s
   pub files : AreFiles s kept w.files.all.items
@@ -92,14 +92,14 @@ touching file_at now actor c old new = new ≡ old
 
 -- nothing but files is touched
 pub record Touches (x : Step) (old new : Watch) : Type 0 where
-  pub now : new.now ≡ old.now
+  pub clock : new.clock ≡ old.clock
   pub paths : new.paths ≡ old.paths
-  pub files : touching (file_in old.paths) old.now x.actor x.call old.files.all.items new.files.all.items
+  pub files : touching (file_in old.paths) old.clock x.actor x.call old.files.all.items new.files.all.items
   pub messages : new.messages ≡ old.messages
   pub drafts : new.drafts ≡ old.drafts
 
 pub record Follows (t : Turn) (old new : Watch) : Type 0 where
-  pub now : new.now ≡ old.now
+  pub clock : new.clock ≡ old.clock
   pub paths : (q : Path) → file_in new.paths q ≡ after_turn t (file_in old.paths) q
   pub files : files.Follows t old.files.all.items new.files.all.items
   pub messages : messages.Follows t old.messages new.messages

@@ -80,7 +80,7 @@ pub(crate) struct Before {
 #[derive(Drop)]
 pub struct Watch {
     alloc: Global,
-    now: u64,
+    clock: u64,
     paths: Paths,
     files: Files,
     messages: Messages,
@@ -94,7 +94,7 @@ impl Watch {
     {
         Watch {
             alloc,
-            now: 0,
+            clock: 0,
             paths: Paths::new(alloc),
             files: Files::new(alloc),
             messages: Messages::new(alloc),
@@ -109,7 +109,7 @@ impl Watch {
         if self.paths.file_at(path).is_some() {
             return Err(LineFault::SamePath);
         }
-        self.now = self.now.max(stamp);
+        self.clock = self.clock.max(stamp);
         let file = self.files.count();
         self.files.make(None, stamp)?;
         self.follow(&added(path, file))?;
@@ -135,7 +135,7 @@ impl Watch {
         ensures holds { (h : History) → Holds h self.old → OnOk result (Holds (next h step.now) self.new) }
         ensures found { (h : History) → Holds h self.old → IfOk result (λ broken. Finds broken (next h step.now)) }
     {
-        self.now = self.now.max(step.moment);
+        self.clock = self.clock.max(step.moment);
         let change = self.paths.change(self.files.count(), &step.call);
         let before = self.before(step, &change);
         self.touch(step)?;
@@ -191,7 +191,7 @@ impl Watch {
                 ..
             } => {
                 let maker = step.actor.again(self.alloc)?;
-                self.files.make(Some(maker), self.now)
+                self.files.make(Some(maker), self.clock)
             }
             Call::At {
                 deed: Deed::Write,
@@ -199,7 +199,7 @@ impl Watch {
                 reply: Reply::Ok,
             } => {
                 if let Some(file) = self.paths.file_at(path) {
-                    self.files.write(file, self.now);
+                    self.files.write(file, self.clock);
                 }
                 Ok(())
             }

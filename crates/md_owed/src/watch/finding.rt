@@ -50,7 +50,7 @@ impl Watch {
             Some((path, file)) => {
                 is_tmp(path.place)
                     && !self.files.is_maker(file, actor)
-                    && self.now.saturating_sub(self.files.stamp(file)) < LONG
+                    && self.clock.saturating_sub(self.files.stamp(file)) < LONG
             }
         }
     }
@@ -130,7 +130,7 @@ impl Watch {
     {
         match file {
             None => false,
-            Some(file) => self.now.saturating_sub(self.files.stamp(file)) >= LONG,
+            Some(file) => self.clock.saturating_sub(self.files.stamp(file)) >= LONG,
         }
     }
 
