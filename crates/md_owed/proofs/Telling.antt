@@ -6,6 +6,7 @@ use Rattle.std.proofs.lemmas.List.{take-append-le, take_all, length_push}
 use Rattle.std.proofs.lemmas.Option.{slice_get_within, slice_get-get_or, get_or_from_slice_get}
 use Rattle.md_log.specs.declared.error.LineFault.{LineFault}
 use Rattle.md_log.specs.declared.line.Line.{Line}
+use Rattle.md_log.specs.declared.line.Line.TheVariants as line
 use Rattle.md_log.specs.declared.line.Step.{Step}
 use Rattle.md_log.specs.Lines.{line_of}
 use Rattle.md_text.specs.Bind.{◌>>=◌}
@@ -23,7 +24,7 @@ use Rattle.md_owed.specs.declared.session.Session.{Session}
 use Rattle.md_owed.specs.declared.watch.Broken.{Broken}
 use Rattle.md_owed.specs.Clauses.{IsBroken, meant}
 use Rattle.md_owed.specs.Watches.{Holds, Finds, beginning}
-use Rattle.md_owed.specs.Sessions.{history, IsFinding, IsAmong, HasRead, Reads, AddsFinding, with_step}
+use Rattle.md_owed.specs.Sessions.{history, IsFinding, IsAmong, HasRead, Reads, IsHead, AddsFinding, AddsWhere}
 
 fold-push : {A B : Type 0} (f : A → B → A) (a : A) (xs : List B) (y : B) → fold f a (xs ++ y ∷ []) ≡ f (fold f a xs) y
 fold-push f a [] y = refl
@@ -135,38 +136,17 @@ adds-none number actor broken items s t same n c who = (
   ],
 )
 
--- a clause that is not broken is passed over
-pub adds-over : (number : ℕ) (actor : List ℕ) (broken : Broken) (items : List OwedClause) (i : ℕ) (d : OwedClause) (s t : Session) → i < length items
-    → (IsBroken broken (get_or items i d) → ⊥) → Adds number actor broken items i s t → Adds number actor broken items (i + 1) s t
-adds-over number actor broken items i d s t within whole adds n c who = (
-  λ among. elim ((adds n c who).0 among) [
-    | inl was ↦ inl was
-    | inr is ↦ let low = is.2.0.1 in inr (is.0, is.1, ((is.2.0.0, omega (arith, low), is.2.0.2), is.2.1))
-  ],
-  λ some. elim some [
-    | inl was ↦ (adds n c who).1 (inl was)
-    | inr is ↦ elim (cases_lt is.2.0.0 i) [
-      | inl low ↦ (adds n c who).1 (inr (is.0, is.1, ((is.2.0.0, low, is.2.0.2), is.2.1)))
-      | inr high ↦
-          let below : is.2.0.0 < i + 1 = is.2.0.1 in
-          let last : is.2.0.0 ≡ i = omega (arith, below, high) in
-          let at : slice_get items i ≡ Some c = subst (λ k. slice_get items k ≡ Some c) last is.2.0.2 in
-          absurd (whole (subst (IsBroken broken) (sym (get_or_from_slice_get items i c d at)) is.2.1))
-    ]
-  ],
-)
-
--- a clause that is broken is added
+-- one more clause is passed
 pub adds-next : (number : ℕ) (actor : List ℕ) (broken : Broken) (items : List OwedClause) (i : ℕ) (d : OwedClause) (s t u : Session) → i < length items
-    → IsBroken broken (get_or items i d) → Adds number actor broken items i s t → AddsFinding number (get_or items i d) actor t u
+    → Adds number actor broken items i s t → AddsWhere (IsBroken broken (get_or items i d)) number (get_or items i d) actor t u
     → Adds number actor broken items (i + 1) s u
-adds-next number actor broken items i d s t u within is-broken adds more n c who = (
+adds-next number actor broken items i d s t u within adds more n c who = (
   λ among. elim ((more.found n c who).0 among) [
     | inl before ↦ elim ((adds n c who).0 before) [
       | inl was ↦ inl was
       | inr is ↦ let low = is.2.0.1 in inr (is.0, is.1, ((is.2.0.0, omega (arith, low), is.2.0.2), is.2.1))
     ]
-    | inr one ↦ inr (one.0, one.2, ((i, omega arith, slice_get-get_or items i d within ∙ ap Some one.1), subst (IsBroken broken) one.1 is-broken))
+    | inr one ↦ inr (one.0, one.2, ((i, omega arith, slice_get-get_or items i d within ∙ ap Some one.1), subst (IsBroken broken) one.1 one.3))
   ],
   λ some. elim some [
     | inl was ↦ (more.found n c who).1 (inl ((adds n c who).1 (inl was)))
@@ -176,7 +156,8 @@ adds-next number actor broken items i d s t u within is-broken adds more n c who
           let below : is.2.0.0 < i + 1 = is.2.0.1 in
           let last : is.2.0.0 ≡ i = omega (arith, below, high) in
           let at : slice_get items i ≡ Some c = subst (λ k. slice_get items k ≡ Some c) last is.2.0.2 in
-          (more.found n c who).1 (inr (is.0, get_or_from_slice_get items i c d at, is.1))
+          let same = get_or_from_slice_get items i c d at in
+          (more.found n c who).1 (inr (is.0, same, is.1, subst (IsBroken broken) (sym same) is.2.1))
     ]
   ],
 )
@@ -289,3 +270,29 @@ nothing-read s folders begun holds none = record {
     λ is. absurd (none-at is.0 (record { number = n; step = is.1 }) is.2),
   );
 }
+
+-- ---- findings where a clause is broken
+
+pub adds-broken : (P : Type 0) (number : ℕ) (c : OwedClause) (actor : List ℕ) (old new : Session) → P → AddsFinding number c actor old new
+    → AddsWhere P number c actor old new
+adds-broken P number c actor old new holds adds = record {
+  folders = adds.folders;
+  begun = adds.begun;
+  watch = adds.watch;
+  found = λ m d who. (
+    λ among. elim ((adds.found m d who).0 among) [ inl was ↦ inl was | inr is ↦ inr (is.0, is.1, is.2, holds) ],
+    λ some. elim some [ inl was ↦ (adds.found m d who).1 (inl was) | inr is ↦ (adds.found m d who).1 (inr (is.0, is.1, is.2)) ],
+  );
+}
+
+pub adds-nothing : (P : Type 0) (number : ℕ) (c : OwedClause) (actor : List ℕ) (s : Session) → (P → ⊥) → AddsWhere P number c actor s s
+adds-nothing P number c actor s whole = record {
+  folders = refl;
+  begun = refl;
+  watch = refl;
+  found = λ m d who. (λ was. inl was, λ some. elim some [ inl was ↦ was | inr is ↦ absurd (whole is.3) ]);
+}
+
+pub is-head : (v : Line) → ((x : Step) → v ≡ line.Step x → ⊥) → IsHead v
+is-head (line.Step x) other = other x refl
+is-head v other = tt

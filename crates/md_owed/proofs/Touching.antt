@@ -4,7 +4,7 @@ use Rattle.std.specs.Option.{option_map}
 use Rattle.std.proofs.lemmas.Bool.{false_from_ne_true}
 use Rattle.std.proofs.lemmas.Bool.Decides.{Decides-eqb}
 use Rattle.std.proofs.lemmas.Option.{slice_get_within}
-use Rattle.md_dirs.specs.Calls.{with_new_file, empty_file, after_append}
+use Rattle.md_dirs.specs.Calls.{with_new_file, empty_file, after_append, after_unlink}
 use Rattle.md_dirs.specs.State.{State, file_at, file_by}
 use Rattle.md_dirs.specs.declared.paths.File.{File}
 use Rattle.md_dirs.specs.declared.paths.Path.{Path}
@@ -16,7 +16,7 @@ use Rattle.md_log.specs.declared.line.Deed.TheVariants as deed
 use Rattle.md_log.specs.declared.line.Naming.TheVariants as naming
 use Rattle.md_log.specs.declared.line.Reply.{Reply}
 use Rattle.md_log.specs.declared.line.Reply.TheVariants as reply
-use Rattle.md_law.specs.History.{ask_at, after_call}
+use Rattle.md_law.specs.History.{ask_at, ask_between, after_call}
 use Rattle.md_monitor.specs.Changes.{is_file}
 use Rattle.md_monitor.specs.Files.{made_by}
 use Rattle.md_judge.specs.Filed.{HasFiles}
@@ -163,8 +163,8 @@ module _ (now : ℕ) (actor : List ℕ) (old new : List FileKept) where
     pub touched-stamps : HasFiles s → (c : Call) → touching (file_at s) now actor c old new → Stamps old s → Stamps new (after_call c now s)
     touched-stamps filed (call.At deed.Create p reply.Ok) does stamps = made-stamps now (Some actor) old new does s count p stamps
     touched-stamps filed (call.At deed.Write p reply.Ok) does stamps = wrote-stamps filed p does stamps
-    touched-stamps filed (call.At deed.Unlink p reply.Ok) same stamps = same-stamps _ same (λ n f is. unlinked-file p s n f is) stamps
-    touched-stamps filed (call.Between n o q reply.Ok) same stamps = same-stamps _ same (λ k f is. between-file n o q s k f is) stamps
-    touched-stamps filed (call.At deed.Flush p r) same stamps = same-stamps _ same (after-cases r (ask_at deed.Flush p now) s
+    touched-stamps filed (call.At deed.Unlink p reply.Ok) same stamps = same-stamps (after_unlink p s) same (λ n f is. unlinked-file p s n f is) stamps
+    touched-stamps filed (call.Between n o q reply.Ok) same stamps = same-stamps ((ask_between n o q).after s) same (λ k f is. between-file n o q s k f is) stamps
+    touched-stamps filed (call.At deed.Flush p r) same stamps = same-stamps (after_call (call.At deed.Flush p r) now s) same (after-cases r (ask_at deed.Flush p now) s
         (λ t. (n : ℕ) (f : File) → file_by t.files n ≡ Some f → file_by s.files n ≡ Some f) (λ n f is. is) (λ n f is. is)) stamps
     touched-stamps filed c same stamps = same-stamps s same (λ n f is. is) stamps

@@ -67,3 +67,11 @@ pub record AddsFinding (number : ℕ) (c : OwedClause) (actor : List ℕ) (old n
   pub watch : new.watch ≡ old.watch
   pub found : (m : ℕ) (d : OwedClause) (who : List ℕ) → IsAmong new.findings.items m d who
       ↔ (IsAmong old.findings.items m d who ⊎ ((number ≡ m) × (c ≡ d) × (actor ≡ who)))
+
+-- it is added where this holds
+pub record AddsWhere (P : Type 0) (number : ℕ) (c : OwedClause) (actor : List ℕ) (old new : Session) : Type 0 where
+  pub folders : new.folders ≡ old.folders
+  pub begun : new.has_begun ≡ old.has_begun
+  pub watch : new.watch ≡ old.watch
+  pub found : (m : ℕ) (d : OwedClause) (who : List ℕ) → IsAmong new.findings.items m d who
+      ↔ (IsAmong old.findings.items m d who ⊎ ((number ≡ m) × (c ≡ d) × (actor ≡ who) × P))

@@ -1,12 +1,14 @@
 //! A log whose lines come one by one, and what its steps break of what is owed.
-ghost use Rattle.std.specs.Prelude.{◌≡◌, ◌≢◌, ◌+◌, ◌↔◌, ◌++◌, ◌∷◌, [], ℕ, List, Ok, OnOk, IfOk};
+ghost use Rattle.std.specs.Prelude.{◌≡◌, ◌≢◌, ◌+◌, ◌<◌, ◌≤◌, ◌↔◌, ◌++◌, ◌∷◌, [], ℕ, List, Ok, true, OnOk, IfOk, codes};
+ghost use Rattle.std.specs.Str.{bytes_eq};
 ghost use Rattle.md_judge.specs.Logs.{Log, log_by, with_line, with_text};
 ghost use Rattle.md_owed.specs.declared.clause.OwedClause.{OwedClause};
-ghost use Rattle.md_owed.specs.Sessions.{HasTaken, HasRead, Reads, IsAmong, IsFinding, IsHead, AddsFinding, with_step};
+ghost use Rattle.md_owed.specs.Clauses.{IsBroken};
+ghost use Rattle.md_owed.specs.Sessions.{HasTaken, HasRead, Reads, IsAmong, IsFinding, IsHead, AddsFinding, AddsWhere, with_step};
 
 use crate::clause::{OWED, OwedClause};
 use crate::fault::{Fault, Why};
-use crate::watch::Watch;
+use crate::watch::{Broken, Watch};
 use md_dirs::Bytes;
 use md_log::{Folders, Line, LineFault, Step, name_folder, read_line};
 use md_text::{cut, is_passed_over};
@@ -54,14 +56,7 @@ impl Session {
         ensures { (texts : List (List ℕ)) → HasTaken texts self.old → OnOk result (HasTaken (texts ++ text.now ∷ []) self.new) }
     {
         let line = next_line(self.lines)?;
-        if line > 1 {
-            match self.take(line, text) {
-                Ok(()) => (),
-                Err(why) => return Err(Fault { line, why }),
-            }
-        } else if text != HEAD {
-            return Err(fault_at(1, LineFault::NoLog));
-        }
+        self.take_line(line, text)?;
         self.lines = line;
         Ok(())
     }
@@ -82,6 +77,23 @@ impl Session {
             → (line : ℕ) (c : OwedClause) (actor : List ℕ) → IsAmong result.now line c actor ↔ IsFinding l line c actor }
     {
         self.findings.as_slice()
+    }
+
+    /// The first line is the head, and leaves the session as it was.
+    fn take_line(&mut self, line: u64, text: &[u8]) -> Result<(), Fault>
+        ensures next { 1 < line → (l : Log) → HasRead l self.old → OnOk result (Reads (with_text l line text.now) self.new) }
+        ensures first { line ≤ 1 → OnOk result ((bytes_eq text.now (codes "maildir_log 1") ≡ true) × (self.new ≡ self.old)) }
+    {
+        if line > 1 {
+            return match self.take(line, text) {
+                Ok(()) => Ok(()),
+                Err(why) => Err(Fault { line, why }),
+            };
+        }
+        if text != HEAD {
+            return Err(fault_at(1, LineFault::NoLog));
+        }
+        Ok(())
     }
 
     fn take(&mut self, number: u64, text: &[u8]) -> Result<(), Why>
@@ -124,11 +136,25 @@ impl Session {
         self.has_begun = true;
         let broken = self.watch.step(step)?;
         for clause in OWED {
-            if broken.has(clause) {
-                self.note(number, clause, step, text)?;
-            }
+            self.note_broken(number, clause, &broken, step, text)?;
         }
         Ok(())
+    }
+
+    fn note_broken(
+        &mut self,
+        line: u64,
+        clause: OwedClause,
+        broken: &Broken,
+        step: &Step,
+        text: &[u8],
+    ) -> Result<(), AllocError>
+        ensures { OnOk result (AddsWhere (IsBroken broken.now clause) line clause step.now.actor self.old self.new) }
+    {
+        if !broken.has(clause) {
+            return Ok(());
+        }
+        self.note(line, clause, step, text)
     }
 
     fn note(

@@ -8,7 +8,7 @@ use Rattle.md_judge.proofs.Verdicts.{file-rest, also-rest}
 use Rattle.md_owed.specs.declared.session.Session.{Session}
 use Rattle.md_owed.specs.Sessions.{Reads}
 use Rattle.md_owed.proofs.Beginning.{allowed-held}
-use Rattle.md_owed.proofs.Heading.{folder-reads, path-reads}
+use Rattle.md_owed.proofs.Heading.{folder-reads, path-reads, allow-reads}
 use Rattle.md_owed.proofs.Keys.{then}
 use Rattle.md_owed.proofs.Telling.{head-read, held}
 use Rattle.md_owed.proofs.session.Session.take_head.Goals as goal
@@ -40,4 +40,6 @@ returns-in-Also c = λ l number read head.
     (c.put_name.ensures l (held l s read c.if-self.false))
 
 pub returns-in-Allow : goal.returns-in-Allow
-returns-in-Allow c = ?
+returns-in-Allow c = λ l number read head.
+    let s = c.args.self.now in
+    subst (λ (x : Line). Reads (with_line l number x) s) (sym c.in-Allow.is) (allow-reads l s s c.in-Allow.clause number read c.if-self.false refl)

@@ -7,5 +7,5 @@ invariant-loop-clause l = record {
   folders : l.self.folders ≡ l.initial.self.folders;
   begun : l.self.has_begun ≡ l.initial.self.has_begun;
   watch : l.self.watch ≡ l.initial.self.watch;
-  found : Adds l.number l.step.now.actor l.broken l.clause-items l.clause-index l.initial.self l.self;
+  found : Adds l.number l.step.actor l.broken l.clause-items l.clause-index l.initial.self l.self;
 }
