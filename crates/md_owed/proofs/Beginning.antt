@@ -101,11 +101,11 @@ put-file l p stamp w mid new holds free clock paths does sameMessages sameDrafts
   record l { opening = s'; clock = max l.clock stamp },
   ap (λ o. require (not (is_some o)) SamePath >>= (λ u. Ok (record l { opening = s'; clock = max l.clock stamp }))) none,
   turned (adding p number) s s' (kept_first s) (kept_first s') (messages_first s) (messages_first s') leads
-  (max l.clock stamp) mid new (clock ∙ ap (λ k. max k stamp) holds.clock) (λ q. ap (λ (ps : _). file_in ps q) paths ∙ holds.paths q)
-  touched
-  (subst (λ m. AreMessages s (messages_first s) m) (sym sameMessages) holds.messages)
-  (subst (λ d. AreDrafts (messages_first s) d) (sym sameDrafts) holds.drafts)
-  (subst (λ k. Follows (adding p k) mid new) holds.files.count follows),
+      (max l.clock stamp) mid new (clock ∙ ap (λ k. max k stamp) holds.clock) (λ q. ap (λ (ps : _). file_in ps q) paths ∙ holds.paths q)
+      touched
+      (subst (λ m. AreMessages s (messages_first s) m) (sym sameMessages) holds.messages)
+      (subst (λ d. AreDrafts (messages_first s) d) (sym sameDrafts) holds.drafts)
+      (subst (λ k. Follows (adding p k) mid new) holds.files.count follows),
 )
   where
     s : State
@@ -142,7 +142,7 @@ put-name l p old n w new holds free named follows = (
   record l { opening = s' },
   (λ i. require (not (is_some (none i))) SamePath >>= (λ u. require (is_some (at i)) NoSuchPath >>= (λ v. Ok (record l { opening = with_path p s (at i) })))),
   turned (adding p n) s s' (kept_first s) (kept_first s') (messages_first s) (messages_first s')
-  (adds s s' p n none refl (has-named s p n holds.filed (holds.filed old n at))) l.clock w new holds.clock holds.paths touched holds.messages holds.drafts follows,
+      (adds s s' p n none refl (has-named s p n holds.filed (holds.filed old n at))) l.clock w new holds.clock holds.paths touched holds.messages holds.drafts follows,
 )
   where
     s : State

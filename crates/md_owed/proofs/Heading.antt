@@ -22,12 +22,11 @@ module _ (l : Log) (s t : Session) where
   folder-reads name (Err e) read begun same watch found gives = tt
   folder-reads name (Ok x) read begun same watch found gives =
       let l' : Log = record l { folders = t.folders; opening = record l.opening { folders = length t.folders } } in
-      let is : with_folder l.folders name ≡ Ok t.folders = ap (λ fs. with_folder fs name) (sym read.folders) ∙ gives in
-      (
+      let is : with_folder l.folders name ≡ Ok t.folders = ap (λ fs. with_folder fs name) (sym read.folders) ∙ gives in (
         l',
         ap (λ (r : Result (List (List ℕ)) LineFault). r >>= (λ fs. Ok (record l { folders = fs; opening = record l.opening { folders = length fs } }))) is,
         head-read l l' s t read begun refl refl same
-        (subst (λ w. Holds (beginning l') w) (sym watch) (refoldered l t.folders (length t.folders) s.watch (held l s read begun))) found,
+            (subst (λ w. Holds (beginning l') w) (sym watch) (refoldered l t.folders (length t.folders) s.watch (held l s read begun))) found,
       )
 
   -- a path is put
@@ -46,6 +45,6 @@ module _ (l : Log) (s t : Session) where
     record l { allowed = c ∷ l.allowed },
     refl,
     subst (λ (v : Session). HasRead (record l { allowed = c ∷ l.allowed }) v) (sym same)
-    (head-read l (record l { allowed = c ∷ l.allowed }) s s read begun refl read.folders refl
-    (allowed-held l (c ∷ l.allowed) s.watch (held l s read begun)) refl),
+        (head-read l (record l { allowed = c ∷ l.allowed }) s s read begun refl read.folders refl
+        (allowed-held l (c ∷ l.allowed) s.watch (held l s read begun)) refl),
   )

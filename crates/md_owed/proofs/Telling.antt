@@ -1,5 +1,5 @@
 -- What a session has read and found, as a log gets longer.
-use Rattle.std.proofs.Common.{ℕ, suc, ◌≡◌, ◌<◌, ◌≤◌, ◌+◌, ◌↔◌, ◌⊎◌, inl, inr, List, [], ◌∷◌, ◌++◌, Option, Some, None, Bool, true, false, nat_lt, slice_get, get_or, length, Result, Ok, refl, sym, ap, subst, ◌∙◌, arith}
+use Rattle.std.proofs.Common.{ℕ, suc, ◌≡◌, ◌<◌, ◌≤◌, ◌+◌, ◌↔◌, ◌⊎◌, inl, inr, List, [], ◌∷◌, ◌++◌, Option, Some, None, Bool, true, false, not, nat_lt, slice_get, get_or, length, Result, Ok, refl, sym, ap, subst, ◌∙◌, arith}
 use Rattle.std.specs.Prelude.{fold, take, if◌then◌else◌}
 use Rattle.std.proofs.lemmas.Bool.{cases_lt, lt-ltb}
 use Rattle.std.proofs.lemmas.List.{take-append-le, take_all, length_push}
@@ -70,16 +70,28 @@ module _ (l : Log) (z : Numbered) where
   finding-longer n c who = (
     λ (i, x, at, by, breaks). elim (one-more l.steps z i (record { number = n; step = x }) at) [
       | inl was ↦ let low = was.0 in inl (i, x, was.1, by, subst (BreaksOwed (meant c)) (history-same (suc i) (omega (arith, low))) breaks)
-      | inr is ↦ inr (ap (λ (m : Numbered). m.number) is.1, ap (λ (m : Numbered). m.step.actor) is.1 ∙ by,
-          subst (BreaksOwed (meant c)) (ap (λ k. history longer (suc k)) is.0 ∙ history-next) breaks)
+      | inr is ↦ inr (
+        ap (λ (m : Numbered). m.number) is.1,
+        ap (λ (m : Numbered). m.step.actor) is.1 ∙ by,
+        subst (BreaksOwed (meant c)) (ap (λ k. history longer (suc k)) is.0 ∙ history-next) breaks,
+      )
     ],
     λ some. elim some [
       | inl was ↦
-          let low = slice_get_within l.steps was.0 (record { number = n; step = was.1 }) was.2 in
-          (was.0, was.1, first-are l.steps z was.0 (record { number = n; step = was.1 }) was.2, was.3,
-          subst (BreaksOwed (meant c)) (sym (history-same (suc was.0) (omega (arith, low)))) was.4)
-      | inr is ↦ (length l.steps, z.step, last-is l.steps z ∙ ap (λ k. Some (record z { number = k })) is.0, is.1,
-          subst (BreaksOwed (meant c)) (sym history-next) is.2)
+          let low = slice_get_within l.steps was.0 (record { number = n; step = was.1 }) was.2 in (
+            was.0,
+            was.1,
+            first-are l.steps z was.0 (record { number = n; step = was.1 }) was.2,
+            was.3,
+            subst (BreaksOwed (meant c)) (sym (history-same (suc was.0) (omega (arith, low)))) was.4,
+          )
+      | inr is ↦ (
+        length l.steps,
+        z.step,
+        last-is l.steps z ∙ ap (λ k. Some (record z { number = k })) is.0,
+        is.1,
+        subst (BreaksOwed (meant c)) (sym history-next) is.2,
+      )
     ],
   )
 
@@ -162,7 +174,6 @@ adds-next number actor broken items i d s t u within adds more n c who = (
   ],
 )
 
-
 listed : (c : OwedClause) → (k : ℕ) × (slice_get owed k ≡ Some c)
 listed TwoNames = (0, refl)
 listed InTwoFolders = (1, refl)
@@ -215,8 +226,8 @@ unfolding with_text
 reads-line l number text s t line over read has reads = (
   reads.0,
   ap (λ b. if b then Ok l else (line_of l.folders (has_begun l) text >>= (λ line. with_line l number line))) over
-  ∙ ap (λ (r : Result Line LineFault). r >>= (λ line. with_line l number line)) (sym (λ i. line_of (read.folders i) (read.begun i) text) ∙ has)
-  ∙ reads.1,
+      ∙ ap (λ (r : Result Line LineFault). r >>= (λ line. with_line l number line)) (sym (λ i. line_of (read.folders i) (read.begun i) text) ∙ has)
+      ∙ reads.1,
   reads.2,
 )
 
@@ -273,6 +284,10 @@ nothing-read s folders begun holds none = record {
 
 -- ---- findings where a clause is broken
 
+pub held-so : (b : Bool) → not b ≡ false → b ≡ true
+held-so true is = refl
+held-so false is = absurd (cc is)
+
 pub adds-broken : (P : Type 0) (number : ℕ) (c : OwedClause) (actor : List ℕ) (old new : Session) → P → AddsFinding number c actor old new
     → AddsWhere P number c actor old new
 adds-broken P number c actor old new holds adds = record {
@@ -283,14 +298,6 @@ adds-broken P number c actor old new holds adds = record {
     λ among. elim ((adds.found m d who).0 among) [ inl was ↦ inl was | inr is ↦ inr (is.0, is.1, is.2, holds) ],
     λ some. elim some [ inl was ↦ (adds.found m d who).1 (inl was) | inr is ↦ (adds.found m d who).1 (inr (is.0, is.1, is.2)) ],
   );
-}
-
-pub adds-nothing : (P : Type 0) (number : ℕ) (c : OwedClause) (actor : List ℕ) (s : Session) → (P → ⊥) → AddsWhere P number c actor s s
-adds-nothing P number c actor s whole = record {
-  folders = refl;
-  begun = refl;
-  watch = refl;
-  found = λ m d who. (λ was. inl was, λ some. elim some [ inl was ↦ was | inr is ↦ absurd (whole is.3) ]);
 }
 
 pub is-head : (v : Line) → ((x : Step) → v ≡ line.Step x → ⊥) → IsHead v

@@ -83,7 +83,6 @@ module _ (now : ℕ) (actor : List ℕ) (old new : List FileKept) where
 
   module _ {A : Type 0} (part : Option FileKept → A) (makes : part (Some (made (Some actor) now)) ≡ part None)
       (keeps : (f : FileKept) → part (Some (stamped now f)) ≡ part (Some f)) where
-
     changed : (b : Bool) (o : Option FileKept) → part (cond b (option_map (stamped now) o) o) ≡ part o
     changed true None = refl
     changed true (Some f) = keeps f

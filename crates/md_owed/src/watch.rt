@@ -15,8 +15,8 @@ use crate::drafts::Drafts;
 use crate::files::Files;
 use crate::messages::Messages;
 use crate::paths::Paths;
-use md_dirs::Path;
 use finding::is_from_new;
+use md_dirs::Path;
 use md_log::{Call, Deed, LineFault, Reply, Step};
 use std::alloc::{AllocError, Global};
 

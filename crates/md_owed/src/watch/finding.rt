@@ -109,9 +109,7 @@ impl Watch {
         };
         match message_of(path) {
             None => false,
-            Some(unique) => {
-                self.messages.was(unique) && !self.messages.was_file(unique, file)
-            }
+            Some(unique) => { self.messages.was(unique) && !self.messages.was_file(unique, file) }
         }
     }
 
