@@ -1,5 +1,5 @@
 -- What a watch keeps follows the lines of the beginning.
-use Rattle.std.proofs.Common.{ℕ, ◌≡◌, ◌+◌, ◌==◌, ◌&&◌, ◌||◌, cond, nat_lt, List, [], Option, Some, None, IsSome, Bool, true, false, not, is_some, length, Result, Ok, refl, sym, ap, subst, ◌∙◌, arith}
+use Rattle.std.proofs.Common.{ℕ, ◌≡◌, ◌+◌, ◌==◌, ◌&&◌, ◌||◌, cond, nat_lt, List, [], Option, Some, None, Bool, true, false, not, is_some, length, Ok, refl, sym, ap, subst, ◌∙◌, arith}
 use Rattle.std.specs.Prelude.{max, unwrap_or}
 use Rattle.std.specs.Ordering.{eq_by_cmp}
 use Rattle.std.specs.List.{count_by}
@@ -11,18 +11,17 @@ use Rattle.std.proofs.lemmas.Option.{some_pair_parts}
 use Rattle.lists.proofs.Maps as maps
 use Rattle.md_dirs.specs.Calls.{with_new_file, with_path, empty_file}
 use Rattle.md_dirs.specs.Path.{path_cmp}
-use Rattle.md_dirs.specs.State.{State, bare, file_at, file_by}
-use Rattle.md_dirs.specs.declared.paths.File.{File}
+use Rattle.md_dirs.specs.State.{State, bare, file_at}
 use Rattle.md_dirs.specs.declared.paths.Path.{Path}
 use Rattle.md_dirs.proofs.PathOrder.{path_total, path_exact}
 use Rattle.md_log.specs.declared.clause.Clause.{Clause}
 use Rattle.md_log.specs.declared.error.LineFault.TheVariants.{SamePath, NoSuchPath}
 use Rattle.md_text.specs.Bind.{◌>>=◌, require}
-use Rattle.md_law.specs.History.{Moment, opening, moment}
+use Rattle.md_law.specs.History.{moment}
 use Rattle.md_law.specs.Messages.{is_message, is_tmp}
 use Rattle.md_monitor.specs.Changes.{with_file}
-use Rattle.md_monitor.specs.Files.{FileKept, is_some_and, is_cur_message, count_where, kept_first, files_kept}
-use Rattle.md_monitor.specs.Messages.{PathKept, no_path, path_after, path_named, path_first, messages_first, messages_kept, is_of, is_of_any}
+use Rattle.md_monitor.specs.Files.{is_some_and, is_cur_message, count_where, kept_first, files_kept}
+use Rattle.md_monitor.specs.Messages.{PathKept, no_path, path_after, path_named, messages_first, messages_kept, is_of, is_of_any}
 use Rattle.md_monitor.proofs.Recounting.{put-count}
 use Rattle.md_judge.specs.Filed.{HasFiles}
 use Rattle.md_judge.specs.Logs.{Log, empty_log, with_file_line, with_also_line}
@@ -32,7 +31,7 @@ use Rattle.md_owed.specs.Changes.{adding, file_in}
 use Rattle.md_owed.specs.Files.{Adds, made_by, maker_of, times_of, maker_in, was_cur_in, was_seen_in, times_in}
 use Rattle.md_owed.specs.Messages as messages
 use Rattle.md_owed.specs.Drafts as drafts
-use Rattle.md_owed.specs.Watches.{AreFiles, AreMessages, AreDrafts, Keeps, Holds, Begins, Follows, beginning}
+use Rattle.md_owed.specs.Watches.{AreMessages, AreDrafts, Holds, Begins, Follows, beginning}
 use Rattle.md_owed.proofs.Counting.{one}
 use Rattle.md_owed.proofs.Keeping.{Leads, AreTouched, turned}
 use Rattle.md_owed.proofs.Keys.{path-is}

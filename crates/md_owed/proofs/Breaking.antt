@@ -1,18 +1,16 @@
 -- What a watch finds is what the monitor finds.
-use Rattle.std.proofs.Common.{ℕ, ◌≡◌, ◌↔◌, Bool, true, refl, sym, ap, ◌∙◌, length}
+use Rattle.std.proofs.Common.{ℕ, ◌≡◌, sym, ap, ◌∙◌, length}
 use Rattle.std.specs.Prelude.{max}
-use Rattle.md_dirs.specs.State.{file_at}
 use Rattle.md_log.specs.declared.line.Step.{Step}
 use Rattle.md_law.specs.History.{History, next, at, now, moment, after_call}
 use Rattle.md_monitor.specs.Changes.{change_of}
-use Rattle.md_monitor.specs.Files.{is_some_and, is_seen, files_kept}
+use Rattle.md_monitor.specs.Files.{is_seen, files_kept}
 use Rattle.md_monitor.specs.Messages.{messages_kept}
 use Rattle.md_monitor.specs.Judged.{kept_of}
 use Rattle.md_monitor.specs.Finds.{finds_owed}
 use Rattle.md_monitor.proofs.Judging.{owed-is}
 use Rattle.md_owed.specs.declared.clause.OwedClause.{OwedClause}
 use Rattle.md_owed.specs.declared.clause.OwedClause.TheVariants.{TwoNames, InTwoFolders, Mixed, NamedByAnother, CleanedEarly, Rewritten, MovedBack, UsedAgain, MadeAgain, WrittenLate}
-use Rattle.md_owed.specs.declared.watch.Broken.{Broken}
 use Rattle.md_owed.specs.declared.watch.Watch.{Watch}
 use Rattle.md_owed.specs.Changes.{Turn, turn_by, file_in}
 use Rattle.md_owed.specs.Clauses.{is_broken, meant}

@@ -1,5 +1,5 @@
 -- What tables count and note follows what the directories show.
-use Rattle.std.proofs.Common.{ℕ, ◌≡◌, ◌+◌, ◌-◌, ◌==◌, ◌&&◌, ◌||◌, cond, not, List, [], ◌∷◌, Option, Some, None, Bool, true, false, is_some, refl, sym, ap, ◌∙◌, arith}
+use Rattle.std.proofs.Common.{ℕ, ◌≡◌, ◌+◌, ◌-◌, ◌==◌, ◌&&◌, ◌||◌, cond, not, List, [], ◌∷◌, Option, Some, None, Bool, true, false, is_some, refl, ◌∙◌, arith}
 use Rattle.std.specs.Prelude.{unwrap_or}
 use Rattle.std.specs.List.{count_by}
 use Rattle.std.specs.Option.{option_map}
@@ -11,7 +11,7 @@ use Rattle.md_dirs.specs.declared.paths.Path.{Path}
 use Rattle.md_name.specs.Names.{unique_of}
 use Rattle.md_law.specs.Messages.{is_message}
 use Rattle.md_monitor.specs.Files.{is_some_and, count_where}
-use Rattle.md_monitor.specs.Messages.{is_of, is_of_any, paths_of, paths_beside}
+use Rattle.md_monitor.specs.Messages.{is_of_any, paths_of, paths_beside}
 use Rattle.md_owed.specs.Changes.{Turn}
 use Rattle.md_owed.specs.Messages.{come, gone, noted, turning}
 

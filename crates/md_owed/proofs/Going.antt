@@ -1,8 +1,7 @@
 -- What a watch keeps follows a step.
-use Rattle.std.proofs.Common.{ℕ, ◌≡◌, cond, List, Option, Some, Bool, is_some, refl, sym, ap, subst, ◌∙◌, length}
+use Rattle.std.proofs.Common.{ℕ, ◌≡◌, cond, List, Option, Some, refl, sym, ap, subst, ◌∙◌, length}
 use Rattle.std.specs.Prelude.{max}
 use Rattle.md_dirs.specs.State.{State, file_at}
-use Rattle.md_dirs.specs.declared.paths.Path.{Path}
 use Rattle.md_log.specs.declared.line.Step.{Step}
 use Rattle.md_law.specs.History.{History, next, at, now, moment, after_call}
 use Rattle.md_monitor.specs.Changes.{change_of, is_file}
@@ -15,7 +14,7 @@ use Rattle.md_judge.proofs.Stored.{has-call}
 use Rattle.md_owed.specs.declared.files.FileKept.{FileKept as Kept}
 use Rattle.md_owed.specs.declared.watch.Watch.{Watch}
 use Rattle.md_owed.specs.Changes.{Turn, turn_by, file_in}
-use Rattle.md_owed.specs.Files.{times_of, stamp_of, maker_in}
+use Rattle.md_owed.specs.Files.{times_of}
 use Rattle.md_owed.specs.Watches.{AreFiles, AreMessages, AreDrafts, Keeps, Holds, Touches, Follows, touching}
 use Rattle.md_owed.proofs.Turning.{turn, turn-is, paths-after}
 use Rattle.md_owed.proofs.Touching.{touched, touched-maker, touched-count, touched-stamps}

@@ -15,14 +15,14 @@ use Rattle.md_owed.specs.declared.files.FileKept.{FileKept as Kept}
 use Rattle.md_owed.specs.declared.messages.Messages.{Messages}
 use Rattle.md_owed.specs.declared.drafts.Drafts.{Drafts}
 use Rattle.md_owed.specs.declared.watch.Watch.{Watch}
-use Rattle.md_owed.specs.Tables.{value_at, is_key}
+use Rattle.md_owed.specs.Tables.{value_at}
 use Rattle.md_owed.specs.Changes.{Turn, file_in, after_turn, with_taken, with_named}
 use Rattle.md_owed.specs.Files as files
 use Rattle.md_owed.specs.Messages as messages
 use Rattle.md_owed.specs.Drafts as drafts
 use Rattle.md_owed.specs.Watches.{AreFiles, AreMessages, AreDrafts, Keeps, Follows}
 use Rattle.md_owed.proofs.Keys.{draft-is}
-use Rattle.md_owed.proofs.Counting.{one, ones, turning-count, turning-some, noted-some}
+use Rattle.md_owed.proofs.Counting.{one, turning-count, turning-some, noted-some}
 use Rattle.md_owed.proofs.Filing.{turned-maker, turned-stamp, turned-cur, turned-seen, turned-times}
 use Rattle.md_owed.proofs.Touching.{within-some}
 

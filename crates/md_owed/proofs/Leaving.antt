@@ -1,11 +1,8 @@
 -- A path that goes is no longer counted.
-use Rattle.std.proofs.Common.{ℕ, ◌≡◌, ◌-◌, ◌==◌, ◌&&◌, cond, List, Option, Some, Bool, true, false, refl, sym, ap, ◌∙◌}
+use Rattle.std.proofs.Common.{ℕ, ◌≡◌, ◌-◌, ◌==◌, ◌&&◌, cond, List, Option, Some, Bool, true, false, refl, sym, ◌∙◌}
 use Rattle.std.specs.Option.{option_map}
 use Rattle.std.specs.Str.{bytes_eq}
 use Rattle.md_dirs.specs.declared.paths.Path.{Path}
-use Rattle.md_name.specs.Names.{unique_of}
-use Rattle.md_law.specs.Messages.{is_message}
-use Rattle.md_monitor.specs.Messages.{is_of, is_of_any}
 use Rattle.md_owed.specs.declared.messages.Messages.{Messages}
 use Rattle.md_owed.specs.declared.table.Table.{Table}
 use Rattle.md_owed.specs.Changes.{message_of}

@@ -1,6 +1,5 @@
 -- What is found by the tables is what the monitor finds.
-use Rattle.std.proofs.Common.{ℕ, ◌≡◌, ◌+◌, ◌-◌, ◌<◌, ◌&&◌, ◌||◌, ◌==◌, not, cond, nat_lt, nat_le, List, Option, Some, None, IsSome, Bool, true, false, is_some, is_none, slice_get, length, refl, sym, ap, subst, ◌∙◌, arith}
-use Rattle.std.specs.Bool.{Decides}
+use Rattle.std.proofs.Common.{ℕ, ◌≡◌, ◌-◌, ◌&&◌, ◌||◌, ◌==◌, not, cond, nat_lt, nat_le, List, Option, Some, None, IsSome, Bool, true, false, is_some, is_none, length, refl, sym, ap, subst, ◌∙◌, arith}
 use Rattle.std.specs.Option.{option_map}
 use Rattle.std.specs.Str.{bytes_eq}
 use Rattle.std.proofs.lemmas.Bool.Decides.{Decides-eqb, Decides-ltb, Decides-like}
@@ -13,22 +12,21 @@ use Rattle.md_name.specs.Names.{unique_of}
 use Rattle.md_log.specs.declared.line.Call.{Call}
 use Rattle.md_log.specs.declared.line.Call.TheVariants as call
 use Rattle.md_log.specs.declared.line.Deed.TheVariants as deed
-use Rattle.md_log.specs.declared.line.Naming.TheVariants as naming
 use Rattle.md_log.specs.declared.line.Reply.{Reply}
 use Rattle.md_log.specs.declared.line.Reply.TheVariants as reply
 use Rattle.md_log.specs.declared.line.Step.{Step}
 use Rattle.md_law.specs.History.{after_call}
 use Rattle.md_law.specs.Messages.{is_message, is_tmp}
 use Rattle.md_monitor.specs.Changes.{no_change, change_of, naming_change, turned_by, with_file, is_file}
-use Rattle.md_monitor.specs.Files.{FileKept, is_some_and, is_seen, is_new, is_not_found, made_by, written_by as writes_by, kept_after, count_where}
+use Rattle.md_monitor.specs.Files.{FileKept, is_some_and, is_seen, is_new, is_not_found, made_by, written_by as writes_by}
 use Rattle.md_monitor.specs.Messages.{MessagesKept, is_of_any, paths_of, paths_beside, named_other}
 use Rattle.md_monitor.specs.Messages as messages
 use Rattle.md_monitor.specs.Found as files
 use Rattle.md_monitor.proofs.Changing.{led, with_file-is}
 use Rattle.md_judge.specs.Filed.{HasFiles}
 use Rattle.md_owed.specs.declared.watch.Watch.{Watch}
-use Rattle.md_owed.specs.Changes.{Turn, message_of}
-use Rattle.md_owed.specs.Files.{is_maker_in, was_cur_in, was_seen_in, is_seen_in, stamp_in}
+use Rattle.md_owed.specs.Changes.{message_of}
+use Rattle.md_owed.specs.Files.{is_maker_in, is_seen_in, stamp_in}
 use Rattle.md_owed.specs.Messages.{count_in_folder, count_anywhere}
 use Rattle.md_owed.specs.Drafts.{path_in}
 use Rattle.md_owed.specs.Found as found

@@ -1,5 +1,5 @@
 -- What a session has read and found, as a log gets longer.
-use Rattle.std.proofs.Common.{ℕ, suc, ◌≡◌, ◌<◌, ◌≤◌, ◌+◌, ◌↔◌, ◌⊎◌, inl, inr, List, [], ◌∷◌, ◌++◌, Option, Some, None, Bool, true, false, not, nat_lt, slice_get, get_or, length, Result, Ok, refl, sym, ap, subst, ◌∙◌, arith}
+use Rattle.std.proofs.Common.{ℕ, suc, ◌≡◌, ◌<◌, ◌≤◌, ◌+◌, ◌↔◌, ◌⊎◌, inl, inr, List, [], ◌∷◌, ◌++◌, Some, None, true, false, nat_lt, slice_get, get_or, length, Result, Ok, refl, sym, ap, subst, ◌∙◌, arith}
 use Rattle.std.specs.Prelude.{fold, take, if◌then◌else◌}
 use Rattle.std.proofs.lemmas.Bool.{cases_lt, lt-ltb}
 use Rattle.std.proofs.lemmas.List.{take-append-le, take_all, length_push}
@@ -14,12 +14,10 @@ use Rattle.md_text.specs.Words.{is_passed_over}
 use Rattle.md_law.specs.History.{History, next}
 use Rattle.md_monitor.specs.Finds.{BreaksOwed}
 use Rattle.md_judge.specs.Logs.{Log, Numbered, empty_log, has_begun, with_text, with_line}
-use Rattle.md_judge.specs.Verdict.{HasNoTicks}
 use Rattle.md_judge.proofs.Longer.{same-step}
 use Rattle.md_judge.proofs.Verdicts.{last-is, first-are, begun-after}
 use Rattle.md_owed.specs.declared.clause.OwedClause.{OwedClause}
 use Rattle.md_owed.specs.declared.clause.OwedClause.TheVariants.{TwoNames, InTwoFolders, Mixed, NamedByAnother, CleanedEarly, Rewritten, MovedBack, UsedAgain, MadeAgain, WrittenLate}
-use Rattle.md_owed.specs.declared.session.Finding.{Finding}
 use Rattle.md_owed.specs.declared.session.Session.{Session}
 use Rattle.md_owed.specs.declared.watch.Broken.{Broken}
 use Rattle.md_owed.specs.Clauses.{IsBroken, meant}
@@ -283,10 +281,6 @@ nothing-read s folders begun holds none = record {
 }
 
 -- ---- findings where a clause is broken
-
-pub held-so : (b : Bool) → not b ≡ false → b ≡ true
-held-so true is = refl
-held-so false is = absurd (cc is)
 
 pub adds-broken : (P : Type 0) (number : ℕ) (c : OwedClause) (actor : List ℕ) (old new : Session) → P → AddsFinding number c actor old new
     → AddsWhere P number c actor old new

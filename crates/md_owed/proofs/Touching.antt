@@ -1,5 +1,5 @@
 -- What is kept of files follows what a call does to them otherwise than by their paths.
-use Rattle.std.proofs.Common.{ℕ, zero, suc, ◌≡◌, ◌≢◌, ◌<◌, ◌+◌, ◌==◌, cond, List, [], ◌∷◌, ◌++◌, Option, Some, None, IsSome, Bool, true, false, slice_get, length, refl, sym, ap, subst, ◌∙◌, arith}
+use Rattle.std.proofs.Common.{ℕ, zero, suc, ◌≡◌, ◌≢◌, ◌<◌, ◌+◌, ◌==◌, cond, List, [], ◌∷◌, Option, Some, None, IsSome, Bool, true, false, slice_get, length, refl, sym, ap, subst, ◌∙◌, arith}
 use Rattle.std.specs.Option.{option_map}
 use Rattle.std.proofs.lemmas.Bool.{false_from_ne_true}
 use Rattle.std.proofs.lemmas.Bool.Decides.{Decides-eqb}
@@ -11,10 +11,7 @@ use Rattle.md_dirs.specs.declared.paths.Path.{Path}
 use Rattle.md_dirs.proofs.Sound.{by_number, file-within}
 use Rattle.md_log.specs.declared.line.Call.{Call}
 use Rattle.md_log.specs.declared.line.Call.TheVariants as call
-use Rattle.md_log.specs.declared.line.Deed.{Deed}
 use Rattle.md_log.specs.declared.line.Deed.TheVariants as deed
-use Rattle.md_log.specs.declared.line.Naming.TheVariants as naming
-use Rattle.md_log.specs.declared.line.Reply.{Reply}
 use Rattle.md_log.specs.declared.line.Reply.TheVariants as reply
 use Rattle.md_law.specs.History.{ask_at, ask_between, after_call}
 use Rattle.md_monitor.specs.Changes.{is_file}
@@ -23,7 +20,7 @@ use Rattle.md_judge.specs.Filed.{HasFiles}
 use Rattle.md_judge.proofs.Afters.{after-cases, at-files, between-files}
 use Rattle.md_judge.proofs.Stored.{unlinked-file, between-file, written-stamp, written-other, made-stamp, made-other}
 use Rattle.md_owed.specs.declared.files.FileKept.{FileKept}
-use Rattle.md_owed.specs.Files.{Adds, Changes, made_by as made, stamped, maker_of, maker_in, stamp_of, stamp_in}
+use Rattle.md_owed.specs.Files.{Adds, made_by as made, stamped, maker_of, maker_in, stamp_of, stamp_in}
 use Rattle.md_owed.specs.Watches.{touching, writing}
 
 -- past the last there is none

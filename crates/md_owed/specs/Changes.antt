@@ -1,5 +1,5 @@
 -- What a call does to paths, by a function from paths to files and the number of files that were made.
-use Rattle.std.specs.Prelude.{ℕ, Option, Some, None, Bool, List, if◌then◌else◌}
+use Rattle.std.specs.Prelude.{ℕ, Option, Some, None, List, if◌then◌else◌}
 use Rattle.std.specs.Borrow.{Bor}
 use Rattle.std.specs.Option.{option_map}
 use Rattle.std.specs.Ordering.{eq_by_cmp}

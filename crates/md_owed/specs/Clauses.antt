@@ -5,6 +5,7 @@ use Rattle.md_owed.specs.declared.clause.OwedClause.{OwedClause}
 use Rattle.md_owed.specs.declared.clause.OwedClause.TheVariants.{TwoNames, InTwoFolders, Mixed, NamedByAnother, CleanedEarly, Rewritten, MovedBack, UsedAgain, MadeAgain, WrittenLate}
 use Rattle.md_owed.specs.declared.watch.Broken.{Broken}
 
+-- the name of a clause, as docs/LAW.md has it
 abbrev pub name_of : OwedClause → List ℕ
 name_of TwoNames = codes "TwoNames"
 name_of InTwoFolders = codes "InTwoFolders"
@@ -43,5 +44,6 @@ is_broken b UsedAgain = b.used_again
 is_broken b MadeAgain = b.made_again
 is_broken b WrittenLate = b.written_late
 
+-- it is found to break it
 abbrev pub IsBroken : Broken → OwedClause → Type 0
 IsBroken b c = is_broken b c ≡ true

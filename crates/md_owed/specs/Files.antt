@@ -1,7 +1,7 @@
 -- What is kept of files, and how a turn of paths changes it.
 use Rattle.std.specs.Prelude.{ℕ, ◌≡◌, ◌+◌, ◌-◌, ◌==◌, ◌&&◌, ◌||◌, List, Option, Some, None, Bool, true, false, nat_lt, slice_get, length, if◌then◌else◌}
 use Rattle.std.specs.Borrow.{Bor}
-use Rattle.std.specs.Option.{option_map, option_map_or, option_and_then}
+use Rattle.std.specs.Option.{option_map}
 use Rattle.std.specs.Str.{bytes_eq}
 use Rattle.md_dirs.specs.declared.paths.Path.{Path}
 use Rattle.md_law.specs.Messages.{is_message}

@@ -1,7 +1,6 @@
 -- What a watch holds: that what it keeps is what the monitor keeps of a history.
-use Rattle.std.specs.Prelude.{ℕ, ◌≡◌, ◌↔◌, List, Option, Some, None, Bool, true, Result, Ok, length}
+use Rattle.std.specs.Prelude.{ℕ, ◌≡◌, ◌↔◌, List, Option, Some, None, true, Result, Ok, length}
 use Rattle.md_dirs.specs.State.{State, file_at, file_by}
-use Rattle.md_dirs.specs.Calls.{with_new_file, with_path, empty_file}
 use Rattle.md_dirs.specs.declared.paths.Path.{Path}
 use Rattle.md_dirs.specs.declared.paths.File.{File}
 use Rattle.md_log.specs.declared.line.Call.{Call}
@@ -9,7 +8,7 @@ use Rattle.md_log.specs.declared.line.Call.TheVariants as call
 use Rattle.md_log.specs.declared.line.Deed.TheVariants as deed
 use Rattle.md_log.specs.declared.line.Reply.TheVariants as reply
 use Rattle.md_log.specs.declared.line.Step.{Step}
-use Rattle.md_law.specs.History.{History, Moment, opening, next, at, now}
+use Rattle.md_law.specs.History.{History, opening, at, now}
 use Rattle.md_law.specs.Messages.{is_tmp}
 use Rattle.md_monitor.specs.Files.{FileKept, files_kept, count_where, seen_times}
 use Rattle.md_monitor.specs.Messages.{MessagesKept, messages_kept, paths_of, is_of_any}

@@ -1,4 +1,4 @@
-use Rattle.std.proofs.Common.{refl, sym, subst, ◌∙◌}
+use Rattle.std.proofs.Common.{refl, sym, subst}
 use Rattle.md_owed.specs.Files.{lent_as}
 use Rattle.md_owed.specs.Messages.{Goes}
 use Rattle.md_owed.specs.declared.messages.Messages.{Messages}

@@ -1,16 +1,14 @@
-use Rattle.std.proofs.Common.{◌≡◌, ℕ, List, Ok, OnOk, refl, sym, ap, subst, ◌∙◌}
+use Rattle.std.proofs.Common.{ℕ, List, OnOk, refl, sym, subst}
 use Rattle.md_log.specs.Folders.{with_folder}
 use Rattle.md_log.specs.Words.{Gives}
 use Rattle.md_log.specs.declared.line.Line.{Line}
-use Rattle.md_log.specs.declared.line.Line.TheVariants as line
-use Rattle.md_judge.specs.Logs.{Log, with_line}
+use Rattle.md_judge.specs.Logs.{with_line}
 use Rattle.md_judge.proofs.Verdicts.{file-rest, also-rest}
 use Rattle.md_owed.specs.declared.session.Session.{Session}
 use Rattle.md_owed.specs.Sessions.{Reads}
-use Rattle.md_owed.proofs.Beginning.{allowed-held}
 use Rattle.md_owed.proofs.Heading.{folder-reads, path-reads, allow-reads}
 use Rattle.md_owed.proofs.Keys.{then}
-use Rattle.md_owed.proofs.Telling.{head-read, held}
+use Rattle.md_owed.proofs.Telling.{held}
 use Rattle.md_owed.proofs.session.Session.take_head.Goals as goal
 
 pub returns-in-Folder : goal.returns-in-Folder

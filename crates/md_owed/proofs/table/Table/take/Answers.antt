@@ -1,4 +1,4 @@
-use Rattle.std.proofs.Common.{◌≡◌, ℕ, List, Some, None, IfSome, ap, subst, cond, ◌∙◌}
+use Rattle.std.proofs.Common.{◌≡◌, None, IfSome, ap, subst, cond, ◌∙◌}
 use Rattle.indexmap.specs.IndexMap.{Updates}
 use Rattle.md_owed.specs.Tables.{value_at, is_key}
 use Rattle.md_owed.proofs.Keys.{found-key}

@@ -1,4 +1,4 @@
-use Rattle.std.proofs.Common.{◌≡◌, ℕ, refl, sym, ap, subst, ◌∙◌, length}
+use Rattle.std.proofs.Common.{refl, sym, ap, subst, ◌∙◌}
 use Rattle.md_owed.specs.Changes.{Turn, adding}
 use Rattle.md_owed.specs.Watches.{Follows}
 use Rattle.md_owed.specs.declared.watch.Watch.{Watch}

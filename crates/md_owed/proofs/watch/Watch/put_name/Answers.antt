@@ -1,7 +1,6 @@
-use Rattle.std.proofs.Common.{◌≡◌, ℕ, refl, sym, ap, subst, ◌∙◌, length}
-use Rattle.md_owed.specs.Changes.{Turn, adding}
+use Rattle.std.proofs.Common.{sym, subst, ◌∙◌}
+use Rattle.md_owed.specs.Changes.{Turn}
 use Rattle.md_owed.specs.Watches.{Follows}
-use Rattle.md_owed.specs.declared.watch.Watch.{Watch}
 use Rattle.md_owed.proofs.Beginning.{put-name}
 use Rattle.md_owed.proofs.Keys.{none-of}
 use Rattle.md_owed.proofs.watch.Watch.put_name.Goals as goal
