@@ -1,0 +1,14 @@
+use Rattle.std.proofs.Common.{Some, ap, cond, ◌∙◌}
+use Rattle.md_dirs.specs.Index.{directory_number}
+use Rattle.md_owed.specs.Changes.{file_in}
+use Rattle.md_owed.specs.Tables.{is_key}
+use Rattle.md_owed.proofs.Keys.{then, spot-is}
+use Rattle.md_owed.proofs.paths.Paths.put.Goals as goal
+
+pub returns : goal.returns
+returns c = then c.put.result
+    (λ puts q. puts (directory_number q.folder q.place) q.name
+    ∙ (λ i. cond (is_key (c.number_of-number.ensures i, c.as_slice.ensures i) (directory_number q.folder q.place, q.name)) (Some c.args.file)
+    (file_in c.args.self.now q))
+    ∙ ap (λ b. cond b (Some c.args.file) (file_in c.args.self.now q)) (spot-is c.args.path.now q))
+    c.put.ensures

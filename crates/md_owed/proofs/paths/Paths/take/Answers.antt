@@ -1,0 +1,11 @@
+use Rattle.std.proofs.Common.{None, ap, cond, ◌∙◌}
+use Rattle.md_dirs.specs.Index.{directory_number}
+use Rattle.md_owed.specs.Changes.{file_in}
+use Rattle.md_owed.specs.Tables.{is_key}
+use Rattle.md_owed.proofs.Keys.{spot-is}
+use Rattle.md_owed.proofs.paths.Paths.take.Goals as goal
+
+pub returns : goal.returns
+returns c = λ q. c.take.ensures (directory_number q.folder q.place) q.name
+    ∙ (λ i. cond (is_key (c.number_of-number.ensures i, c.as_slice.ensures i) (directory_number q.folder q.place, q.name)) None (file_in c.args.self.now q))
+    ∙ ap (λ b. cond b None (file_in c.args.self.now q)) (spot-is c.args.path.now q)

@@ -1,0 +1,77 @@
+-- What a session has taken in, and what it has found.
+use Rattle.std.specs.Prelude.{ℕ, suc, ◌≡◌, ◌≢◌, ◌↔◌, ◌⊎◌, ◌++◌, ◌∷◌, [], List, Some, Result, Ok, fold, take, length, slice_get}
+use Rattle.md_log.specs.declared.error.LineFault.{LineFault}
+use Rattle.md_log.specs.declared.line.Line.{Line}
+use Rattle.md_log.specs.declared.line.Line.TheVariants as line
+use Rattle.md_log.specs.declared.line.Step.{Step}
+use Rattle.md_law.specs.History.{History, next}
+use Rattle.md_monitor.specs.Finds.{BreaksOwed}
+use Rattle.md_judge.specs.Logs.{Log, Numbered, empty_log, has_begun, log_by}
+use Rattle.md_judge.specs.Verdict.{HasNoTicks}
+use Rattle.md_owed.specs.declared.clause.OwedClause.{OwedClause}
+use Rattle.md_owed.specs.declared.session.Finding.{Finding}
+use Rattle.md_owed.specs.declared.session.Session.{Session}
+use Rattle.md_owed.specs.Clauses.{meant}
+use Rattle.md_owed.specs.Watches.{Holds, beginning}
+
+-- ---- logs as histories
+
+-- the history that a log tells, up to a step
+abbrev pub history : Log → ℕ → History
+history l i = fold (λ h (x : Numbered). next h x.step) (beginning l) (take i l.steps)
+
+-- the step of this line is the actor's, and breaks the clause
+abbrev pub IsFinding : Log → ℕ → OwedClause → List ℕ → Type 0
+IsFinding l number c actor = (i : ℕ) × (x : Step) × (slice_get l.steps i ≡ Some (record { number = number; step = x }))
+    × (x.actor ≡ actor) × BreaksOwed (meant c) (history l (suc i))
+
+-- a finding of this line, this clause and this actor is among these
+abbrev pub IsAmong : List Finding → ℕ → OwedClause → List ℕ → Type 0
+IsAmong found number c actor =
+    (k : ℕ) × (f : Finding) × (slice_get found k ≡ Some f) × (f.line ≡ number) × (f.clause ≡ c) × (f.actor ≡ actor)
+
+-- ---- sessions
+
+-- A session has read this log, in which no step has ticks, and has found what its steps break.
+pub record HasRead (l : Log) (s : Session) : Type 0 where
+  pub folders : s.folders ≡ l.folders
+  pub begun : s.has_begun ≡ has_begun l
+  pub plain : HasNoTicks l
+  pub holds : Holds (history l (length l.steps)) s.watch
+  pub found : (number : ℕ) (c : OwedClause) (actor : List ℕ) → IsAmong s.findings.items number c actor ↔ IsFinding l number c actor
+
+-- a line makes this log of the one before, and the session has read it
+abbrev pub Reads : Result Log LineFault → Session → Type 0
+Reads read s = (l : Log) × (read ≡ Ok l) × HasRead l s
+
+-- A session has taken in these lines. They are a log, of which the first is the head, and it has read that.
+pub record HasTaken (texts : List (List ℕ)) (s : Session) : Type 0 where
+  pub lines : s.lines ≡ length texts
+  pub none : texts ≡ [] → HasRead empty_log s
+  pub read : texts ≢ [] → (l : Log) × (log_by texts ≡ Ok l) × HasRead l s
+
+-- ---- how it goes on
+
+abbrev pub with_step : Log → ℕ → Step → Log
+with_step l number x = record l { steps = l.steps ++ record { number = number; step = x } ∷ [] }
+
+-- a line of the beginning
+abbrev pub IsHead : Line → Type 0
+IsHead (line.Step step) = ⊥
+IsHead other = Unit {0}
+
+-- a finding is added, and nothing else changes
+pub record AddsFinding (number : ℕ) (c : OwedClause) (actor : List ℕ) (old new : Session) : Type 0 where
+  pub folders : new.folders ≡ old.folders
+  pub begun : new.has_begun ≡ old.has_begun
+  pub watch : new.watch ≡ old.watch
+  pub found : (m : ℕ) (d : OwedClause) (who : List ℕ) → IsAmong new.findings.items m d who
+      ↔ (IsAmong old.findings.items m d who ⊎ ((number ≡ m) × (c ≡ d) × (actor ≡ who)))
+
+-- it is added where this holds
+pub record AddsWhere (P : Type 0) (number : ℕ) (c : OwedClause) (actor : List ℕ) (old new : Session) : Type 0 where
+  pub folders : new.folders ≡ old.folders
+  pub begun : new.has_begun ≡ old.has_begun
+  pub watch : new.watch ≡ old.watch
+  pub found : (m : ℕ) (d : OwedClause) (who : List ℕ) → IsAmong new.findings.items m d who
+      ↔ (IsAmong old.findings.items m d who ⊎ ((number ≡ m) × (c ≡ d) × (actor ≡ who) × P))
