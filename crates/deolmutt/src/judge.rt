@@ -2,26 +2,28 @@
 mod fault;
 mod json;
 mod lines;
+mod owed;
+mod page;
+mod relied;
+mod shown;
 mod text;
 mod why;
 mod words;
 
 use crate::failure::Failure;
 use crate::files::open_to_read;
-use crate::output::print;
 use crate::session::{Host, Session};
 use crate::status::Status;
 use crate::trouble::Trouble;
 use fault::Fault;
-use json::push_json;
 use lines::judge_lines;
-use md_judge::Session as Judge;
+use md_judge::{Clause, Session as Judge};
+use owed::try_owed;
+use page::Page;
+use shown::Shown;
 use std::io::Read;
-use text::{push_long, push_short};
-pub(crate) use words::{Form, Judging, read_judging};
-
-// As many bytes are gathered before they are written.
-const PAGE: usize = 65_536;
+use why::why;
+pub(crate) use words::{Form, Judging, Rules, read_judging};
 
 /// Judges the log of a file or of standard input line by line, and prints its findings once it is over, so that nothing is printed of a log
 /// that is refused.
@@ -58,12 +60,25 @@ fn try_judge<R: Host, L: Read + Drop>(
     how: &Judging<'_>,
     log: L,
 ) -> Result<Status, Fault> {
+    match &how.rules {
+        Rules::Law { allowed } => try_law(session, how.form, allowed, log),
+        Rules::Owed(owing) => try_owed(session, how.form, owing, log),
+    }
+}
+
+// Judges a log by the law, but for the clauses that are allowed.
+fn try_law<R: Host, L: Read + Drop>(
+    session: &Session<'_, R>,
+    form: Form,
+    allowed: &[Clause],
+    log: L,
+) -> Result<Status, Fault> {
     let mut judge = Judge::new(session.alloc);
-    for clause in &how.allowed {
+    for clause in allowed {
         judge.allow(*clause);
     }
     judge_lines(session.alloc, &mut judge, log)?;
-    show(session, &judge, how.form)?;
+    show(session, &judge, form)?;
     if judge.findings().is_empty() {
         return Ok(Status::Done);
     }
@@ -72,28 +87,18 @@ fn try_judge<R: Host, L: Read + Drop>(
 
 // Prints the findings.
 fn show<R: Host>(session: &Session<'_, R>, judge: &Judge, form: Form) -> Result<(), Fault> {
-    let alloc = session.alloc;
-    let mut page = Vec::new(alloc);
+    let mut page = Page::new(session.alloc, form);
     for (at, finding) in judge.findings().iter().copied().enumerate() {
-        let pushed = match form {
-            Form::People => push_long(alloc, &mut page, judge, at, finding),
-            Form::Lines => push_short(alloc, &mut page, finding),
-            Form::Json => push_json(alloc, &mut page, judge, at, finding),
+        let (actor, call) = judge.words(at);
+        let shown = Shown {
+            line: finding.line,
+            actor,
+            call,
+            clause: finding.clause.name(),
+            why: why(finding.clause),
+            before: finding.before,
         };
-        if pushed.is_err() {
-            return Err(Fault::no_memory(0));
-        }
-        if page.len() >= PAGE {
-            print_page(session, &page)?;
-            page.clear();
-        }
+        page.put(session, &shown)?;
     }
-    print_page(session, &page)
-}
-
-fn print_page<R: Host>(session: &Session<'_, R>, page: &[u8]) -> Result<(), Fault> {
-    match print(session, page) {
-        Ok(()) => Ok(()),
-        Err(_) => Err(Fault::Write),
-    }
+    page.print(session)
 }

@@ -18,6 +18,7 @@ pub(crate) enum Trouble {
     BadChange,
     BadFolder,
     BadClause,
+    BadCall,
     SameMaildir,
     /// The message can't be had, or is not as the command wants it.
     NotThere,
@@ -62,6 +63,7 @@ impl Trouble {
             | Trouble::BadChange
             | Trouble::BadFolder
             | Trouble::BadClause
+            | Trouble::BadCall
             | Trouble::SameMaildir => Status::Usage,
             Trouble::NotThere
             | Trouble::NotTrashed
@@ -94,6 +96,8 @@ impl Trouble {
             Trouble::BadChange => "not a change of flags, as +FS-T",
             Trouble::BadFolder => "not the name of a folder",
             Trouble::BadClause => "not the name of a clause that may be allowed",
+            Trouble::BadCall =>
+                "not a call of a job: deliver, seen, flag, move, copy, expunge or clean",
             Trouble::SameMaildir => "the message is there already",
             Trouble::NotThere => "no such message",
             Trouble::NotTrashed => "the message has not the flag T",

@@ -1,8 +1,7 @@
 //! Findings as JSON (RFC 8259), one object a line.
 
-use crate::judge::why::why;
+use crate::judge::shown::Shown;
 use base64::engine::general_purpose::STANDARD;
-use md_judge::{Finding, Session};
 use serde_json::json;
 use std::alloc::{AllocError, Global};
 
@@ -11,20 +10,17 @@ use std::alloc::{AllocError, Global};
 pub(crate) fn push_json(
     alloc: Global,
     out: &mut Vec<u8>,
-    session: &Session,
-    at: usize,
-    finding: Finding,
+    shown: &Shown<'_>,
 ) -> Result<(), AllocError> {
-    let (actor, call) = session.words(at);
-    let actor_key = key_for(actor, "actor", "actor_base64");
-    let call_key = key_for(call, "call", "call_base64");
+    let actor_key = key_for(shown.actor, "actor", "actor_base64");
+    let call_key = key_for(shown.call, "call", "call_base64");
     let object = json!(in alloc; {
-        actor_key: text_of(alloc, actor)?,
-        "before": finding.before,
-        call_key: text_of(alloc, call)?,
-        "clause": finding.clause.name(),
-        "line": finding.line,
-        "why": why(finding.clause)
+        actor_key: text_of(alloc, shown.actor)?,
+        "before": shown.before,
+        call_key: text_of(alloc, shown.call)?,
+        "clause": shown.clause,
+        "line": shown.line,
+        "why": shown.why
     })?;
     out.extend_from_slice(&object.to_vec(alloc)?)?;
     out.extend_from_slice(b"\n")

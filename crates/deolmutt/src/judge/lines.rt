@@ -3,14 +3,46 @@
 use crate::judge::fault::Fault;
 use crate::lines::{Line, Lines};
 use md_head::cut_line;
-use md_judge::Session;
 use std::alloc::Global;
 use std::io::{Error, ErrorKind, Read};
 
-/// Hands each line of a log to the judge. The longest line is held in memory, and no other.
-pub(crate) fn judge_lines<L: Read + Drop>(
+/// What takes in the lines of a log.
+pub(crate) trait Reader {
+    /// Takes in a line without its end.
+    fn take(&mut self, text: &[u8]) -> Result<(), Fault>;
+
+    /// The log is over.
+    fn close(&mut self) -> Result<(), Fault>;
+}
+
+impl Reader for md_judge::Session {
+    fn take(&mut self, text: &[u8]) -> Result<(), Fault> {
+        self.line(text)?;
+        Ok(())
+    }
+
+    fn close(&mut self) -> Result<(), Fault> {
+        self.end()?;
+        Ok(())
+    }
+}
+
+impl Reader for md_owed::Session {
+    fn take(&mut self, text: &[u8]) -> Result<(), Fault> {
+        self.line(text)?;
+        Ok(())
+    }
+
+    fn close(&mut self) -> Result<(), Fault> {
+        self.end()?;
+        Ok(())
+    }
+}
+
+/// Hands each line of a log to its reader. The longest line is held in memory, and no other.
+pub(crate) fn judge_lines<J: Reader, L: Read + Drop>(
     alloc: Global,
-    judge: &mut Session,
+    reader: &mut J,
     log: L,
 ) -> Result<(), Fault> {
     let Ok(mut lines) = Lines::new(alloc, log) else {
@@ -20,20 +52,19 @@ pub(crate) fn judge_lines<L: Read + Drop>(
     for number in 1..u64::MAX {
         match lines.next(&mut line, usize::MAX) {
             Ok(Line::End) => break,
-            Ok(_) => judge_line(judge, line.as_slice())?,
+            Ok(_) => judge_line(reader, line.as_slice())?,
             Err(error) => return Err(unread(number, &error)),
         }
     }
-    judge.end()?;
-    Ok(())
+    reader.close()
 }
 
 // A line with its end.
-fn judge_line(judge: &mut Session, line: &[u8]) -> Result<(), Fault> {
-    if let Some((text, _)) = cut_line(line) {
-        judge.line(text)?;
+fn judge_line<J: Reader>(reader: &mut J, line: &[u8]) -> Result<(), Fault> {
+    match cut_line(line) {
+        Some((text, _)) => reader.take(text),
+        None => Ok(()),
     }
-    Ok(())
 }
 
 fn unread(number: u64, error: &Error) -> Fault {

@@ -1,17 +1,16 @@
 //! Findings as lines of text.
 
 use crate::escape::{is_text, push_hex};
-use crate::judge::why::why;
-use md_judge::{Finding, Session};
+use crate::judge::shown::Shown;
 use std::alloc::{AllocError, Global};
 
 /// `LINE CLAUSE` and a line feed.
 pub(crate) fn push_short(
     alloc: Global,
     out: &mut Vec<u8>,
-    finding: Finding,
+    shown: &Shown<'_>,
 ) -> Result<(), AllocError> {
-    let text = format!(in alloc; "{} {}\n", finding.line, finding.clause.name())?;
+    let text = format!(in alloc; "{} {}\n", shown.line, shown.clause)?;
     out.extend_from_slice(text.as_bytes())
 }
 
@@ -19,17 +18,14 @@ pub(crate) fn push_short(
 pub(crate) fn push_long(
     alloc: Global,
     out: &mut Vec<u8>,
-    session: &Session,
-    at: usize,
-    finding: Finding,
+    shown: &Shown<'_>,
 ) -> Result<(), AllocError> {
-    let (actor, call) = session.words(at);
-    out.extend_from_slice(format!(in alloc; "line {}", finding.line)?.as_bytes())?;
-    push_part(out, actor)?;
-    push_part(out, call)?;
-    push_part(out, finding.clause.name().as_bytes())?;
-    push_part(out, why(finding.clause).as_bytes())?;
-    if let Some(before) = finding.before {
+    out.extend_from_slice(format!(in alloc; "line {}", shown.line)?.as_bytes())?;
+    push_part(out, shown.actor)?;
+    push_part(out, shown.call)?;
+    push_part(out, shown.clause.as_bytes())?;
+    push_part(out, shown.why.as_bytes())?;
+    if let Some(before) = shown.before {
         out.extend_from_slice(format!(in alloc; " (see line {before})")?.as_bytes())?;
     }
     out.extend_from_slice(b"\n")

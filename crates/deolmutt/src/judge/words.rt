@@ -1,9 +1,11 @@
 //! How a log is judged, as words say it.
 
+use crate::judge::relied::relied_on;
 use crate::order::Mistake;
 use crate::trouble::Trouble;
 use clap::ArgMatches;
 use md_judge::{CLAUSES, Clause};
+use md_owed::OwedClause;
 use std::alloc::Global;
 
 /// How findings are printed.
@@ -23,8 +25,25 @@ pub(crate) struct Judging<'a> {
     /// The path of the log, where it isn't on standard input.
     pub(crate) file: Option<&'a str>,
     pub(crate) form: Form,
-    /// The clauses that are not judged.
-    pub(crate) allowed: Vec<Clause>,
+    pub(crate) rules: Rules<'a>,
+}
+
+/// The rules by which a log is judged.
+#[derive(Drop)]
+pub(crate) enum Rules<'a> {
+    /// The law, but for the clauses that are allowed.
+    Law { allowed: Vec<Clause> },
+    /// What each program owes the others.
+    Owed(Owing<'a>),
+}
+
+/// What is judged of what programs owe each other.
+#[derive(Drop)]
+pub(crate) struct Owing<'a> {
+    /// The clauses, where not all ten are asked for.
+    pub(crate) relied: Option<&'static [OwedClause]>,
+    /// The actors whose steps are left out.
+    pub(crate) ours: Vec<&'a str>,
 }
 
 /// What words say of judging that the options have read.
@@ -32,6 +51,41 @@ pub(crate) fn read_judging<'a>(
     alloc: Global,
     words: &ArgMatches<'a>,
 ) -> Result<Judging<'a>, Mistake<'a>> {
+    Ok(Judging {
+        file: file(words.get_str("FILE")),
+        form: form_of(words),
+        rules: read_rules(alloc, words)?,
+    })
+}
+
+fn read_rules<'a>(alloc: Global, words: &ArgMatches<'a>) -> Result<Rules<'a>, Mistake<'a>> {
+    let relied = match words.get_str("relies") {
+        Some(call) => Some(read_relied(call)?),
+        None => None,
+    };
+    if relied.is_none() && !words.get_flag("owed") {
+        return Ok(Rules::Law {
+            allowed: read_allowed(alloc, words)?,
+        });
+    }
+    let mut ours = Vec::new(alloc);
+    for actor in words.get_strs("by").unwrap_or(&[]) {
+        ours.push(*actor)?;
+    }
+    Ok(Rules::Owed(Owing { relied, ours }))
+}
+
+fn read_relied<'a>(call: &'a str) -> Result<&'static [OwedClause], Mistake<'a>> {
+    match relied_on(call) {
+        Some(relied) => Ok(relied),
+        None => Err(Mistake::Wrong {
+            word: call,
+            trouble: Trouble::BadCall,
+        }),
+    }
+}
+
+fn read_allowed<'a>(alloc: Global, words: &ArgMatches<'a>) -> Result<Vec<Clause>, Mistake<'a>> {
     let mut allowed = Vec::new(alloc);
     for name in words.get_strs("allow").unwrap_or(&[]) {
         match clause_named(name) {
@@ -44,11 +98,7 @@ pub(crate) fn read_judging<'a>(
             }
         }
     }
-    Ok(Judging {
-        file: file(words.get_str("FILE")),
-        form: form_of(words),
-        allowed,
-    })
+    Ok(allowed)
 }
 
 // The path of a log. `-` is standard input.

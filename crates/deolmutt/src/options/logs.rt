@@ -27,6 +27,7 @@ Examples:
   deolmutt judge log
   deolmutt judge --json < log
   deolmutt judge --allow NotFlushed --allow Mixed log
+  deolmutt judge --relies deliver --by mydeliver log
 
 docs/JUDGE.md has the log's language and the law.";
 
@@ -49,6 +50,26 @@ pub(crate) fn judge<'a>(alloc: Global) -> Result<Command<'a>, AllocError> {
         .value_name("CLAUSE")
         .help("Leaves this clause out, as a line `allow CLAUSE` of the log; may be repeated")
         .action(ArgAction::Append);
+    let owed = switch(
+        alloc,
+        "owed",
+        "Judges by what each program owes the others, in place of the law (docs/LAW.md)",
+    )
+    .conflicts_with("allow")?;
+    let relies = Arg::new(alloc, "relies")
+        .long("relies")
+        .value_name("CALL")
+        .help(
+            "Judges by what this call of deolmutt relies on: deliver, seen, flag, move, copy, expunge or clean",
+        )
+        .action(ArgAction::Set)
+        .conflicts_with("allow")?;
+    let by = Arg::new(alloc, "by")
+        .long("by")
+        .value_name("ACTOR")
+        .help("Leaves the steps of this actor out, with --owed or --relies; may be repeated")
+        .action(ArgAction::Append)
+        .conflicts_with("allow")?;
     let file = Arg::new(alloc, "FILE")
         .help("The log; - or none is standard input")
         .action(ArgAction::Set);
@@ -60,5 +81,8 @@ pub(crate) fn judge<'a>(alloc: Global) -> Result<Command<'a>, AllocError> {
             "lines",
         )?)?
         .arg(allow)?
+        .arg(owed)?
+        .arg(relies)?
+        .arg(by)?
         .arg(file)
 }

@@ -1,0 +1,64 @@
+//! Findings that are gathered before they are printed.
+
+use crate::judge::fault::Fault;
+use crate::judge::json::push_json;
+use crate::judge::shown::Shown;
+use crate::judge::text::{push_long, push_short};
+use crate::judge::words::Form;
+use crate::output::print;
+use crate::session::{Host, Session};
+use std::alloc::{AllocError, Global};
+
+// As many bytes are gathered before they are written.
+const FULL: usize = 65_536;
+
+/// Findings in the form that was asked for.
+#[derive(Drop)]
+pub(crate) struct Page {
+    alloc: Global,
+    form: Form,
+    text: Vec<u8>,
+}
+
+impl Page {
+    pub(crate) fn new(alloc: Global, form: Form) -> Page {
+        Page {
+            alloc,
+            form,
+            text: Vec::new(alloc),
+        }
+    }
+
+    /// Adds a finding, and prints what was gathered if that is much.
+    pub(crate) fn put<R: Host>(
+        &mut self,
+        session: &Session<'_, R>,
+        shown: &Shown<'_>,
+    ) -> Result<(), Fault> {
+        if self.push(shown).is_err() {
+            return Err(Fault::no_memory(0));
+        }
+        if self.text.len() < FULL {
+            return Ok(());
+        }
+        self.print(session)
+    }
+
+    /// Prints what was gathered.
+    pub(crate) fn print<R: Host>(&mut self, session: &Session<'_, R>) -> Result<(), Fault> {
+        let printed = print(session, &self.text);
+        self.text.clear();
+        match printed {
+            Ok(()) => Ok(()),
+            Err(_) => Err(Fault::Write),
+        }
+    }
+
+    fn push(&mut self, shown: &Shown<'_>) -> Result<(), AllocError> {
+        match self.form {
+            Form::People => push_long(self.alloc, &mut self.text, shown),
+            Form::Lines => push_short(self.alloc, &mut self.text, shown),
+            Form::Json => push_json(self.alloc, &mut self.text, shown),
+        }
+    }
+}
