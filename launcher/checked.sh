@@ -105,6 +105,14 @@ check_clause() {
   refuse 64 "$1: not the name of a clause that may be allowed$(similar "$near")"
 }
 
+check_call() {
+  case $1 in
+    deliver | seen | flag | move | copy | expunge | clean) ;;
+    '' | -*) refuse_words "a value is required for '--relies <CALL>' but none was supplied" ;;
+    *) refuse 64 "$1: not a call of a job: deliver, seen, flag, move, copy, expunge or clean" ;;
+  esac
+}
+
 check_judge() {
   format=
   while [ $# -gt 0 ]; do
@@ -119,7 +127,16 @@ check_judge() {
         shift
         ;;
       --allow=*) check_clause "${1#--allow=}" ;;
-      - | --) ;;
+      --relies)
+        check_call "${2-}"
+        shift
+        ;;
+      --relies=*) check_call "${1#--relies=}" ;;
+      --by)
+        case ${2-} in '' | -*) refuse_words "a value is required for '--by <ACTOR>' but none was supplied" ;; esac
+        shift
+        ;;
+      --owed | --by=* | - | --) ;;
       *) refuse_unexpected "$1" ;;
     esac
     shift
