@@ -1,11 +1,10 @@
 -- Turns of errands that are alike: sizes and stamps of what was found don't matter.
-use Rattle.std.proofs.Common.{ℕ, ◌≡◌, ◌-◌, List, [], ◌∷◌, Option, Some, None, Bool, true, false, cond, nat_le, refl, sym, ap, subst, ◌∙◌}
+use Rattle.std.proofs.Common.{ℕ, ◌≡◌, ◌-◌, List, [], ◌∷◌, Option, Some, None, Bool, true, false, cond, nat_le, refl, sym, ap, ◌∙◌}
 use Rattle.std.specs.Option.{option_to_list, option_map}
 use Rattle.md_dirs.specs.Rows.{row_named}
 use Rattle.md_dirs.specs.declared.paths.Place.{Place}
 use Rattle.md_dirs.specs.declared.rows.Row.{Row}
-use Rattle.md_jobs.specs.Asked.{Asked}
-use Rattle.md_jobs.specs.Machines.Errand.{errand_turn, at_stage, stage_turn, asked_of, act_turn, after_none, after_decision, after_row}
+use Rattle.md_jobs.specs.Machines.Errand.{errand_turn, at_stage, stage_turn, act_turn, after_none, after_decision, after_row}
 use Rattle.md_jobs.specs.Machines.Purposes.{first, searches, place_after, info_in, decide, deed_by, answer_by}
 use Rattle.md_jobs.specs.Machines.Refusals.{refuses}
 use Rattle.md_jobs.specs.Tasks.Errand.{Errand, Stage, Look, Act}
@@ -42,16 +41,14 @@ bare-stage-again (Act place row tries) = refl
 bare-again : (e : Errand) → bare (bare e) ≡ bare e
 bare-again e = ap (λ (stage : Stage). record e { stage = stage }) (bare-stage-again e.stage)
 
+-- what is shown of what follows
 abbrev shown_bare : After Errand → Shown Errand
 shown_bare after = (after.answer, bare after.task)
 
+-- the first of these names, as a row
 abbrev row_by : List (List ℕ) → Option Row
 row_by [] = None
 row_by (name ∷ names) = Some (bare_row name)
-
--- the rows that a bare turn is told
-abbrev rows_by : Option Row → List Row
-rows_by row = option_to_list row
 
 -- what follows of a bare errand at a stage, by the name that was found
 abbrev view_at : Errand → Stage → DirReply → List (List ℕ) → Shown Errand
@@ -137,7 +134,8 @@ module _ (number job : ℕ) (u : List ℕ) where
 
   -- its unique name stays
   same-name : (e : Errand) (r : DirReply) (rows : List Row) → ((errand_turn number e).follows r rows).task.unique ≡ e.unique
-  same-name e r rows = ap (λ (p : Shown Errand). p.1.unique) (view-so number e e.stage r rows) ∙ by (bare e) (bare_stage e.stage) r (name_found e.unique rows)
+  same-name e r rows = ap (λ (p : Shown Errand). p.1.unique) (view-so number e e.stage r rows)
+      ∙ by (bare e) (bare_stage e.stage) r (name_found e.unique rows)
     where
       by-decision : (b : Errand) (place : Place) (tries : ℕ) (row : Row) (d : Decision) →
           (after_decision 0 b place tries row d).task.unique ≡ b.unique

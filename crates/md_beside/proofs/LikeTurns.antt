@@ -1,6 +1,6 @@
 -- Turns of tasks that are alike: which call a job makes and which answer it has doesn't hang on its number, nor on the clock of the
 -- directories, nor on what a reading shows besides the names by which the job goes on.
-use Rattle.std.proofs.Common.{ℕ, ◌≡◌, ◌-◌, List, [], ◌∷◌, Option, Some, None, Bool, true, false, cond, nat_le, nat_lt, length, refl, sym, ap, subst, ◌∙◌}
+use Rattle.std.proofs.Common.{ℕ, ◌≡◌, List, [], Option, Bool, true, false, cond, nat_lt, length, refl, sym, ap, ◌∙◌}
 use Rattle.md_dirs.specs.declared.rows.Row.{Row}
 use Rattle.md_jobs.specs.Machines.Clean.{cleaning_turn, old_names, after_old}
 use Rattle.md_jobs.specs.Machines.Clean as cleaned_by
@@ -31,7 +31,8 @@ shown_of after = (after.answer, after.task)
 
 -- Turns of tasks that are alike make the same call, and have the same answer where the reply is the same and, of a listing that was done,
 -- the names; and then the tasks are alike again.
-pub record AreAlike {T : Type 0} (turn : T → Moment → Turn T) (job : ℕ) (found : ℕ → List Row → List (List ℕ)) (Like : T → Task → Type 0) : Type 0 where
+pub record AreAlike {T : Type 0} (turn : T → Moment → Turn T) (job : ℕ) (found : ℕ → List Row → List (List ℕ))
+    (Like : T → Task → Type 0) : Type 0 where
   pub call : (t : T) (x : Task) (at at' : Moment) → at'.own ≡ at.own → Like t x → (turn_of job x at').asked ≡ (turn t at).asked
   pub answer : (t : T) (x : Task) (at at' : Moment) → at'.own ≡ at.own → Like t x → (r : DirReply) (rows rows' : List Row)
       → (r ≡ reply.Ok → found at.own rows ≡ found at.own rows')
@@ -43,16 +44,18 @@ pub record AreAlike {T : Type 0} (turn : T → Moment → Turn T) (job : ℕ) (f
 -- ---- deliveries
 
 module _ (number job : ℕ) (d : Delivery) (own : ℕ) (start k : ℕ) where
-  writing-asks : (in_time more : Bool) →
-      (cond in_time (cond more (append_turn d start k) (link_turn job d)) (unlink_turn d (refused_by TimedOut))).asked
-      ≡ (cond in_time (cond more (append_turn d start k) (link_turn number d)) (unlink_turn d (refused_by TimedOut))).asked
+  -- the turn of a job, by whether it is in time and has more to write
+  abbrev writes : ℕ → Bool → Bool → Turn Delivery
+  writes n in_time more =
+      cond in_time (cond more (append_turn d start k) (link_turn n d)) (unlink_turn d (refused_by TimedOut))
+
+  writing-asks : (in_time more : Bool) → (writes job in_time more).asked ≡ (writes number in_time more).asked
   writing-asks true true = refl
   writing-asks true false = refl
   writing-asks false more = refl
 
   writing-shows : (in_time more : Bool) (r : DirReply) (rows rows' : List Row) →
-      shown_of ((cond in_time (cond more (append_turn d start k) (link_turn job d)) (unlink_turn d (refused_by TimedOut))).follows r rows')
-      ≡ shown_of ((cond in_time (cond more (append_turn d start k) (link_turn number d)) (unlink_turn d (refused_by TimedOut))).follows r rows)
+      shown_of ((writes job in_time more).follows r rows') ≡ shown_of ((writes number in_time more).follows r rows)
   writing-shows true true r rows rows' = refl
   writing-shows true false reply.Ok rows rows' = refl
   writing-shows true false reply.Exists rows rows' = refl

@@ -1,10 +1,9 @@
 -- A run on a disk, as a story shows it: at each own step of its job the job is as far as the run, so each is a turn of its machine.
-use Rattle.std.proofs.Common.{ℕ, zero, suc, ◌≡◌, ◌+◌, ◌≤◌, List, [], ◌∷◌, ◌++◌, Option, Some, None, Bool, true, false, cond, is_some, refl, sym, ap, subst, ◌∙◌, arith, length, map, take, drop, slice_get}
+use Rattle.std.proofs.Common.{ℕ, zero, suc, ◌≡◌, ◌≢◌, ◌+◌, ◌≤◌, List, [], ◌∷◌, ◌++◌, Option, Some, None, Bool, true, false, cond, is_some, refl, sym, ap, subst, ◌∙◌, arith, length, map, take, drop, slice_get}
 use Rattle.std.proofs.Math.Seq.{drop-append_seam}
 use Rattle.std.proofs.lemmas.List.Sums.{count_by_more_yes, count_by_more_no}
-use Rattle.std.proofs.lemmas.Option.{slice_get_within, get_or_from_slice_get}
+use Rattle.std.proofs.lemmas.Option.{slice_get_within, slice_get_past, get_or_from_slice_get}
 use Rattle.std.specs.Prelude.{count_by}
-use Rattle.md_dirs.specs.declared.rows.Row.{Row}
 use Rattle.md_jobs.specs.Asked.{Asked}
 use Rattle.md_jobs.specs.Machines.Clean.{new_cleaning, cleaning_turn}
 use Rattle.md_jobs.specs.Machines.Deliver.{new_delivery, delivery_turn}
@@ -26,8 +25,9 @@ use Rattle.md_core.specs.Machine.{Standing, working, turn_of, standing_of, new_j
 use Rattle.md_core.specs.Tasks.Task.{Task}
 use Rattle.md_core.specs.Tasks.Task as task
 use Rattle.md_core.specs.Trace.{call_at}
+use Rattle.md_core.proofs.Lists.Places.{at_place}
 use Rattle.md_disk.specs.Exchanges.{Exchange, heard_of, IsRun}
-use Rattle.md_beside.specs.Story.{Story, Step, Did, asked, ours, step_at, state, standing, standing_from, standing_after, is_by, IsTurn}
+use Rattle.md_beside.specs.Story.{Story, Step, asked, ours, step_at, state, standing, standing_from, standing_after, is_by, IsTurn}
 use Rattle.md_beside.specs.Beside.{IsStepOf, IsAnswered}
 use Rattle.md_beside.specs.OnDisk.{HasRun, ErrandHasRun, IsRunOf, names_found, steps_taken, ShowsExchange, ShowsRun, IsJobOf}
 use Rattle.md_beside.proofs.Acting.{stands-own, stands-beside, itself, not-by, by-who}
@@ -97,6 +97,12 @@ module _ {T : Type 0} (turn : T → Moment → Turn T) (answer : Option Answer) 
         let both : asks ∷ map (λ (m : Made). m.asked) (made turn task (heard_of (c ∷ calls)))
         ≡ e.asked ∷ map (λ (x : Exchange). x.asked) (c ∷ calls) = run in
         (cc, (refl, record { run = cc; ends = ends }))
+
+  -- a run that has its answer has made a call
+  pub has-calls : (now : T) (calls : List Exchange) → IsLeft now calls → (a : Answer) → answer ≡ Some a → calls ≢ []
+  unfolding made answer_in
+  has-calls now [] left a is none = let e : None ≡ Some a = left.ends ∙ is in cc
+  has-calls now (e ∷ calls) left a is none = cc
 
   pub next-call : (now : T) (e : Exchange) (calls : List Exchange) → IsLeft now (e ∷ calls) →
       ((turn now e.heard.at).asked ≡ e.asked) × GoesOn ((turn now e.heard.at).follows e.heard.reply e.heard.rows) calls
@@ -178,7 +184,8 @@ module _ {T : Type 0} (turn : T → Moment → Turn T) (job : ℕ) (c : Call) (L
 
       likes : Like ran.task after.task
       likes = subst (λ (r : DirReply). Like ran.task (after_by r).task) (sym shows.replied)
-          (alike.task far.now far.task e.heard.at x.at shows.at far.like e.heard.reply e.heard.rows (rows_for turned.asked (state t k)) names)
+          (alike.task far.now far.task e.heard.at x.at shows.at far.like e.heard.reply e.heard.rows
+          (rows_for turned.asked (state t k)) names)
 
       -- the answer that the story shows is that of the run
       answer-shown : ran.answer ≡ x.answer
@@ -220,6 +227,38 @@ module _ {T : Type 0} (turn : T → Moment → Turn T) (job : ℕ) (c : Call) (L
     works-now : IsAsFar (calls_left k) (standing t job c k) → Works e rest (standing t job c k)
     works-now far = subst (λ (calls : List Exchange). IsAsFar calls (standing t job c k)) first far
 
+  -- ---- the step of a number
+
+  record IsOfNumber (n : ℕ) : Type 0 where
+    k : ℕ
+    own : IsStepOf t job k
+    number : steps_taken t job k ≡ n
+
+  of-number : (n k : ℕ) → k ≤ length t.steps → steps_taken t job k ≡ suc n → IsOfNumber n
+  of-number n zero low taken = absurd (omega (arith, taken))
+  of-number n (suc k) low taken = at_place t.steps k
+      (λ x is. by-who x.who job
+      (λ who. let more = one-more k x is who in
+      record { k = k; own = record { step = x; at = is; own = who }; number = omega (arith, more, taken) })
+      (λ other. let same = count-beside (λ y. is_by job y.who) t.steps k x is (not-by job x.who other) in
+      of-number n k (omega (arith, low)) (sym same ∙ taken)))
+      (λ past. absurd (omega (arith, low, past)))
+
+  -- where all calls are shown, the step of the last has the answer
+  ended : (a : Answer) → answer ≡ Some a → (calls : List Exchange) → calls ≢ [] → run ≡ calls →
+      steps_taken t job (length t.steps) ≡ length run → IsAnswered t job a
+  ended a is [] some same all = absurd (some refl)
+  ended a is (e ∷ calls) some same all =
+      let found = of-number (length calls) (length t.steps) (omega arith) (all ∙ ap length same) in
+      let past : slice_get run (suc (steps_taken t job found.k)) ≡ None =
+      let many : length run ≡ suc (length calls) = ap length same in let number = found.number in
+      slice_get_past run (suc (steps_taken t job found.k)) (omega (arith, many, number)) in
+      record {
+        k = found.k;
+        last = found.own;
+        answer = shown.answers found.k found.own ∙ ap (λ (o : Option Exchange). cond (is_some o) None answer) past ∙ is;
+      }
+
   -- ---- each moment
 
   far-beside : (k : ℕ) (x : Step) → step_at t k ≡ Some x → (x.who ≡ ours job → ⊥) → IsAsFar (calls_left k) (standing t job c k) →
@@ -242,10 +281,11 @@ module _ {T : Type 0} (turn : T → Moment → Turn T) (job : ℕ) (c : Call) (L
         by (Some e) is = cc
         by None is = is
 
-    is-job : IsJobOf t job answer
-    is-job = record {
+    is-job : ((a : Answer) → answer ≡ Some a → run ≢ []) → IsJobOf t job run answer
+    is-job some = record {
       turns = λ k x is who. turns k x is who (works-now k x is who (far-at k (within-story t k x is)));
       answered = answered;
+      ended = λ a is all. ended a is run (some a is) refl all;
     }
 
   -- at the beginning a job is as far as its run
@@ -255,8 +295,8 @@ module _ {T : Type 0} (turn : T → Moment → Turn T) (job : ℕ) (c : Call) (L
   far-first now task new like [] left = tt
   far-first now task new like (e ∷ calls) left = record { now = now; task = task; works = new; like = like; left = left }
 
-  pub begins : (now : T) (task : Task) → new_job c ≡ working task → Like now task → IsLeft turn answer now run → IsJobOf t job answer
-  begins now task new like left = is-job (far-first now task new like run left)
+  pub begins : (now : T) (task : Task) → new_job c ≡ working task → Like now task → IsLeft turn answer now run → IsJobOf t job run answer
+  begins now task new like left = is-job (far-first now task new like run left) (has-calls turn answer now run left)
 
 -- ---- what a run promises
 
@@ -281,15 +321,15 @@ module _ (t : Story) (job : ℕ) (old new : List Exchange) (answer : Option Answ
 
   run-delivers : (folder : ℕ) (u body : List ℕ) (chunk : ℕ) →
       (let c : Call = call.Deliver folder u body chunk in
-      call_at t.calls job ≡ Some c → IsRunOf c old new answer → Shows c → IsJobOf t job answer)
+      call_at t.calls job ≡ Some c → IsRunOf c old new answer → Shows c → IsJobOf t job (drop (length old) new) answer)
   run-delivers folder u body chunk of ran shown =
       let d = new_delivery folder u body chunk in
-      begins (delivery_turn 1) job (call.Deliver folder u body chunk) LikeDelivery (deliveries-alike 1 job) t of (drop (length old) new) answer
-      shown d (task.Deliver d) refl refl (run-left (delivery_turn 1) d old new answer ran)
+      begins (delivery_turn 1) job (call.Deliver folder u body chunk) LikeDelivery (deliveries-alike 1 job) t of
+      (drop (length old) new) answer shown d (task.Deliver d) refl refl (run-left (delivery_turn 1) d old new answer ran)
 
   run-cleans : (folder : ℕ) →
       (let c : Call = call.Clean folder in
-      call_at t.calls job ≡ Some c → IsRunOf c old new answer → Shows c → IsJobOf t job answer)
+      call_at t.calls job ≡ Some c → IsRunOf c old new answer → Shows c → IsJobOf t job (drop (length old) new) answer)
   run-cleans folder of ran shown =
       let x = new_cleaning folder in
       let turn : Cleaning → Moment → Turn Cleaning = λ y at. cleaning_turn y at.own in
@@ -300,14 +340,15 @@ module _ (t : Story) (job : ℕ) (old new : List Exchange) (answer : Option Answ
   run-errands : (folder : ℕ) (u : List ℕ) (p : Purpose) (tries : ℕ) (c : Call) → call_at t.calls job ≡ Some c →
       AreAlike (λ e at. errand_turn 1 e) job (names_found c) (LikeErrand u) →
       new_job c ≡ working (task.Errand (new_errand folder u p tries)) → ErrandHasRun folder u p tries old new answer → Shows c →
-      IsJobOf t job answer
+      IsJobOf t job (drop (length old) new) answer
   run-errands folder u p tries c of alike new-is ran shown =
       let e = new_errand folder u p tries in
       let turn : Errand → Moment → Turn Errand = λ y at. errand_turn 1 y in
       begins turn job c (LikeErrand u) alike t of (drop (length old) new) answer
       shown e (task.Errand e) new-is (refl, refl) (run-left turn e old new answer ran)
 
-  pub run-is-job : (c : Call) → call_at t.calls job ≡ Some c → IsRunOf c old new answer → Shows c → IsJobOf t job answer
+  pub run-is-job : (c : Call) → call_at t.calls job ≡ Some c → IsRunOf c old new answer → Shows c →
+      IsJobOf t job (drop (length old) new) answer
   run-is-job (call.Deliver folder u body chunk) of ran shown = run-delivers folder u body chunk of ran shown
   run-is-job (call.Clean folder) of ran shown = run-cleans folder of ran shown
   run-is-job (call.Seen folder u flags tries) of ran shown = run-errands folder u (purpose.Seen flags) tries

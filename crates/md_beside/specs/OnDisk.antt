@@ -1,5 +1,5 @@
 -- Runs of jobs on a disk, as the contracts of `md_disk` promise them, and the stories that show one.
-use Rattle.std.specs.Prelude.{ℕ, suc, ◌≡◌, List, [], Option, Some, None, map, take, drop, length, count_by, slice_get, is_some, if◌then◌else◌}
+use Rattle.std.specs.Prelude.{ℕ, suc, ◌≡◌, List, [], Option, Some, None, take, drop, length, count_by, slice_get, is_some, if◌then◌else◌}
 use Rattle.std.specs.Option.{option_to_list, option_map}
 use Rattle.md_dirs.specs.Rows.{row_named}
 use Rattle.md_dirs.specs.State.{State}
@@ -95,13 +95,15 @@ pub record ShowsRun (t : Story) (job : ℕ) (c : Call) (run : List Exchange) (an
 
 -- ---- the law
 
--- Each own step of the job is a turn of its machine, and an answer of the job is that of the run.
-pub record IsJobOf (t : Story) (job : ℕ) (answer : Option Answer) : Type 0 where
+-- Each own step of the job is a turn of its machine. An answer of the job is that of the run, and where the story shows all calls of the
+-- run, the job has the run's answer.
+pub record IsJobOf (t : Story) (job : ℕ) (run : List Exchange) (answer : Option Answer) : Type 0 where
   pub turns : (k : ℕ) (x : Step) → step_at t k ≡ Some x → x.who ≡ ours job → IsTurn t k x job
   pub answered : (a : Answer) → IsAnswered t job a → answer ≡ Some a
+  pub ended : (a : Answer) → answer ≡ Some a → steps_taken t job (length t.steps) ≡ length run → IsAnswered t job a
 
 -- A run on a disk, as a story shows it, is a job of the story.
 abbrev pub RunsAreJobs : Type 0
 RunsAreJobs = (t : Story) (job : ℕ) (c : Call) → call_at t.calls job ≡ Some c
     → (old new : List Exchange) (answer : Option Answer) → IsRunOf c old new answer
-    → ShowsRun t job c (drop (length old) new) answer → IsJobOf t job answer
+    → ShowsRun t job c (drop (length old) new) answer → IsJobOf t job (drop (length old) new) answer
