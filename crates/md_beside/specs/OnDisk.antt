@@ -33,8 +33,8 @@ HasRun turn t old new None = Began turn t old new
 abbrev pub ErrandHasRun : ℕ → List ℕ → Purpose → ℕ → List Exchange → List Exchange → Option Answer → Type 0
 ErrandHasRun folder unique purpose tries = HasRun (λ e at. errand_turn 1 e) (new_errand folder unique purpose tries)
 
--- What `deliver`, `run_errand` and `clean` promise of a run of this call, by the exchanges before it and after it. A run on a disk knows no
--- other job, so its number is 1.
+-- What `deliver`, `run_errand` and `clean` promise of a run of this call, by all exchanges at its beginning and at its end. A run on a disk
+-- knows no other job, so its number is 1.
 abbrev pub IsRunOf : Call → List Exchange → List Exchange → Option Answer → Type 0
 IsRunOf (call.Deliver folder u body chunk) = HasRun (delivery_turn 1) (new_delivery folder u body chunk)
 IsRunOf (call.Clean folder) = HasRun (λ c at. cleaning_turn c at.own) (new_cleaning folder)
@@ -50,7 +50,8 @@ IsRunOf (call.Expunge folder u tries) = ErrandHasRun folder u purpose.Expunge tr
 abbrev pub name_found : List ℕ → List Row → List (List ℕ)
 name_found unique rows = option_to_list (option_map (λ row. row.name) (row_named unique rows))
 
--- the names by which a job goes on from the rows of a reading, at a moment of its own clock: a clean from those of old files
+-- The names by which a job goes on from the rows of a reading, at a moment of its own clock: a clean by those of old files, an errand by
+-- that of its message.
 abbrev pub names_found : Call → ℕ → List Row → List (List ℕ)
 names_found (call.Deliver folder u body chunk) own rows = []
 names_found (call.Clean folder) own rows = old_names own rows
@@ -60,7 +61,7 @@ names_found (call.Move folder u to tries) own rows = name_found u rows
 names_found (call.Copy folder u to fresh tries) own rows = name_found u rows
 names_found (call.Expunge folder u tries) own rows = name_found u rows
 
--- A reading is one moment: where it was done, the job goes on from the same names as by the rows of these directories.
+-- A reading is one moment: if it was done, the job goes on by the names that the rows of these directories give.
 abbrev pub IsOneMoment : Call → Exchange → State → Type 0
 IsOneMoment c e s = e.heard.reply ≡ reply.Ok →
     names_found c e.heard.at.own e.heard.rows ≡ names_found c e.heard.at.own (rows_for e.asked s)
