@@ -41,3 +41,6 @@ pub mod DeliverySteps
 pub mod DeliveryKeeps
 pub mod Jobs
 pub mod RunStories
+pub mod LikeTurns
+pub mod LikeErrands
+pub mod RunsOnDisk

@@ -2,3 +2,4 @@ pub mod Story
 pub mod Beside
 pub mod Jobs
 pub mod Runs
+pub mod OnDisk

@@ -1,5 +1,6 @@
 //! Laws of our jobs beside other programs, whatever these are. Each function does nothing: its contract is the law.
 ghost use Rattle.md_beside.specs.Jobs.{JobsBeside};
+ghost use Rattle.md_beside.specs.OnDisk.{RunsAreJobs};
 ghost use Rattle.md_beside.specs.Runs.{JobsAreLawful, RunsAreStories};
 
 /// A job of ours keeps its promise beside others of ours, and beside other programs that do what they owe: it takes effect at one moment,
@@ -18,4 +19,10 @@ pub fn every_run_is_a_story()
 /// No step of a run breaks a clause of the law, but those that its job may break.
 pub fn jobs_are_lawful()
     ensures { JobsAreLawful }
+{}
+
+/// A run on a disk, as the contracts of `md_disk` promise it, is a job of any story that shows its calls, if each reading is one moment:
+/// each step is a turn of the job's machine, and the job's answer is that of the run.
+pub fn a_run_on_a_disk_is_a_job_of_a_story()
+    ensures { RunsAreJobs }
 {}
