@@ -17,14 +17,15 @@
  * more than PTRDIFF_MAX as DEOLMUTT_LENGTH; and as DEOLMUTT_OVERLAP where what the call writes, `out`, `answers` or an out-parameter,
  * overlaps anything else that is passed in the call.
  *
- * Refused calls. After any refusal a world is as it was before, but for deolmutt_call and deolmutt_calls, which say what they leave.
+ * Refused calls. After any refusal a world is as it was before, but for deolmutt_call, the functions over it and deolmutt_calls, which say
+ * what they leave.
  *
- * Who owns what. deolmutt_load gives a world, which is the caller's until deolmutt_free takes it back, and deolmutt_drive a driven job,
- * which is the caller's until deolmutt_driven_free does. It is a precondition of each call that a world or a job passed to it was given so
- * and not taken back since, and that pointers and lengths tell of memory that is there. The library keeps no pointer of the caller's after
- * a call has returned. A call on a world or a job that was taken back, a second deolmutt_free too, reads memory that was given back. Where
- * that memory can still be read and holds no other world or job by then, the call is refused as DEOLMUTT_CLOSED and writes nothing there.
- * Build on neither.
+ * Who owns what. deolmutt_load and deolmutt_load_files give a world, which is the caller's until deolmutt_free takes it back, and
+ * deolmutt_drive a driven job, which is the caller's until deolmutt_driven_free does. It is a precondition of each call that a world or a
+ * job passed to it was given so and not taken back since, and that pointers and lengths tell of memory that is there. The library keeps no
+ * pointer of the caller's after a call has returned. A call on a world or a job that was taken back, a second deolmutt_free too, reads
+ * memory that was given back. Where that memory can still be read and holds no other world or job by then, the call is refused as
+ * DEOLMUTT_CLOSED and writes nothing there. Build on neither.
  *
  * Threads. One world is for one thread at a time: no two calls on one world may overlap, and a world goes from one thread to another by
  * what orders their memory (a lock, a join). So it is with a driven job. A call that begins while another is in the same world or job is
@@ -297,7 +298,7 @@ uint32_t deolmutt_load(const uint8_t *lines, size_t length, deolmutt_world **wor
    order, and their names are kept for deolmutt_folder alone: they may be of any bytes, and empty. Refused: DEOLMUTT_NULL and LENGTH, also
    for a pointer or a length of one folder or file; NO_FOLDER and NO_PLACE, of the first file that has one; SAME_PATH; BAD_NAME,
    LONG_UNIQUE or DUPLICATE_UNIQUE; NO_MEMORY. To keep a world and load it again, read its folders by deolmutt_folder_name, and each file
-   of each place by deolmutt_row_at and deolmutt_read_file. */
+   of each place by deolmutt_row_at and deolmutt_read_file: jobs are not kept, and the clock begins at the greatest stamp. */
 uint32_t deolmutt_load_files(const deolmutt_bytes *folders, size_t folder_count, const deolmutt_file *files, size_t file_count,
                              deolmutt_world **world);
 
