@@ -77,6 +77,12 @@ static void test_wrong_logs(void) {
     for (each = 0; each <= 1000; each++)
         end += (size_t)sprintf(many + end, "folder f%lu\n", (unsigned long)each);
     wrong_log(many, DEOLMUTT_LOG_TOO_MANY_FOLDERS, 1002);
+    /* 20 calls at once, which may come in any order, and one that fits in none. */
+    end = (size_t)sprintf(many, "maildir_log 1\nfolder i\n");
+    for (each = 0; each < 20; each++)
+        end += (size_t)sprintf(many + end, "1@1..9 a create i/tmp/u%lu ok\n", (unsigned long)each);
+    sprintf(many + end, "1@1..9 a unlink i/new/u ok\n");
+    wrong_log(many, DEOLMUTT_LOG_TOO_MANY_ORDERS, 23);
 }
 
 static void test_next_findings(void) {
