@@ -54,5 +54,6 @@ build_program() {
   [ -x "$program" ] || refuse 70 "$program is not there, though rt has not failed"
   printf '%s\n' "$built_by" >"$stamp"
   touch -r "$work/began" "$stamp"
+  rm -f "$crate/out/unproved".*
   say "proved and built $crates crates in $(clock $(($(date +%s) - began)))"
 }

@@ -1,51 +1,89 @@
-# Running the program while it has no build that is up to date.
+# Running scripts and logs while the program has no build that is up to date: by a program that is compiled with no proof, and kept.
 
-# A longer script is refused by the program. rt would cut it at this length, and would take a pause of standard input for its end, so the
-# input is copied first.
-most_bytes=67108864
-
-copy_input() {
-  head -c $((most_bytes + 1)) >"$work/input"
+# The sum of what the unproved program is made of, and of the toolchain that makes it.
+sum_of_sources() {
+  list_crates
+  set --
+  for name in $made_of; do set -- "$@" "$name/src"; done
+  {
+    version_of_toolchain
+    cat "$top/crates.txt"
+    (cd "$top/crates" && find "$@" -type f -exec sha256sum {} + | LC_ALL=C sort -k 2)
+  } | sha256sum | cut -d ' ' -f 1
 }
 
-take_input() {
-  if [ -n "$file" ]; then
-    copy_input <"$file" || refuse 74 "$file: can't be copied"
-  else
-    [ ! -t 0 ] || say "standard input is read from the terminal, up to Ctrl-D"
-    copy_input || refuse 74 "standard input can't be copied"
-  fi
-  [ "$(wc -c <"$work/input")" -le "$most_bytes" ] || refuse 65 "the input is longer than $most_bytes bytes"
+# Copies the program while it runs: rt takes it away when it has ended. It waits for the log that it was told to judge, and reads on once
+# this has come to its end.
+copy_when_running() {
+  exec 3>"$work/asked"
+  found=$(find "$work" -type f -name program -perm -100 | head -n 1)
+  if [ -n "$found" ] && cp "$found" "$work/copied"; then mv "$work/copied" "$work/unproved"; fi
 }
 
-# What the program printed, and what it said on standard error: all but the lines of rt around it.
-print_run() {
-  cat "$work/out" || refuse 74 "standard output can't be written"
-  sed -e '/^rt: /d' -e '/^interpreter: /d' -e '/^checked: /d' -e '/^races: /d' -e '/^run=/d' "$work/log" >&2
-}
-
-# Says why the program gave no answer: in a line where rt has one, as where it printed too much, and else all that rt said.
-refuse_unanswered() {
+# Says why there is no program: in a line where rt has one, and else all that rt said.
+refuse_uncompiled() {
   reason=$(sed -n 's/^checked: no-answer: //p' "$work/log")
   [ -n "$reason" ] || cat "$work/log" >&2
-  refuse 70 "the unproved run gave no answer${reason:+: $reason}; '$0 build' builds deolmutt"
+  refuse 70 "the unproved program was not compiled${reason:+: $reason}; '$0 build' builds deolmutt"
 }
 
-# Runs a program that is compiled for this one run, with no proof. It is in a folder of its own, and has but its standard input.
+# Compiles the program, which rt then runs once, for a log that does not come before the program was copied.
+compile_unproved() {
+  mkfifo "$work/asked" || refuse 73 "$work/asked: can't be made"
+  copy_when_running &
+  copier=$!
+  export TMPDIR="$work"
+  start_rt deolmutt /dev/null /dev/null try -- judge "$work/asked"
+  join_job
+  # Where nothing was compiled, nobody has asked for the log.
+  end_child "$copier"
+  copier=
+  [ -x "$work/unproved" ] || refuse_uncompiled
+}
+
+# Keeps the program for the runs after this one, if the tree can be written and has not changed meanwhile. One that was kept of other
+# sources goes.
+keep_unproved() {
+  [ "$crate/out/unproved.$(sum_of_sources)" = "$kept" ] || return 0
+  mkdir -p "$crate/out" 2>/dev/null || return 0
+  if ! cp "$work/unproved" "$kept.$$" 2>/dev/null || ! mv -f "$kept.$$" "$kept"; then
+    rm -f "$kept.$$"
+    return
+  fi
+  for other in "$crate/out/unproved".*; do
+    [ "$other" = "$kept" ] || rm -f "$other"
+  done
+}
+
+# Runs a program that nothing keeps, and waits for it, so that a signal ends it too.
+run_once() {
+  exec 4<&0
+  "$work/unproved" "$@" <&4 &
+  job=$!
+  status=0
+  wait "$job" || status=$?
+  job=
+  exit "$status"
+}
+
+# Runs a script or a log by a program that is compiled with no proof, once for all runs up to the next change.
 run_unproved() {
   require_rt
-  say "this run is not proved yet, since $why: $remedy"
-  open_work
-  take_input
-  start_rt deolmutt "$work/input" "$work/out" try -- "$@"
-  join_job
-  last=$(tail -n 1 "$work/log")
-  case $last in
-    "run=ended status=$joined "*) ;;
-    *) refuse_unanswered ;;
-  esac
-  print_run
-  exit "$joined"
+  kept=$crate/out/unproved.$(sum_of_sources)
+  says="this run is not proved yet, since $why: $remedy"
+  if [ -n "$file" ]; then exec <"$file"; fi
+  if [ -x "$kept" ]; then
+    say "$says"
+  else
+    say "$says. First it is compiled, which takes some minutes"
+    open_work
+    compile_unproved
+    keep_unproved
+    [ -x "$kept" ] || run_once "$@"
+    close_work
+    trap - EXIT HUP INT PIPE TERM
+  fi
+  exec "$kept" "$@"
 }
 
 # Shows help and the version, and runs scripts and logs: run_unbuilt WHY WORD.. Nothing is done with mail.
@@ -57,7 +95,11 @@ run_unbuilt() {
   case $1 in
     help) print_help ;;
     -V | --version) echo "deolmutt $(version_of_words)" ;;
-    play | threads | index | log | judge) run_unproved "$@" ;;
+    -*) refuse_words "unexpected argument '$1' found" ;;
+    play | threads | index | log | judge)
+      check_run "$@"
+      run_unproved "$@"
+      ;;
     *) refuse 70 "$1 can't be run, since $why: $remedy" ;;
   esac
   exit

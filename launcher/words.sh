@@ -62,8 +62,9 @@ $(print_commands command ' [FILE]')
 $(print_commands log ' [FILE]')
 
 './deolmutt FILE' is './deolmutt play FILE'. With no FILE the script or the log
-is read from standard input. Until the program is built, each such run compiles
-it anew, unproved, which takes some minutes, and prints at most 1 MiB.
+is read from standard input. Until the program is built, the first such run
+compiles it, unproved, which takes some minutes; the next ones take it from
+there, up to the next change of its sources.
 
 Building and installing:
 $(

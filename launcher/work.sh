@@ -1,7 +1,8 @@
-# A temporary folder, and a job of rt that ends when the launcher ends.
+# A temporary folder, and children that end when the launcher ends: a job, and what copies the program that the job makes.
 
 work=
 job=
+copier=
 
 # Seconds between two looks at the job.
 pause=1
@@ -16,13 +17,15 @@ open_work() {
   trap 'exit 143' TERM
 }
 
+end_child() {
+  kill -TERM "$1" 2>/dev/null || :
+  wait "$1" 2>/dev/null || :
+}
+
 close_work() {
   trap '' HUP INT PIPE TERM
   set +e
-  if [ -n "$job" ]; then
-    kill -TERM "$job" 2>/dev/null
-    wait "$job" 2>/dev/null
-  fi
+  for child in $job $copier; do end_child "$child"; done
   rm -rf "$work"
 }
 

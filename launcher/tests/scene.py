@@ -14,7 +14,7 @@ HERE = os.path.dirname(os.path.realpath(__file__))
 TOP = os.path.dirname(os.path.dirname(HERE))
 
 # All that the launcher may call. A launcher that calls more fails in these tests.
-TOOLS = '''basename cat chmod cp cut date dirname find grep head mkdir mktemp mv printf readlink rm rmdir sed setsid sha256sum sh sleep sort
+TOOLS = '''basename cat chmod cp cut date dirname find grep head mkdir mkfifo mktemp mv printf readlink rm rmdir sed setsid sha256sum sh sleep sort
 tail touch wc'''.split()
 
 PROGRAM = 'crates/deolmutt/out/deolmutt'

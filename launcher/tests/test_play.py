@@ -1,17 +1,34 @@
 """Scripts and logs: unproved while there is no build, and by the build from then on."""
 
 import os
-import pty
+import shutil
 import signal
 import subprocess
 import time
 import unittest
 
-from scene import PLAYED, SCRIPT, Scene, Watch, posix_shells, without_rights
+from scene import PLAYED, PROGRAM, SCRIPT, TOP, Scene, Watch, posix_shells, without_rights
 
 NOT_PROVED = 'this run is not proved yet'
 NAMES = ('a b', '-odd', '--help', '*', "it's", 'two\nlines', '$HOME', 'ü', 'play', 'build', '(')
 COMMANDS = (('play',), ('threads', '2'), ('index', '64'), ('log',), ('log', '--states'), ('judge',), ('judge', '--lines', '--allow', 'Gone'))
+# Words that the program refuses, with what is said of them.
+WRONG = (
+    (('play', '--x'), "unexpected argument '--x' found"),
+    (('threads', '17'), "invalid value '17' for '<N>': 17 is not in 1..16"),
+    (('threads', '0'), "0 is not in 1..16"),
+    (('index', '65'), "65 is not in 1..64"),
+    (('index', 'two'), "invalid value 'two' for '<N>': it is no number"),
+    (('index', '2', '-x'), "unexpected argument '-x' found"),
+    (('log', '--state'), "unexpected argument '--state' found: a similar one is '--states'"),
+    (('log', '--states', '--states'), "unexpected argument '--states' found"),
+    (('judge', '--jsn'), "unexpected argument '--jsn' found: a similar one is '--json'"),
+    (('judge', '--lines', '--json'), "the argument '--lines' cannot be used with '--json'"),
+    (('judge', '--json', '--json'), "the argument '--json' cannot be used multiple times"),
+    (('judge', '--allow', 'gone', '--'), "gone: not the name of a clause that may be allowed: a similar one is 'Gone'"),
+    (('judge', '--allow=NotADirectory',), "NotADirectory: not the name of a clause that may be allowed"),
+    (('judge', '--allow', '--lines'), "a value is required for '--allow <CLAUSE>'"),
+)
 
 
 def shown(words):
@@ -21,20 +38,39 @@ def shown(words):
 
 class Unproved(Scene):
 
-    def test_it_says_so_and_what_proves_it(self):
-        ran = self.run_launcher(self.script())
-        self.assertEqual((ran.returncode, ran.stdout), (0, PLAYED))
-        self.assertEqual(ran.stderr.count('\n'), 1)
-        self.assertIn(NOT_PROVED, ran.stderr)
-        self.assertIn(f"'{self.top}/deolmutt build'", ran.stderr)
-        self.assertEqual(self.calls(), ['deolmutt try -- play'])
+    def kept(self):
+        folder = os.path.dirname(os.path.join(self.top, PROGRAM))
+        return [name for name in sorted(os.listdir(folder)) if name.startswith('unproved.')] if os.path.isdir(folder) else []
 
-    def test_commands_have_their_words(self):
+    def test_it_says_so_and_what_proves_it(self):
+        for extra in ('First it is compiled', f"'{self.top}/deolmutt build'"):
+            ran = self.run_launcher(self.script())
+            self.assertEqual((ran.returncode, ran.stdout), (0, PLAYED))
+            self.assertEqual(ran.stderr.count('\n'), 1)
+            self.assertIn(NOT_PROVED, ran.stderr)
+            self.assertIn(extra, ran.stderr)
+        self.assertNotIn('compiled', ran.stderr)
+        self.assertEqual(os.listdir(self.temporary), [])
+
+    def test_it_is_compiled_once_for_all_runs_up_to_a_change(self):
         script = self.script()
         for words in COMMANDS:
             self.assertEqual(self.run_launcher(*words, script).stdout, shown(words))
         self.assertEqual(self.run_launcher('judge', '--allow', 'Gone', input=SCRIPT).stdout, shown(('judge', '--allow', 'Gone')))
-        self.assertEqual(self.calls(), [f"deolmutt try -- {' '.join(words)}" for words in (*COMMANDS, ('judge', '--allow', 'Gone'))])
+        self.assertEqual(len(self.calls()), 1)
+        before = self.kept()
+        self.change('md_core')
+        self.assertEqual(self.run_launcher(script).stdout, PLAYED)
+        self.assertEqual((len(self.calls()), self.kept()), (1, before))
+        self.change('md_disk')
+        self.assertEqual(self.run_launcher(script).stdout, PLAYED)
+        self.assertEqual((len(self.calls()), len(self.kept())), (2, 1))
+        self.assertNotEqual(self.kept(), before)
+        self.write(self.path('kit', 'KIT-ID'), 'another\n')
+        self.assertEqual(self.run_launcher(script).stdout, PLAYED)
+        self.assertEqual((len(self.calls()), len(self.kept())), (3, 1))
+        self.assertEqual(self.run_launcher('build').returncode, 0)
+        self.assertEqual(self.kept(), [])
 
     def test_a_tree_that_cannot_be_written_will_do(self):
         os.chmod(self.scene, 0o777)
@@ -43,6 +79,10 @@ class Unproved(Scene):
         words = [*without_rights(), os.path.join(self.top, 'deolmutt'), self.script()]
         ran = subprocess.run(words, capture_output=True, text=True, env=self.environment, cwd='/', check=False)
         self.assertEqual((ran.returncode, ran.stdout, ran.stderr.count('\n')), (0, PLAYED, 1), ran.stderr)
+        how = {'capture_output': True, 'input': SCRIPT, 'text': True, 'env': self.environment, 'cwd': '/'}
+        ran = subprocess.run([*words[:-1], 'play'], check=False, **how)
+        self.assertEqual((ran.returncode, ran.stdout, ran.stderr.count('\n')), (0, PLAYED, 1), ran.stderr)
+        self.assertEqual((self.kept(), os.listdir(self.temporary)), ([], []))
 
     def test_a_missing_temporary_folder_is_named(self):
         ran = self.run_launcher(self.script(), env={**self.environment, 'TMPDIR': self.path('not there')})
@@ -50,44 +90,59 @@ class Unproved(Scene):
         self.assertIn('no temporary folder can be made', ran.stderr.splitlines()[-1])
 
     def test_it_ends_with_the_status_of_the_program(self):
-        ran = self.run_launcher(self.script(text='folder i\nrefused\nlist i\n'))
-        self.assertEqual((ran.returncode, ran.stdout), (1, '[play]\nfolder i\n'))
-        self.assertEqual(ran.stderr.splitlines()[1:], ['line 2: bad command'])
+        for _ in range(2):
+            ran = self.run_launcher(self.script(text='folder i\nrefused\nlist i\n'))
+            self.assertEqual((ran.returncode, ran.stdout), (1, '[play]\nfolder i\n'))
+            self.assertEqual(ran.stderr.splitlines()[1:], ['line 2: bad command'])
 
-    def test_where_rt_has_no_answer_it_is_not_the_program_that_refused(self):
-        self.tell('no-answer', 'the program wrote more than 1048576 bytes')
+    def test_where_nothing_is_compiled_it_is_not_the_program_that_refused(self):
+        self.tell('no-answer', 'the crate is refused')
         ran = self.run_launcher(self.script())
         self.assertEqual((ran.returncode, ran.stdout), (70, ''))
-        self.assertIn('the program wrote more than 1048576 bytes', ran.stderr)
+        self.assertIn('not compiled: the crate is refused', ran.stderr)
         self.assertIn('build', ran.stderr.splitlines()[-1])
+        self.assertEqual((self.kept(), os.listdir(self.temporary)), ([], []))
+
+    def test_a_toolchain_that_has_the_program_elsewhere_is_told(self):
+        self.tell('kept-elsewhere', '')
+        ran = self.run_launcher(self.script())
+        self.assertEqual((ran.returncode, ran.stdout, self.kept()), (70, '', []))
+        self.assertIn('the unproved program was not compiled', ran.stderr.splitlines()[-1])
+
+    def test_output_that_cannot_be_written_is_the_program_s_to_tell(self):
+        self.assertNotEqual(self.run_into_full(self.script()).returncode, 0)
 
     def test_a_script_comes_whole_from_a_slow_pipe(self):
         ours, theirs = os.pipe()
         watch = Watch(self, 'play', stdin=ours)
         os.close(ours)
-        for part in ('folder ', 'inbox\n', 'list inbox'):
+        for part in ('folder ', 'inbox\n', 'list inbox\n'):
             os.write(theirs, part.encode())
             time.sleep(0.2)
         os.close(theirs)
-        self.assertEqual(watch.end(), ('[play]\nfolder inbox\n', 0))
-        self.assertEqual(self.read(os.path.join(self.scene, 'input')), 'folder inbox\nlist inbox')
+        self.assertEqual(watch.end(), (PLAYED, 0))
 
-    def test_a_script_may_be_typed(self):
-        ours, theirs = pty.openpty()
-        watch = Watch(self, 'play', stdin=theirs)
-        self.assertTrue(watch.wait_for('read from the terminal, up to Ctrl-D'))
-        os.write(ours, b'list inbox\n\x04')
-        self.assertEqual(watch.end(), ('[play]\nlist inbox\n', 0))
-        os.close(ours)
-        os.close(theirs)
-
-    def test_a_script_that_rt_would_cut_is_refused(self):
-        path = self.script('long', '')
-        os.truncate(path, 67_108_865)
-        ran = self.run_launcher(path)
-        self.assertEqual((ran.returncode, ran.stdout), (65, ''))
-        self.assertIn('67108864', ran.stderr)
+    def test_wrong_words_are_refused_before_anything_is_compiled(self):
+        self.set_clauses()
+        script = self.script()
+        for words, text in WRONG:
+            for last in ((), (script,)):
+                with self.subTest(words=(*words, *last)):
+                    self.refused(64, text, *words, *last)
+        self.refused(64, 'the following required arguments were not provided: <N>', 'threads')
+        self.refused(64, 'it is no number', 'index', script)
         self.assertEqual(self.calls(), [])
+
+    def test_right_words_are_not(self):
+        self.set_clauses()
+        of_judge = (('judge', '--allow=Gone', '-'), ('judge', '--json', '--allow', 'Mixed'))
+        for words in (('play', '--'), ('threads', '+02'), ('index', '64'), *of_judge):
+            self.assertEqual(self.run_launcher(*words, input=SCRIPT).stdout, shown(words))
+
+    def set_clauses(self):
+        folder = os.path.join(self.top, 'crates', 'md_log', 'src')
+        os.makedirs(folder)
+        shutil.copy(os.path.join(TOP, 'crates', 'md_log', 'src', 'clause.rt'), folder)
 
     def test_an_end_by_a_signal_ends_the_run_and_leaves_nothing(self):
         self.tell('seconds', '30')
@@ -190,14 +245,6 @@ class Built(Scene):
 
     def test_output_that_cannot_be_written_is_the_program_s_to_tell(self):
         self.assertNotEqual(self.run_into_full(self.script()).returncode, 0)
-
-
-class Unwritten(Scene):
-
-    def test_output_that_cannot_be_written_is_named(self):
-        ran = self.run_into_full(self.script())
-        self.assertEqual(ran.returncode, 74)
-        self.assertIn("standard output can't be written", ran.stderr)
 
 
 if __name__ == '__main__':

@@ -37,11 +37,20 @@ class Words(Scene):
         self.assertEqual((ran.returncode, ran.stdout), (66, ''))
         self.assertEqual(ran.stderr, f"deolmutt: {self.path('a script')}: can't be read\n")
 
-    def test_words_that_are_no_script_s_are_not_run_without_a_build(self):
-        for words in (('no file',), ('lst', 'Mail'), ('-x',), ('a folder',)):
-            with self.subTest(words=words):
-                self.refused(70, f"{words[0]} can't be run, since deolmutt is not built", *words)
+    def test_what_is_no_command_and_no_file_is_refused_with_the_nearest_command(self):
+        os.mkdir(self.path('a folder'))
+        for words in (('no file',), ('a folder',), ('x', 'play')):
+            self.refused(64, f"{words[0]}: no such file, and no command; try", *words)
+        nearest = {'buidl': 'build', 'instal': 'install', 'unistall': 'uninstall', 'lst': 'list', 'plsy': 'play', 'judgge': 'judge'}
+        for word, near in nearest.items():
+            self.refused(64, f"{word}: no such file, and no command: a similar one is '{near}'; try", word, 'Mail')
+        self.refused(64, "unexpected argument '-x' found", '-x')
         self.assertEqual(self.calls(), [])
+
+    def test_where_the_program_is_built_it_is_the_program_that_tells_its_own_commands(self):
+        self.build()
+        self.assertEqual(self.run_launcher('lst', 'Mail').stdout, '[lst][Mail]\n')
+        self.refused(64, "a similar one is 'install'", 'instal', '--prefix', 'x')
 
     def test_a_missing_toolchain_is_refused(self):
         os.remove(os.path.join(self.bin, 'rt'))

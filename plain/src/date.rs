@@ -1,5 +1,7 @@
 //! The instant of a date of RFC 2822, as jiff's strict reader reads it.
 
+use crate::ends::first_of;
+
 /// The least and the greatest instant that is one, in seconds since 1970.
 const INSTANTS: std::ops::RangeInclusive<i64> = -377_705_023_201..=253_402_207_200;
 
@@ -9,7 +11,7 @@ pub fn seconds(date: &[u8]) -> Option<i64> {
     text.skip_space();
     let weekday = text.weekday()?;
     let days = text.days()?;
-    if weekday.is_some_and(|weekday| weekday != weekday_of(days)) {
+    if weekday.map_or(false, |weekday| weekday != weekday_of(days)) {
         return None;
     }
     let clock = text.clock()?;
@@ -26,10 +28,9 @@ struct Text<'a>(&'a [u8]);
 impl Text<'_> {
     /// Whether there was white space.
     fn skip_space(&mut self) -> bool {
-        let rest = self.0.trim_ascii_start();
-        let was_there = rest.len() < self.0.len();
-        self.0 = rest;
-        was_there
+        let count = self.0.iter().take_while(|byte| byte.is_ascii_whitespace()).count();
+        self.0 = &self.0[count..];
+        count > 0
     }
 
     fn space(&mut self) -> Option<()> {
@@ -43,7 +44,7 @@ impl Text<'_> {
 
     /// Exactly so many digits.
     fn digits(&mut self, count: usize) -> Option<i64> {
-        let (digits, rest) = self.0.split_at_checked(count)?;
+        let (digits, rest) = (self.0.get(..count)?, &self.0[count..]);
         let number = digits
             .iter()
             .try_fold(0, |number, byte| byte.is_ascii_digit().then(|| number * 10 + i64::from(byte - b'0')))?;
@@ -58,9 +59,8 @@ impl Text<'_> {
 
     /// Which of the names of three letters this is, in any case.
     fn name(&mut self, names: &[&[u8; 3]]) -> Option<usize> {
-        let (found, rest) = self.0.split_first_chunk()?;
-        let found: &[u8; 3] = found;
-        self.0 = rest;
+        let found: &[u8; 3] = first_of(self.0)?;
+        self.0 = &self.0[found.len()..];
         names.iter().position(|name| name.eq_ignore_ascii_case(found))
     }
 

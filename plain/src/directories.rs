@@ -58,8 +58,9 @@ impl Directories {
 
     /// Appends the next bytes of the body.
     pub fn append(&mut self, path: Path, count: u64, now: u64) -> Reply {
-        let Some(cell) = self.cell_at(path) else {
-            return Reply::NotFound;
+        let cell = match self.cell_at(path) {
+            Some(cell) => cell,
+            None => return Reply::NotFound,
         };
         self.files.append(self.cells[cell].file, count, now);
         Reply::Ok
@@ -67,8 +68,9 @@ impl Directories {
 
     /// Gives a file a second name.
     pub fn link(&mut self, old: Path, new: Path) -> Reply {
-        let Some(cell) = self.cell_at(old) else {
-            return Reply::NotFound;
+        let cell = match self.cell_at(old) {
+            Some(cell) => cell,
+            None => return Reply::NotFound,
         };
         if self.cell_at(new).is_some() {
             return Reply::Exists;
@@ -82,8 +84,9 @@ impl Directories {
     /// Gives a file another name in place of its old one. A file that had the new name loses it; where both names are one file's,
     /// nothing is done.
     pub fn rename(&mut self, old: Path, new: Path) -> Reply {
-        let Some(cell) = self.cell_at(old) else {
-            return Reply::NotFound;
+        let cell = match self.cell_at(old) {
+            Some(cell) => cell,
+            None => return Reply::NotFound,
         };
         let file = self.cells[cell].file;
         if let Some(replaced) = self.cell_at(new) {
@@ -103,8 +106,9 @@ impl Directories {
 
     /// Takes a name away.
     pub fn unlink(&mut self, path: Path) -> Reply {
-        let Some(cell) = self.cell_at(path) else {
-            return Reply::NotFound;
+        let cell = match self.cell_at(path) {
+            Some(cell) => cell,
+            None => return Reply::NotFound,
         };
         self.take(cell);
         Reply::Ok

@@ -99,7 +99,8 @@ impl Summary {
     /// The field that a line begins, where it is the first of a name that is shown.
     fn begin_field(&mut self, line: &[u8]) -> Option<Field> {
         let field = Field::beginning_with(line[0])?;
-        let (name, after) = line.split_at_checked(field.name().len())?;
+        let name = line.get(..field.name().len())?;
+        let after = &line[name.len()..];
         if !name.eq_ignore_ascii_case(field.name()) {
             return None;
         }

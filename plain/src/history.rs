@@ -1,12 +1,13 @@
 //! What a store keeps of its run for those who use it: the steps that were taken, and their effects on the mailbox.
 //!
-//! No script asks for them. They are kept as the proved store keeps them, so that both programs do the same work.
+//! No script asks for them, and no code here reads them. They are kept as the proved store keeps them, so that both programs do the
+//! same work.
 
 use crate::directories::Path;
 use crate::jobs::Answer;
 
 /// A step of a job, and the moments that it was given.
-#[expect(dead_code, reason = "kept for users of a store, of which a script is none")]
+#[allow(dead_code)]
 pub struct Event {
     pub job: u64,
     pub now: u64,
@@ -14,7 +15,7 @@ pub struct Event {
 }
 
 /// What a step does to the names of the mailbox.
-#[expect(dead_code, reason = "kept for users of a store, of which a script is none")]
+#[allow(dead_code)]
 pub enum Change {
     Add { path: Path, size: u64 },
     Rename { old: Path, new: Path },
@@ -22,7 +23,7 @@ pub enum Change {
     Same,
 }
 
-#[expect(dead_code, reason = "kept for users of a store, of which a script is none")]
+#[allow(dead_code)]
 pub struct Effect {
     pub job: u64,
     pub answer: Answer,

@@ -6,6 +6,7 @@
 mod cells;
 mod date;
 mod directories;
+mod ends;
 mod escapes;
 mod file_name;
 mod files;

@@ -3,6 +3,8 @@
 //! All output is kept to the end, and written from memory that is there by then. So wherever an allocation is refused nothing was
 //! written yet, and there is nothing to take back.
 
+#![warn(unsafe_op_in_unsafe_fn)]
+
 use std::alloc::{GlobalAlloc, Layout, System};
 use std::io::Write;
 
@@ -21,15 +23,16 @@ fn or_end(block: *mut u8) -> *mut u8 {
     block
 }
 
-unsafe extern "C" {
+extern "C" {
     /// Ends the process, and does nothing else that might ask for memory.
-    safe fn _exit(status: i32) -> !;
+    fn _exit(status: i32) -> !;
 }
 
 #[cold]
 fn end() -> ! {
     let _ = writeln!(std::io::stderr(), "{}", Refused::from(Refusal::NoMemory));
-    _exit(1)
+    // SAFETY: it takes any status, and ends the process.
+    unsafe { _exit(1) }
 }
 
 // SAFETY: each call is passed on to the system's allocator, whose answer is given back.

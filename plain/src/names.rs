@@ -1,7 +1,9 @@
 //! Names: each is kept once, hashed once where it is read, and known by a number from then on.
 
-use std::hash::{BuildHasher, RandomState};
+use std::collections::hash_map::RandomState;
+use std::hash::{BuildHasher, Hasher};
 
+use crate::ends::{first_of, last_of};
 use crate::slab::Id;
 
 pub type NameId = Id<Span>;
@@ -151,18 +153,23 @@ impl NameSet {
 /// What the hashes of this process begin with, so that nobody can choose names which collide.
 struct Seed(u64, u64);
 
+/// A number that nobody knows before: the hash of nothing, by keys that std draws.
+fn random() -> u64 {
+    RandomState::new().build_hasher().finish()
+}
+
 impl Seed {
     fn new() -> Seed {
-        let random = RandomState::new();
-        Seed(random.hash_one(0), random.hash_one(1))
+        Seed(random(), random())
     }
 
     /// Takes in sixteen bytes at a time, the last of them twice where they overlap.
     fn hash(&self, text: &[u8]) -> u32 {
         let mut state = self.0 ^ text.len() as u64;
-        let (blocks, rest) = text.as_chunks::<16>();
-        for block in blocks {
+        let mut rest = text;
+        while let Some(block) = first_of(rest) {
             state = self.fold(state, halves(block));
+            rest = &rest[block.len()..];
         }
         if !rest.is_empty() {
             state = self.fold(state, last_halves(text));
@@ -183,9 +190,9 @@ fn halves(block: &[u8; 16]) -> (u64, u64) {
 
 /// The last sixteen bytes of a text, or all of a shorter one.
 fn last_halves(text: &[u8]) -> (u64, u64) {
-    if let Some(block) = text.last_chunk::<16>() {
+    if let Some(block) = last_of(text) {
         halves(block)
-    } else if let (Some(first), Some(last)) = (text.first_chunk(), text.last_chunk()) {
+    } else if let (Some(first), Some(last)) = (first_of(text), last_of(text)) {
         (u64::from_le_bytes(*first), u64::from_le_bytes(*last))
     } else {
         let bytes = text.iter().fold(0, |bytes, byte| bytes << 8 | u64::from(*byte));

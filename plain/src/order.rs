@@ -2,6 +2,7 @@
 //! gone stay where they were.
 
 use crate::cells::{CellId, Cells};
+use crate::ends::first_of;
 use crate::names::Names;
 
 #[derive(Default)]
@@ -100,7 +101,7 @@ fn shared_len<'a, T: Copy>(items: &[T], text: impl Fn(T) -> &'a [u8]) -> usize {
 
 /// The first eight bytes, zeros after a shorter text, as a number that is in their order.
 fn key(text: &[u8]) -> u64 {
-    match text.first_chunk() {
+    match first_of(text) {
         Some(first) => u64::from_be_bytes(*first),
         None => {
             let mut first = [0; 8];

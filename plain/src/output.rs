@@ -66,7 +66,6 @@ impl Output {
 /// The eight digits of a number that has no more, zeros in front.
 fn digits(number: u32) -> [u8; 8] {
     let pair = |unit: u32| PAIRS[(number / unit % 100) as usize];
-    let mut digits = [0; 8];
-    digits.copy_from_slice([1_000_000, 10_000, 100, 1].map(pair).as_flattened());
-    digits
+    let [[a, b], [c, d], [e, f], [g, h]] = [1_000_000, 10_000, 100, 1].map(pair);
+    [a, b, c, d, e, f, g, h]
 }

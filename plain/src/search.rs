@@ -1,12 +1,14 @@
 //! The search for bytes in a text, sixteen at a time.
 
+use crate::ends::{first_of, last_of};
+
 const WIDTH: usize = 16;
 
 /// The place of the first byte of a text that is one of those wanted.
 #[inline]
 pub fn find<const N: usize>(text: &[u8], wanted: [u8; N]) -> Option<usize> {
     let mut at = 0;
-    while let Some(block) = text[at..].first_chunk::<WIDTH>() {
+    while let Some(block) = first_of(&text[at..]) {
         let found = matches(block, wanted);
         if found != 0 {
             return Some(at + found.trailing_zeros() as usize);
@@ -19,7 +21,7 @@ pub fn find<const N: usize>(text: &[u8], wanted: [u8; N]) -> Option<usize> {
 /// The same, of a text that has none of those wanted before `at`, and less than a block from there.
 #[inline]
 fn find_in_rest<const N: usize>(text: &[u8], at: usize, wanted: [u8; N]) -> Option<usize> {
-    match text.last_chunk::<WIDTH>() {
+    match last_of(text) {
         // The last block overlaps what was searched, where nothing was found.
         Some(block) => {
             let found = matches(block, wanted);

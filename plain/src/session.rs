@@ -13,6 +13,8 @@ use crate::store::Store;
 use crate::words::Words;
 use crate::world::World;
 
+const NO_READING: Option<Vec<Row>> = None;
+
 pub struct Session {
     folders: Folders,
     store: Store,
@@ -27,7 +29,7 @@ impl Session {
         Session {
             folders: Folders::new(),
             store: Store::new(),
-            readings: [const { None }; Folder::MOST],
+            readings: [NO_READING; Folder::MOST],
             summary: Summary::default(),
             output: Output::default(),
         }

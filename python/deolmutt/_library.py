@@ -206,5 +206,5 @@ def _declared(found: ctypes.CDLL, path: str) -> ctypes.CDLL:
     return found
 
 
-def _those_of(found: ctypes.CDLL, wanted: dict[str, Any]) -> dict[str, Any]:
+def _those_of(found: ctypes.CDLL, wanted: dict[str, tuple[Any, ...]]) -> dict[str, tuple[Any, ...]]:
     return {name: types for name, types in wanted.items() if hasattr(found, name)}

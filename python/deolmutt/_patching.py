@@ -5,7 +5,6 @@ from __future__ import annotations
 import mailbox
 import os
 from contextlib import contextmanager
-from functools import lru_cache
 from typing import Any, Iterator, Optional, Union
 
 from ._tree import TOP, Trail, Tree
@@ -102,12 +101,19 @@ def patched(prefix: StrPath, disk: bool = False) -> Iterator[None]:
         setattr(mailbox.Maildir, "__init__", before)
 
 
-@lru_cache(maxsize=None)
+# The classes that were made, each once.
+_made: dict[tuple[type, type], type] = {}
+
+
 def _with_base(kind: type, base: type) -> type:
     """The class, with the methods of `mailbox.Maildir` that it doesn't have itself from the base."""
     if issubclass(kind, base):
         return kind
-    return base if kind is mailbox.Maildir else type(kind.__name__, (kind, base), {"__module__": kind.__module__})
+    if kind is mailbox.Maildir:
+        return base
+    if (kind, base) not in _made:
+        _made[kind, base] = type(kind.__name__, (kind, base), {"__module__": kind.__module__})
+    return _made[kind, base]
 
 
 def _is_below(path: str, top: str) -> bool:

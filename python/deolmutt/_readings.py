@@ -33,7 +33,11 @@ class Found(NamedTuple):
 
 def find_name(directory: bytes, unique: bytes) -> Found:
     """The name of a message in a directory. Raises OSError, and `Restless` where none was found in a directory that never rests."""
-    return _rested(directory, lambda: _find_once(directory, unique), lambda found: found.name is not None and not found.is_twice)
+    return _rested(directory, lambda: _find_once(directory, unique), _is_one)
+
+
+def _is_one(found: Found) -> bool:
+    return found.name is not None and not found.is_twice
 
 
 def all_names(directory: bytes) -> List[bytes]:

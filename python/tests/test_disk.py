@@ -91,12 +91,13 @@ class BesideCPythonTest(DiskCase):
         self.assertEqual("P", self.other[key].get_flags())
 
     def test_a_message_of_new_may_have_flags(self) -> None:
-        for at, (change, name) in enumerate((
+        changes: tuple[tuple[Callable[[str], Any], str], ...] = (
             (lambda key: self.box.remove_flag(key, "S"), "cur/{}:2,F"),
             (lambda key: self.box.set_flags(key, "R"), "cur/{}:2,R"),
             (lambda key: self.box.remove_flag(key, "R"), "new/{}:2,FS"),
             (lambda key: self.box.__setitem__(key, MESSAGE), "cur/{}:2,FS"),
-        )):  # fmt: skip
+        )
+        for at, (change, name) in enumerate(changes):
             key = f"u{at}"
             (self.path / f"new/{key}:2,FS").write_bytes(MESSAGE)
             change(key)
@@ -113,8 +114,8 @@ class BesideCPythonTest(DiskCase):
             self.box.remove(keys[0])
         with self.assertRaises(KeyError):
             self.box.add_flag(keys[0], "S")
-        for key in ("", "a/b", ".x", 7):
-            self.assertNotIn(key, self.box)
+        for other in ("", "a/b", ".x", 7):
+            self.assertNotIn(other, self.box)
 
     def test_a_message_takes_anothers_place(self) -> None:
         key = self.box.add(maildir_message("FS", "cur"))
@@ -135,11 +136,15 @@ class BesideCPythonTest(DiskCase):
         key = self.box.add(MESSAGE)
         with self.box.get_file(key) as file:
             self.assertEqual(MESSAGE, file.read())
-        self.assertEqual("one", self.box.next()["subject"])
+        first = self.box.next()
+        assert first is not None
+        self.assertEqual("one", first["subject"])
         self.assertIsNone(self.box.next())
         made = deolmutt.DiskMaildir(self.path, factory=mailbox.MaildirMessage)
         self.assertEqual(["one"], [message["subject"] for message in made])
-        self.assertEqual("one", self.box.pop(key)["subject"])
+        popped = self.box.pop(key)
+        assert popped is not None
+        self.assertEqual("one", popped["subject"])
 
     def test_folders(self) -> None:
         sent = self.box.add_folder("Sent")
@@ -240,7 +245,10 @@ class MeanwhileTest(DiskCase):
     def test_a_name_that_is_there_is_not_replaced(self) -> None:
         key = self.box.add(maildir_message("", "cur"))
         (self.path / "cur" / (key + ":2,F")).write_bytes(b"another")
-        ways = (mock.patch.object(_running, "_renameat2", lambda: None), mock.patch.object(os.path, "lexists", lambda path: False))
+        ways: tuple[Any, ...] = (
+            mock.patch.object(_running, "_renameat2", lambda: None),
+            mock.patch.object(os.path, "lexists", lambda path: False),
+        )
         for way in ways:
             with way, self.assertRaises(Fault):
                 self.box.add_flag(key, "F")
@@ -248,7 +256,8 @@ class MeanwhileTest(DiskCase):
 
     def test_other_info_is_kept(self) -> None:
         (self.path / "cur/u:1,x").write_bytes(MESSAGE)
-        for change in (lambda: self.box.add_flag("u", "F"), lambda: self.box.remove("u")):
+        changes: tuple[Callable[[], Any], ...] = (lambda: self.box.add_flag("u", "F"), lambda: self.box.remove("u"))
+        for change in changes:
             with self.assertRaises(OtherInfo):
                 change()
         self.assertEqual("1,x", self.box.get_info("u"))
@@ -353,7 +362,8 @@ class DrivenTest(unittest.TestCase):
 
     def test_the_order(self) -> None:
         job = Driven(Clean(0))
-        for call in (job.request, lambda: job.row(b"u"), lambda: job.take(DONE)):
+        calls: tuple[Callable[[], Any], ...] = (job.request, lambda: job.row(b"u"), lambda: job.take(DONE))
+        for call in calls:
             with self.assertRaises(NotAsked):
                 call()
         job.ask(1)

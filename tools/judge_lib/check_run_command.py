@@ -10,6 +10,7 @@ import tempfile
 from typing import List, Optional, Sequence
 
 from . import reports
+from .called import called
 from .judge_run import SENTENCES, judge_file, deolmutt
 from .known import read_known, split
 from .refused import Refused
@@ -43,7 +44,7 @@ status:
 
 def _options() -> argparse.ArgumentParser:
     form = argparse.RawDescriptionHelpFormatter
-    parser = argparse.ArgumentParser(prog="tools/check-run", description=_ABOUT, epilog=_MORE, formatter_class=form)
+    parser = argparse.ArgumentParser(prog=called("check-run"), description=_ABOUT, epilog=_MORE, formatter_class=form)
     add_options(parser)
     parser.add_argument("--status", action="append", default=[], metavar="[ACTOR:] N..",
                         help="with what the command, or an actor, may end; without it, with 0 alone")

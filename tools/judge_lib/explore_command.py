@@ -8,6 +8,7 @@ import sys
 from typing import List, Optional, Sequence
 
 from . import explored_table, trials_table
+from .called import called
 from .explored_table import all_unexpected
 from .claims import read_claims
 from .exploring import STOPS, Bounds, Explored, Pairing, explore, explore_one
@@ -56,7 +57,7 @@ status:
 
 def _options() -> argparse.ArgumentParser:
     form = argparse.RawDescriptionHelpFormatter
-    parser = argparse.ArgumentParser(prog="tools/explore", description=_ABOUT, epilog=_MORE, formatter_class=form)
+    parser = argparse.ArgumentParser(prog=called("explore"), description=_ABOUT, epilog=_MORE, formatter_class=form)
     parser.add_argument("--setup", default="", metavar="CMD", help="what makes the maildirs, a command of sh")
     parser.add_argument("--folder", action="append", default=[], metavar="DIR", help="a maildir to judge, as in tools/trace")
     parser.add_argument("--claims", action="append", default=[], metavar="WORDS",

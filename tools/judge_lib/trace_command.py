@@ -7,6 +7,7 @@ import sys
 import tempfile
 from typing import Optional, Sequence
 
+from .called import called
 from .refused import Refused
 from .trace_run import Traced, add_options, run, warnings
 
@@ -44,7 +45,7 @@ status:
 
 def _options() -> argparse.ArgumentParser:
     form = argparse.RawDescriptionHelpFormatter
-    parser = argparse.ArgumentParser(prog="tools/trace", description=_ABOUT, epilog=_MORE, formatter_class=form)
+    parser = argparse.ArgumentParser(prog=called("trace"), description=_ABOUT, epilog=_MORE, formatter_class=form)
     add_options(parser)
     parser.add_argument("-o", dest="log", metavar="LOG",
                         help="where the log goes; without it, to standard output, and what the command prints to standard error")

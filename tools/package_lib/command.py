@@ -24,7 +24,7 @@ OUT = TOP / "out/packages"
 LIBRARY = TOP / "crates/md_ffi/out/deolmutt"
 # The least moment that each kind of package can say.
 LEAST_EPOCH = 315_532_800
-LICENCES = ("LICENSE-APACHE", "LICENSE-MIT")
+BESIDE = ("LICENSE-APACHE", "LICENSE-MIT", "SECURITY.md")
 ABOUT = """Makes packages of a tree that the gate (.ci/run) has passed: an archive of all for Linux on x86-64, three packages for Debian,
 and a wheel for Python. Each says by which prover and of which tree it was proved. A tree that has changed since is refused. Packages of one
 tree are the same byte for byte."""
@@ -61,7 +61,7 @@ tree's sum. SECURITY.md says what you trust.
 def archive(proved: bytes, moment: int, folder: Path) -> Path:
     """An archive of all but what is for Python."""
     stem = f"deolmutt-{version()}"
-    notes = {"PROVED": Entry(0o644, proved), **{name: Entry(0o644, (TOP / name).read_bytes()) for name in LICENCES}}
+    notes = {"PROVED": Entry(0o644, proved), **{name: Entry(0o644, (TOP / name).read_bytes()) for name in BESIDE}}
     entries = {**programs(), **part("tools"), **part("shared"), **part("development"), **pkg_config(version()), **notes}
     made = folder / f"{stem}-linux-x86_64.tar.gz"
     made.write_bytes(packed(tar(below(stem, entries), moment)))

@@ -17,7 +17,7 @@ from .tree import TOP
 
 sys.path.insert(0, str(TOP / "python"))
 
-from backend import glibc_of  # noqa: E402
+from backend import SONAME, glibc_of  # noqa: E402
 
 ARCHITECTURE = "amd64"
 LIBRARIES = "lib/x86_64-linux-gnu"
@@ -48,10 +48,24 @@ def packages(version: str) -> list[Package]:
     return [
         Package("deolmutt", "mail", program, [_libc(program), "python3", "strace"], "proved jobs on maildirs, and a judge of mail programs"),
         Package("libdeolmutt1", "libs", library, [_libc(library)], "Maildir store in memory, proved",
-                {"shlibs": SHLIBS, "triggers": TRIGGERS}),
+                {"shlibs": SHLIBS, "symbols": _symbols(library, version), "triggers": TRIGGERS}),
         Package("libdeolmutt-dev", "libdevel", development, [f"libdeolmutt1 (= {version})"],
                 "Maildir store in memory, proved (development files)"),
     ]  # fmt: skip
+
+
+def _symbols(entries: Entries, version: str) -> str:
+    """The names of the library with their versions, by which dpkg knows what a program asks for."""
+    with tempfile.NamedTemporaryFile() as file:
+        file.write(entries[f"{LIBRARIES}/{SONAME}"].content)
+        file.flush()
+        words = ["nm", "--dynamic", "--defined-only", "--with-symbol-versions", file.name]
+        printed = subprocess.run(words, capture_output=True, text=True, check=True).stdout
+    found = [line.split()[-1].split("@@") for line in printed.splitlines()]
+    # A version is a name too, which has itself for a version.
+    names = sorted(f"{it[0]}@{it[-1]}" for it in found)
+    head = f"{SONAME} libdeolmutt1 #MINVER#\n* Build-Depends-Package: libdeolmutt-dev\n"
+    return head + "".join(f" {name} {version}\n" for name in names)
 
 
 def _libc(entries: Entries) -> str:
@@ -78,16 +92,29 @@ def _debian_way(entries: Entries) -> Entries:
     """Manual pages are packed, and what is for the linker alone is left out of programs and libraries."""
     pages = {path for path in entries if path.startswith("share/man/")}
     plain = {path: _stripped(it) for path, it in entries.items() if path not in pages}
-    return {**plain, **{f"{path}.gz": Entry(0o644, packed(entries[path].content)) for path in pages}}
+    return {**plain, **{f"{path}.gz": _packed_page(entries[path]) for path in pages}}
+
+
+def _packed_page(page: Entry) -> Entry:
+    """A manual page as Debian has it, or a link to one."""
+    return page._replace(content=page.content + b".gz" if page.is_link else packed(page.content))
+
+
+# What is stripped, by how it begins, and of what.
+STRIPPED = {
+    b"\x7fELF": ("--strip-unneeded",),
+    b"!<arch>\n": ("--strip-debug", "--enable-deterministic-archives"),
+}
 
 
 def _stripped(entry: Entry) -> Entry:
-    if not entry.content.startswith(b"\x7fELF"):
+    how = next((how for start, how in STRIPPED.items() if entry.content.startswith(start)), None)
+    if how is None:
         return entry
     with tempfile.TemporaryDirectory() as work:
         path = Path(work) / "file"
         path.write_bytes(entry.content)
-        subprocess.run(["strip", "--strip-unneeded", "--remove-section=.comment", str(path)], check=True)
+        subprocess.run(["strip", *how, "--remove-section=.comment", str(path)], check=True)
         return entry._replace(content=path.read_bytes())
 
 
@@ -98,6 +125,7 @@ def _documents(name: str, version: str, proved: bytes, epoch: int) -> Entries:
         "copyright": _copyright(),
         "changelog.gz": packed(changes.encode()),
         "PROVED": proved,
+        "SECURITY.md": (TOP / "SECURITY.md").read_bytes(),
     }
     return {f"share/doc/{name}/{path}": Entry(0o644, text) for path, text in texts.items()}
 

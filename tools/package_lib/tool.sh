@@ -4,6 +4,7 @@ set -eu
 bin=$(dirname "$(readlink -f "$0")")
 name=${0##*/deolmutt-}
 : "${DEOLMUTT:=$bin/deolmutt}"
-export DEOLMUTT
+DEOLMUTT_TOOL=deolmutt-$name
+export DEOLMUTT DEOLMUTT_TOOL
 [ "$name" != races ] || set -- --deolmutt "$bin/deolmutt" --cli "$bin/maildir_cli" "$@"
 exec python3 "$bin/../share/deolmutt/tools/$name" "$@"

@@ -29,7 +29,7 @@ from .tree import actors_of, interleavings
 MOST = 1_000
 PAGE = "docs/races.html"
 PREVIEW = "docs/races.png"
-LISTING = "A listing (A), while another program moves a message from new to cur (B)"
+LISTING = "A lists a maildir, while B moves the message u from new to cur"
 ABOUT = """Makes a page that steps through races. Of a script's two or three jobs or listings it plays every interleaving, each by
 deolmutt and by maildir_cli, and shows what they printed. With --explore it runs two commands of any programs in every order of their
 directory calls, as tools/explore does, and shows what they did. With --docs it makes docs/races.html and the pictures of docs, of scripts
@@ -92,7 +92,8 @@ def script_scene(programs: Programs, file: Path, most: int) -> PageScene:
 def race_scene(programs: Programs, race: Race) -> PageScene:
     """A race of docs/races.html."""
     sides = [kept.side_of(kept.read_kept(race.kept), race.names)] if race.kept else []
-    return PageScene(race.name, race.title, race.about, [*sides, played_side(programs, race.script, MOST, race.letters)])
+    program = race.names.programs[0] if race.kept else "Deolmutt"
+    return PageScene(race.name, race.title, race.about, [*sides, played_side(programs, race.script, MOST, race.letters)], program)
 
 
 def explored_scene(setup: str, commands: tuple[str, str], claims: list[str]) -> PageScene:

@@ -10,12 +10,13 @@ from typing import Any, NamedTuple
 
 from judge_lib.judge_run import SENTENCES
 
-from .losses import Names, lines_of, lost_in, outcome_of
+from .losses import Names, headline_of, lines_of, lost_in, outcome_of
 from .refused import Refused
 from .side import Order, Shown, Side
 from .words import Act, Directories, Parts, sentence
 
 KEPT = Path(__file__).resolve().parent.parent / "races.d"
+MOST_LINES = 3
 
 
 class Line(NamedTuple):
@@ -50,7 +51,8 @@ def side_of(kept: dict[str, Any], names: Names) -> Side:
     for order in kept["orders"]:
         side.add(order_of(kept, order, names, Directories(folders, dict.fromkeys(first))))
     side.own = side.worst()
-    side.count = side.counted(lost_in(kept, side))
+    side.count = side.counted(lost_in(kept, side), names.late)
+    side.headline = headline_of(kept, side, names)
     return side
 
 
@@ -62,11 +64,19 @@ def order_of(kept: dict[str, Any], order: dict[str, Any], names: Names, director
         text = step_text(line.lines, directories)
         notes = [["bad", clause, SENTENCES[clause]] for clause in line.broken]
         if is_end(line.lines[0]) and who in order["printed"]:
-            notes.append(["", "it printed", order["printed"][who].strip()])
+            notes.append(printed_note(order["printed"][who]))
         kind = "bad" if line.broken else "lost" if "ENOENT" in text[-1] else ""
         steps.append(Shown(who, text, kind, notes, sorted(directories.paths), [raw(one) for one in line.lines]))
     outcome, ending = outcome_of(kept, order, names, directories)
     return Order(order["turns"], beginning, steps, outcome, ending)
+
+
+def printed_note(text: str) -> list[str]:
+    """What a command printed; of much, which is a traceback, its last line."""
+    lines = text.strip().split("\n")
+    if len(lines) <= MOST_LINES:
+        return ["printed", "it printed", "\n".join(lines)]
+    return ["printed", "it printed in the end", lines[-1]]
 
 
 def joined(kept: dict[str, Any], order: dict[str, Any]) -> Iterator[Line]:

@@ -2,7 +2,7 @@
 
 from __future__ import annotations
 
-from collections.abc import Mapping
+from collections.abc import Container, Mapping
 from typing import Any, NamedTuple
 
 from judge_lib.judge_run import SENTENCES
@@ -11,22 +11,36 @@ from .side import GOOD, LOST, SAID, Side
 from .words import Directories
 
 LETTERS = "AB"
-# What is lost where a clause is broken, as the count of orders says it. Those that come first are told first.
+
+
+class Loss(NamedTuple):
+    """What is lost: as the count of orders says it, and what the program does."""
+
+    counted: str
+    done: str
+
+
+# What is lost where a clause is broken. Those that come first are told first.
 LOSSES = {
-    "AnsweredFalsely": "the status says what is not so",
-    "Unlisted": "the listing lacks a message that is there",
-    "CleanedEarly": "a delivery loses its file",
-    "Gone": "a message is gone that nobody wanted to delete",
+    "AnsweredFalsely": Loss("the status says what is not so", "says what is not so"),
+    "Unlisted": Loss("the listing lacks a message that is there", "misses a message that is there"),
+    "CleanedEarly": Loss("a delivery loses its file", "takes away what is being delivered"),
+    "Gone": Loss("a message is gone that nobody wanted to delete", "deletes what nobody wanted to delete"),
 }
+FLAG = Loss("a flag is lost with status 0", "loses a flag")
+FAILED = Loss(LOSSES["AnsweredFalsely"].counted, "delivers, and says that it failed")
+OTHER = Loss("the law of a maildir is broken", "breaks the law of a maildir")
 # By these a program tells its user what is not so, whatever its status is.
 FALSE = ("AnsweredFalsely", "GaveUp")
 
 
 class Names(NamedTuple):
-    """What a page calls the programs of a race, and with which status a program also ends where all is well."""
+    """What a page calls the programs of a race, with which status a program also ends where all is well, and why something is lost in
+    orders in which the second begins late."""
 
     programs: tuple[str, ...]
     usual: Mapping[str, str] = {}
+    late: str = ""
 
     def of(self, letter: str) -> str:
         """A program; with its letter, where both have one name."""
@@ -47,11 +61,16 @@ def outcome_of(kept: dict[str, Any], order: dict[str, Any], names: Names, direct
     broken = {clause: lines[at] for at, clause in reversed(order["broken"])}
     if not broken:
         return (SAID, f"Not done, and said: {' '.join(ended)}") if odd else (GOOD, "Nothing is lost.")
-    clause = next((one for one in [*LOSSES, *SENTENCES] if one in broken))
+    clause = first_told(broken)
     told = loss(clause, broken[clause].split(" "), lines, names, directories)
     if not odd:
         ended = [f"{names.of(broken[clause][0])} ended with status 0."]
     return SAID if odd and not any(one in broken for one in FALSE) else LOST, " ".join([told, *ended])
+
+
+def first_told(broken: Container[str]) -> str:
+    """The clause of those that are broken that is told first."""
+    return next(one for one in [*LOSSES, *SENTENCES] if one in broken)
 
 
 def loss(clause: str, words: list[str], lines: list[str], names: Names, directories: Directories) -> str:
@@ -85,7 +104,24 @@ def unique_of(path: str) -> str:
 def lost_in(kept: dict[str, Any], side: Side) -> str:
     """What is lost in the orders of a side, in one clause of a sentence."""
     if any(order.ending.startswith("The flag ") for order in side.orders):
-        return "a flag is lost with status 0"
+        return FLAG.counted
     clauses = {clause for order in kept["orders"] for _, clause in order["broken"]}
-    broken = "the law of a maildir is broken" if clauses else "a program fails"
-    return next((text for clause, text in LOSSES.items() if clause in clauses), broken)
+    broken = OTHER.counted if clauses else "a program fails"
+    return next((lost.counted for clause, lost in LOSSES.items() if clause in clauses), broken)
+
+
+def headline_of(kept: dict[str, Any], side: Side, names: Names) -> tuple[str, str]:
+    """What is lost in the worst order, and by whom."""
+    order, shown = kept["orders"][side.own], side.orders[side.own]
+    broken = {clause: lines_of(kept, order)[at] for at, clause in reversed(order["broken"])}
+    all_names = " and ".join(dict.fromkeys(names.programs))
+    if not broken:
+        return shown.outcome, f"{all_names}: {'nothing is lost' if shown.outcome == GOOD else 'a program fails, and says so'}"
+    clause = first_told(broken)
+    letter, *words = broken[clause].split(" ")
+    done = LOSSES.get(clause, OTHER)
+    if clause == "AnsweredFalsely" and words[1] == "failed":
+        done = FAILED
+    if shown.ending.startswith("The flag "):
+        done = FLAG
+    return shown.outcome, f"{names.programs[LETTERS.index(letter)]} {done.done}"

@@ -37,7 +37,7 @@ UNDONE = ("lost", "timedout", "tmpgone")
 CLAUSES = {
     "acts": "a job that succeeds takes effect at exactly one step of its own",
     "says": "a job without an effect says truly why",
-    "quiet": "a step that is no effect changes no message",
+    "quiet": "only a step that takes effect changes a message",
     "in_tmp": "only a clean that saw the file to be old takes it away from tmp",
     "the listing law": "new is read before cur, so a message that is there at both readings is listed",
 }
@@ -59,6 +59,7 @@ def side_of(scene: Scene, interleavings: list[Played], own: Played, there_are: s
     turns = "".join(letters[step.actor] for step in own.steps)
     side.own = next((at for at, order in enumerate(side.orders) if order.turns.startswith(turns)), 0)
     side.count = side.counted("")
+    side.headline = GOOD, "Deolmutt loses nothing"
     if there_are != f"{len(interleavings):,}":
         side.count = f"{side.count[:-1]} that were tried; there are {there_are}."
     return side

@@ -61,10 +61,25 @@
     now.orders = [chosen];
     if (second) now.orders.push(orders[1] >= 0 ? within(Math.floor(orders[1]), second.orders.length - 1) : scene().partners[chosen]);
     get('scene').value = String(number);
-    get('about').textContent = scene().about;
+    showAbout();
     get('runs').replaceChildren(...sides().map((side, at) => column(side, at)));
     now.step = /^\d+$/.test(step || '') ? within(Number(step), most()) : most();
     show();
+  }
+
+  // What the race is, and what each side loses.
+  function showAbout() {
+    get('about').replaceChildren();
+    add(get('about'), 'b', `${scene().title}.`);
+    get('about').append(` ${scene().about}`);
+    get('headline').replaceChildren(...sides().map(side => {
+      const [outcome, words] = side.headline;
+      const line = document.createElement('span');
+      line.className = outcome;
+      add(line, 'i', OUTCOMES[outcome][0], `dot ${outcome}`).setAttribute('aria-hidden', 'true');
+      line.append(` ${words}`);
+      return line;
+    }));
   }
 
   function go(step) {
@@ -92,8 +107,9 @@
     add(head, 'small', side.tag, 'soft');
     add(run, 'p', side.count, 'count');
     run.append(map(side, at));
-    for (const kind of ['now', 'state', 'notes', 'ending']) add(run, 'div', undefined, kind);
-    const steps = add(run, 'details');
+    for (const kind of ['now', 'state', 'ending', 'notes']) add(run, 'div', undefined, kind);
+    const more = add(run, 'div', undefined, 'more');
+    const steps = add(more, 'details');
     steps.open = !isNarrow.matches;
     add(steps, 'summary', 'All steps');
     const actors = add(steps, 'ul', undefined, 'actors');
@@ -103,8 +119,8 @@
       add(item, 'span', words, 'name');
     });
     add(steps, 'ol', undefined, 'steps');
-    const made = add(run, 'details', undefined, 'made');
-    add(made, 'summary', 'Where this comes from');
+    const made = add(more, 'details', undefined, 'made');
+    add(made, 'summary', 'Log and command');
     add(made, 'p', side.about, 'soft');
     add(made, 'pre', side.repeat.join('\n'));
     add(made, 'button', 'Download this log').addEventListener('click', () => download(at));
@@ -186,7 +202,7 @@
     box.replaceChildren();
     state.forEach((folder, number) => folder.forEach((names, place) => {
       const directory = add(box, 'div', undefined, 'directory');
-      const path = `${side.folders[number]}/${PLACES[place]}/`;
+      const path = `${side.folders.length > 1 ? `${side.folders[number]}/` : ''}${PLACES[place]}/`;
       add(directory, 'b', path);
       const list = add(directory, 'ul');
       list.setAttribute('aria-label', path);
@@ -286,10 +302,13 @@
 
   // On a phone the directories may be below the screen, where nobody sees a name move.
   function keepInSight() {
-    const first = get('run-0').getBoundingClientRect();
-    const last = [...document.querySelectorAll('.state')].pop().getBoundingClientRect();
-    const isInSight = first.top >= 0 && last.bottom <= get('bar').getBoundingClientRect().top;
-    if (!isInSight) get('run-0').scrollIntoView({ behavior: isStill.matches ? 'auto' : 'smooth' });
+    const sentence = document.querySelector('.now');
+    const topOf = one => one.getBoundingClientRect().top;
+    const last = [...document.querySelectorAll('.state')].pop().getBoundingClientRect().bottom;
+    const bar = topOf(get('bar'));
+    if (topOf(sentence) >= 0 && last <= bar) return;
+    const first = last - topOf(get('run-0')) <= bar ? get('run-0') : sentence;
+    first.scrollIntoView({ behavior: isStill.matches ? 'auto' : 'smooth' });
   }
 
   function move(step) {

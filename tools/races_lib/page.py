@@ -13,7 +13,7 @@ from .side import PLACES, Order, Side
 HERE = Path(__file__).resolve().parent
 HEAD = ("Step", "Who", "What", "tmp, new and cur after it")
 TITLE = "Races in a maildir, step by step"
-ABOUT = "Two programs work on one maildir at once: released ones, as they were recorded, and then Deolmutt, in every order of their calls."
+ABOUT = "Two mail programs use one maildir at once, in every order of their calls: released programs as they were recorded, and Deolmutt."
 MORE = " The clauses are those of {}; {} has the rules of a maildir, and {} more programs."
 DOCS = (("THEOREM.md", "the theorem"), ("JUDGE.md", "the judge"), ("JUDGED.md", "what real programs do"))
 PREVIEW = '<meta property="og:image" content="races.png">\n'
@@ -27,6 +27,12 @@ class Scene:
     title: str
     about: str
     sides: list[Side]
+    # The program that the list of races names.
+    program: str = ""
+
+    def label(self) -> str:
+        """What the list of races says."""
+        return f"{self.program}: {self.title[:1].lower()}{self.title[1:]}" if self.program else self.title
 
     def partners(self) -> list[int]:
         """For each order of the first side, the one of the second that is most like it. Those with which the page opens belong together."""
@@ -39,8 +45,7 @@ class Scene:
 
     def data(self) -> dict[str, object]:
         """The scene as the page has it."""
-        label = f"{self.title}: {self.sides[0].who}" if len(self.sides) > 1 else self.title
-        about = {"name": self.name, "title": self.title, "label": label, "about": self.about}
+        about = {"name": self.name, "title": self.title, "label": self.label(), "about": self.about}
         return about | {"partners": self.partners(), "sides": [side.data() for side in self.sides]}
 
 
@@ -71,7 +76,8 @@ def run_table(side: Side) -> str:
     head = "".join(f'<th scope="col">{word}</th>' for word in HEAD)
     actors = ", ".join(f"{letter}: <code>{escape(words)}</code>" for letter, words in side.actors)
     return (
-        f"<h3>{escape(side.who)} ({escape(side.tag)})</h3><p>{escape(side.count)} {actors}</p>"
+        f"<h3>{escape(side.who)} ({escape(side.tag)})</h3><p><strong>{escape(side.headline[1])}.</strong></p>"
+        f"<p>{escape(side.count)} {actors}</p>"
         f'<div class="wide" tabindex="0" role="region" aria-label="{escape(side.who)}, one order">'
         f"<table><thead><tr>{head}</tr></thead><tbody>{''.join(lines)}</tbody></table></div>"
         f"<p><strong>{escape(order.ending)}</strong></p><p>{escape(side.about)}</p>"
@@ -87,7 +93,7 @@ def noted(note: list[str]) -> str:
 def row_of(cells: tuple[str, ...], side: Side, paths: list[str]) -> str:
     """A row of the table."""
     places = [
-        f"{escape(folder)}/{place}/: {escape(', '.join(names) or '–')}"
+        f"{escape(side.path(folder, place))}: {escape(', '.join(names) or '–')}"
         for folder, directories in zip(side.folders, side.rows(paths))
         for place, names in zip(PLACES, directories)
     ]

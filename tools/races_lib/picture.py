@@ -18,7 +18,7 @@ STYLE = """svg{--ground:#fff;--text:#1b1f24;--soft:#57606a;--line:#818b98;--box:
 @media (prefers-color-scheme:dark){
 svg{--ground:#0d1117;--text:#e6edf3;--soft:#a8b3bf;--line:#6e7681;--box:#161b22;
 --good:#7ee787;--good-box:#12331c;--lost:#ffa198;--lost-box:#4a1517}}
-text{font:14px system-ui,sans-serif;fill:var(--text)}.code{font-family:ui-monospace,monospace;font-size:13px}.soft{fill:var(--soft)}
+text{font:14px system-ui,sans-serif;fill:var(--text)}.code{font-family:ui-monospace,monospace;font-size:13px}.soft{fill:var(--soft)}.end{text-anchor:end}
 .ground{fill:var(--ground)}.box{fill:var(--box);stroke:var(--line)}.title{font-size:16px;font-weight:600}
 .good{fill:var(--good);font-weight:600}.box.good{fill:var(--good-box);stroke:var(--good)}
 .lost{fill:var(--lost);font-weight:600}.box.lost{fill:var(--lost-box);stroke:var(--lost)}"""
@@ -87,12 +87,19 @@ def twice(scene: PageScene, heading: str, title: str) -> str:
 
 def half(side: Side, order: Order, x: int, height: int) -> list[str]:
     """One of the two."""
-    parts = [box_at(x, 44, HALF, height - 60), text_at(x + 14, 70, "title", side.who), text_at(x + 110, 70, "soft", side.tag)]
+    title = f"{side.who}: {first_read(order)} first"
+    parts = [box_at(x, 44, HALF, height - 60), text_at(x + 14, 70, f"title {order.outcome}", title)]
+    parts.append(text_at(x + HALF - 14, 70, "soft end", side.tag))
     for at, step in enumerate(order.steps, 1):
         y = 74 + LINE * at
         parts += [text_at(x + 14, y, "soft", step.who), text_at(x + 40, y, "code", words_of(step))]
     box = box_at(x + 10, height - 62, HALF - 20, 30, order.outcome)
     return [*parts, box, text_at(x + 20, height - 42, order.outcome, ending_of(order))]
+
+
+def first_read(order: Order) -> str:
+    """The directory that A reads first."""
+    return next(step.text[1].rstrip("/") for step in order.steps if step.who == "A")
 
 
 def words_of(step: Shown) -> str:

@@ -31,7 +31,7 @@ LISTING = "While a program lists the folder, another one moves the message from 
 RACES = (
     Race(
         "two-flaggers", "Two programs flag one message", f"A sets the flag F, and B the flag R. {FLAGS}",
-        EXAMPLES / "two-flaggers.script", kept="mflag-twice", names=Names(("mflag", "mflag")),
+        EXAMPLES / "two-flaggers.script", kept="mflag-twice", names=Names(("mflag", "mflag"), late="by a name that is old"),
     ),
     Race(
         "tag-beside-rename", "A tag beside a rename", f"A sets the flag F, while B renames the file to set R. {FLAGS}",
@@ -39,25 +39,25 @@ RACES = (
     ),
     Race(
         "listing-beside-move", "A listing beside a move", LISTING,
-        EXAMPLES / "listing-and-mover.script", "BA", kept="mlist-beside-mv", names=Names(("mlist", "mv")),
+        OWN / "listing-beside-move.script", "BA", kept="mlist-beside-mv", names=Names(("mlist", "mv")),
     ),
     Race(
-        "keys-beside-move", "A listing by Python beside a move", LISTING,
-        EXAMPLES / "listing-and-mover.script", "BA", kept="python-keys-beside-mv", names=Names(("Python's mailbox", "mv")),
+        "keys-beside-move", "keys() beside a move", LISTING,
+        OWN / "listing-beside-move.script", "BA", kept="python-keys-beside-mv", names=Names(("Python's mailbox", "mv")),
     ),
     Race(
-        "reader-beside-delivery", "A mail reader that cleans tmp, beside a delivery",
+        "reader-beside-delivery", "A clean of tmp beside a delivery",
         "B delivers a message. A opens the maildir meanwhile, and looks at what is in tmp.",
         OWN / "clean-beside-delivery.script", "BA", kept="mailutils-beside-mdeliver", names=Names(("mail", "mdeliver"), {"A": "status 1"}),
         allowed=("Gone",),
     ),
     Race(
-        "expunge-beside-untrash", "An expunge, while the message is taken out of the trash",
+        "expunge-beside-untrash", "An expunge beside an untrash",
         "The message has the flag T. A expunges messages with T, while B takes the flag away.",
         EXAMPLES / "expunge-and-untrash.script", kept="dovecot-expunge-beside-untrash", names=Names(("Dovecot", "mv")),
     ),
     Race(
-        "last-unlink-fails", "A delivery whose last call fails",
+        "last-unlink-fails", "The last unlink fails",
         "The message is in new, and the delivery's last call, which takes its name in tmp away, fails.",
         EXAMPLES / "cleaner-and-deliverer.script", kept="python-add-unlink-fails", names=Names(("Python's mailbox",)),
     ),
@@ -66,7 +66,7 @@ RACES = (
         EXAMPLES / "two-deliverers.script",
     ),
     Race(
-        "copy-beside-flag", "A copy, while the message is flagged",
+        "copy-beside-flag", "A copy beside a flag",
         "The copy has one try. Where its message's name is gone by then, the copy says so, and no message is lost.",
         EXAMPLES / "copy-while-flagged.script",
     ),

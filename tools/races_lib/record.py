@@ -29,9 +29,12 @@ Tell = Callable[[str], None]
 
 MADE = re.compile(r"\d{9,}\.[A-Za-z0-9_]+\.[A-Za-z0-9-]+")
 SESSION = re.compile(r"<\d+><[^<>\s]+>")
+# How many bytes Dovecot sent, which has the digits of its times in it.
+SENT = re.compile(r"\bout=\d+")
 FOLDER = re.compile(re.escape(f"{tempfile.gettempdir()}/explore-") + r"\w+/work/")
 FIXED_NAME = "1000.M{}P7.host"
 FIXED_SESSION = "<7><session>"
+FIXED_SENT = "out=N"
 # The name of a scene's message, and a short one, since a page shows it in three columns.
 SHORTENED = ("1000.M1P7Q1.a", "u")
 BOUNDS = Bounds(1_000, 3_600)
@@ -132,8 +135,8 @@ def steps_of(log: str) -> Iterator[tuple[int, str]]:
 
 
 def fixed(text: str, names: dict[str, str]) -> str:
-    """A text whose made names and numbers of sessions are fixed ones, and without the folder of the run."""
-    bare = FOLDER.sub("", SESSION.sub(FIXED_SESSION, text))
+    """A text whose made names and numbers of a session are fixed ones, and without the folder of the run."""
+    bare = SENT.sub(FIXED_SENT, FOLDER.sub("", SESSION.sub(FIXED_SESSION, text)))
     return MADE.sub(lambda found: names.setdefault(found[0], FIXED_NAME.format(len(names) + 1)), bare)
 
 

@@ -68,6 +68,8 @@ class Side:
     repeat: list[str]
     orders: list[Order] = field(default_factory=list)
     count: str = ""
+    # What it loses, in one look: whether it loses something, and in which words.
+    headline: tuple[str, str] = (GOOD, "")
     # Whether it is of a released program, by the log that is kept of it.
     is_kept: bool = False
     # The order with which the page opens.
@@ -77,15 +79,17 @@ class Side:
         """Adds an order."""
         self.orders.append(order)
 
-    def counted(self, loss: str) -> str:
-        """In how many orders something is lost, in words."""
+    def counted(self, loss: str, late: str = "") -> str:
+        """In how many orders something is lost, in words; and why it is in those in which the second begins late."""
         lost, said = ([order for order in self.orders if order.outcome == kind] for kind in (LOST, SAID))
         overlapping = [order for order in self.orders if order.overlaps()]
         parts = []
         if lost:
             parts.append(f"in {share(lost, self.orders)} {loss}")
             if 0 < len(overlapping) < len(self.orders):
-                parts[-1] += f" (in {sum(order.overlaps() for order in lost)} of the {len(overlapping)} that overlap)"
+                both = sum(order.overlaps() for order in lost)
+                others = f"; in the others the second begins late, {late}" if late and both < len(lost) else ""
+                parts[-1] += f" (in {both} of the {len(overlapping)} that overlap{others})"
         if said:
             done = "a job is not done" if not self.is_kept else "a program fails" if lost else loss
             parts.append(f"in {share(said, self.orders)} {done}, and says so")
@@ -100,6 +104,10 @@ class Side:
         """The order that shows the most: one in which the two overlap, and something is lost that nobody is told of."""
         ranks = [((LOST, SAID, GOOD).index(order.outcome), not order.overlaps()) for order in self.orders]
         return min(range(len(ranks)), key=lambda at: ranks[at])
+
+    def path(self, folder: str, place: str) -> str:
+        """A directory as it is shown: without its folder where there is one alone, as in the sentences."""
+        return f"{place}/" if len(self.folders) == 1 else f"{folder}/{place}/"
 
     def rows(self, paths: list[str]) -> list[list[list[str]]]:
         """The names in tmp, new and cur of each folder."""
@@ -126,6 +134,7 @@ class Side:
             "head": self.head,
             "repeat": self.repeat,
             "count": self.count,
+            "headline": self.headline,
             "outcome": min((order.outcome for order in self.orders), key=(LOST, SAID, GOOD).index),
             "own": self.own,
             "states": states.values(),

@@ -17,6 +17,7 @@ from judge_lib.refused import Refused  # noqa: E402
 from judge_lib.results import Results  # noqa: E402
 from judge_lib.scene import read_scenes  # noqa: E402
 from judge_lib.staging import Outcome  # noqa: E402
+from law_lib import monitor  # noqa: E402
 from law_lib.clauses import LAW  # noqa: E402
 from law_lib.logs import findings  # noqa: E402
 from law_lib.owed import OWED  # noqa: E402
@@ -55,6 +56,17 @@ class Law(unittest.TestCase):
         for clause, lines in rows:
             with self.subTest(clause):
                 self.assertEqual(findings("\n".join(lines).encode(), LAW), [(len(lines), clause)])
+
+
+class Monitor(unittest.TestCase):
+    def test_it_finds_what_the_definitions_find(self) -> None:
+        for definitions, found in [(LAW, monitor.LAW), (OWED, monitor.OWED)]:
+            self.assertLessEqual(set(found), set(definitions))
+            by_monitor = {clause: (lambda h, breaks=breaks: breaks(monitor.judged(h))) for clause, breaks in found.items()}
+            by_definition = {clause: definitions[clause] for clause in found}
+            for log in filter(is_read, LOGS):
+                with self.subTest(log.name):
+                    self.assertEqual(findings(log.read_bytes(), by_monitor), findings(log.read_bytes(), by_definition))
 
 
 class Owed(unittest.TestCase):

@@ -10,7 +10,7 @@ from unittest import mock
 
 sys.path.insert(0, str(Path(__file__).resolve().parent.parent))
 
-from package_lib import contents, tree
+from package_lib import contents, debian, tree
 from package_lib.contents import Entry
 from package_lib.refused import Refused
 
@@ -69,6 +69,20 @@ class ContentsTest(unittest.TestCase):
         for word in tools:
             if word.startswith("bin/deolmutt-"):
                 self.assertIn(f"share/deolmutt/tools/{word.partition('-')[2]}", tools)
+
+    def test_each_program_has_a_manual_page(self) -> None:
+        words = [*contents.OTHERS.read_text(encoding="utf-8").split(), *contents.PROGRAMS.read_text(encoding="utf-8").split()]
+        programs = [word.partition("/")[2] for word in words if word.startswith("bin/")]
+        self.assertGreater(len(programs), 5)
+        for name in programs:
+            self.assertIn(f"share/man/man1/{name}.1", words)
+
+    def test_debian_has_manual_pages_and_links_to_them_packed(self) -> None:
+        page, link = Entry(0o644, b".TH A 1\n"), Entry(0o777, b"a.1", is_link=True)
+        packed = debian._debian_way({"share/man/man1/a.1": page, "share/man/man1/b.1": link, "share/x": page})
+        self.assertEqual({"share/man/man1/a.1.gz", "share/man/man1/b.1.gz", "share/x"}, set(packed))
+        self.assertEqual(link._replace(content=b"a.1.gz"), packed["share/man/man1/b.1.gz"]._replace(mode=0o777))
+        self.assertEqual(page, packed["share/x"])
 
     def test_what_is_not_built_is_said(self) -> None:
         with self.assertRaisesRegex(Refused, "crates/x/out/x is not there: run .ci/run"):

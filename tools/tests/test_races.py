@@ -215,6 +215,7 @@ file box/tmp/1795880646.M1P2Q3.vm 1795880646
         made = "1000.M1P7.host"
         self.assertEqual(fixed[1:3], [f"A looks at box/new/{made}: notfound", f"A link box/tmp/{made} box/new/{made} ok"])
         self.assertEqual(record.fixed("imap<12><a+b>: 1795880648.M5P2.vm", names), "imap<7><session>: 1000.M2P7.host")
+        self.assertEqual(record.fixed("Logged out in=35 out=848 deleted=0", names), "Logged out in=35 out=N deleted=0")
         self.assertEqual(record.fixed(f"can't read {tempfile.gettempdir()}/explore-a_1/work/box/cur", names), "can't read box/cur")
 
     def test_each_race_has_what_is_kept_of_it(self) -> None:
@@ -231,9 +232,45 @@ file box/tmp/1795880646.M1P2Q3.vm 1795880646
         made = kept.side_of(kept.read_kept("mflag-twice"), losses.Names(("mflag", "mflag")))
         self.assertEqual([order.turns for order in made.orders], ["AAB", "ABAB", "ABBA", "BAAB", "BABA", "BBA"])
         self.assertEqual(made.count, "In 6 of 6 orders a flag is lost with status 0 (in 4 of the 4 that overlap).")
+        late = kept.side_of(kept.read_kept("mflag-twice"), losses.Names(("mflag", "mflag"), late="by an old name")).count
+        self.assertTrue(late.endswith("(in 4 of the 4 that overlap; in the others the second begins late, by an old name)."))
         step = made.orders[1].steps[4]
         self.assertEqual((step.who, "".join(step.text)), ("B", "tries to rename cur/u:2,S, but A has renamed it: ENOENT"))
         self.assertEqual([note[1] for note in made.orders[1].steps[5].notes], ["GaveUp", "AnsweredFalsely", "it printed"])
+
+    # What each released program does, in one look.
+    HEADLINES = {
+        "mflag-twice": (side.LOST, "mflag loses a flag"),
+        "notmuch-tag-beside-mv": (side.LOST, "notmuch loses a flag"),
+        "mlist-beside-mv": (side.LOST, "mlist misses a message that is there"),
+        "python-keys-beside-mv": (side.LOST, "Python's mailbox misses a message that is there"),
+        "mailutils-beside-mdeliver": (side.SAID, "mail takes away what is being delivered"),
+        "dovecot-expunge-beside-untrash": (side.LOST, "Dovecot deletes what nobody wanted to delete"),
+        "python-add-unlink-fails": (side.LOST, "Python's mailbox delivers, and says that it failed"),
+    }
+
+    def test_one_look_says_who_loses_what(self) -> None:
+        made = {race.kept: kept.side_of(kept.read_kept(race.kept), race.names).headline for race in RACES if race.kept}
+        self.assertEqual(made, self.HEADLINES)
+
+    def test_one_look_at_other_ends(self) -> None:
+        order = {"lines": [0, 1], "broken": [[1, "SeenBeforeWhole"]]}
+        one = {"lines": ["A ends with status 0", "B create box/new/v ok"], "orders": [order]}
+        shown = side.Side("x", "", "", [], [], [], [], [side.Order("AB", [], [], side.LOST, "")])
+        names = losses.Names(("A", "B"))
+        self.assertEqual(losses.headline_of(one, shown, names), (side.LOST, "B breaks the law of a maildir"))
+        order["broken"] = []
+        for outcome, words in ((side.GOOD, "A and B: nothing is lost"), (side.SAID, "A and B: a program fails, and says so")):
+            shown.orders[0].outcome = outcome
+            self.assertEqual(losses.headline_of(one, shown, names), (outcome, words))
+
+    def test_of_a_traceback_the_last_line_is_shown(self) -> None:
+        self.assertEqual(kept.printed_note("one\ntwo\n"), ["printed", "it printed", "one\ntwo"])
+        self.assertEqual(kept.printed_note("Traceback:\n a\n b\nOSError: no\n"), ["printed", "it printed in the end", "OSError: no"])
+
+    def test_a_race_is_named_by_its_program(self) -> None:
+        self.assertEqual(page.Scene("", "Two flags", "", [], "mflag").label(), "mflag: two flags")
+        self.assertEqual(page.Scene("", "Two flags", "", []).label(), "Two flags")
 
     @unittest.skipUnless(has_judge(), "deolmutt is not built")
     def test_the_judge_finds_what_is_kept(self) -> None:

@@ -24,7 +24,7 @@ PICTURES = (TOP / "docs/delivery.svg", TOP / "docs/listing.svg")
 DEOLMUTT = Path(os.environ.get("DEOLMUTT", TOP / "crates/deolmutt/out/deolmutt"))
 CLI = Path(os.environ.get("MAILDIR_CLI", TOP / "crates/maildir_cli/out/maildir_cli"))
 ELEMENT = b"<script>alert(1)</script>"
-HOSTILE = b"# %s\nfolder <b>i\njob deliver <b>i <script>alert(1)<script> 99 %s\njob clean <b>i\nfinish 1 1\nfinish 2 1\n" % (ELEMENT, ELEMENT)
+HOSTILE = b"# %s\nfolder <b>i\nfolder j\njob deliver <b>i <script>alert(1)<script> 99 %s\njob clean <b>i\nfinish 1 1\nfinish 2 1\n" % (ELEMENT, ELEMENT)
 LEFT, UP, RIGHT, DOWN, HOME, END, TAB, SPACE = "\ue012", "\ue013", "\ue014", "\ue015", "\ue011", "\ue010", "\ue004", " "
 PLACES = ("tmp", "new", "cur")
 PHONE, TABLET, DESK = (360, 740), (768, 1024), (1440, 900)
@@ -60,6 +60,27 @@ BOXES = """
 const box = one => { const { top, bottom } = one.getBoundingClientRect(); return [top, bottom]; };
 return { bar: box(document.getElementById('bar')), states: [...document.querySelectorAll('.state')].map(box), high: innerHeight };
 """
+# In each run the heights at which its parts begin and end, of those that have a text or names.
+PARTS = """
+return [...document.querySelectorAll('.run')].map(run => ['now', 'state', 'ending'].map(kind => {
+  const { top, bottom } = run.querySelector(`.${kind}`).getBoundingClientRect();
+  return [top, bottom];
+}));
+"""
+# The races whose names in the list are wider than there is room for, beside the arrow.
+CLIPPED = """
+const select = document.getElementById('scene');
+const { font, paddingLeft, paddingRight } = getComputedStyle(select);
+const pen = document.createElement('canvas').getContext('2d');
+pen.font = font;
+const room = select.clientWidth - parseFloat(paddingLeft) - parseFloat(paddingRight) - 16;
+return [...select.options].map(one => one.text).filter(text => pen.measureText(text).width > room);
+"""
+# What is wider than the box that it stands in, where no bar scrolls it.
+OVERFLOWS = """
+return [...document.querySelectorAll('main *, #bar *')].filter(one => one.clientWidth && one.scrollWidth > one.clientWidth + 1
+  && !one.matches('.unseen, select, .dot, .who')).map(one => one.outerHTML.slice(0, 80));
+"""
 
 
 def data_of(page: Path) -> list[dict]:
@@ -70,8 +91,9 @@ def data_of(page: Path) -> list[dict]:
 
 def rows_of(side: dict, state: int) -> dict[str, list[str]]:
     """The names of a state, as the page shows them."""
+    is_alone = len(side["folders"]) == 1
     return {
-        f"{folder}/{place}/": names
+        f"{place}/" if is_alone else f"{folder}/{place}/": names
         for folder, places in zip(side["folders"], side["states"][state])
         for place, names in zip(PLACES, places)
     }
@@ -134,7 +156,7 @@ class Page(BrowserTest):
             self.assertLessEqual(state["width"], width)
             for side, order, shown in zip(sides, order_of, state["sides"]):
                 self.check_side(side, order, at, shown)
-                self.assertIn(side["who"], state["said"])
+                self.assertIn(f"{side['who']}: {shown['now'].replace('The beginning: no step was taken.', 'the beginning')}", state["said"])
 
     def check_side(self, side: dict, order: list, at: int, shown: dict[str, Any]) -> None:
         """What a side shows after so many steps."""
@@ -165,6 +187,39 @@ class Page(BrowserTest):
                     for first in {0, scene["sides"][0]["own"]}:
                         second = [scene["partners"][first]] if len(scene["sides"]) > 1 else []
                         self.check_orders(scene, [first, *second], width)
+
+    def test_one_look_says_which_program_loses_what(self) -> None:
+        for width, height in (PHONE, DESK):
+            self.browser.size(width, height)
+            for scene in self.scenes:
+                self.open(f"#{scene['name']}")
+                lines = self.browser.run("return [...document.querySelectorAll('#headline span')].map(one => one.innerText.trim())")
+                self.assertEqual([line.split(maxsplit=1)[1] for line in lines], [side["headline"][1] for side in scene["sides"]])
+                bottom = self.browser.run("return document.querySelector('#headline span:last-child').getBoundingClientRect().bottom")
+                self.assertLess(bottom, height / 2)
+            self.open("")
+            self.assertEqual(self.text("#headline .lost"), "✕ mflag loses a flag")
+            self.assertEqual(self.text("#headline .good"), "✓ Deolmutt loses nothing")
+            ending = self.browser.run("return document.querySelector('.ending.lost').getBoundingClientRect().bottom")
+            self.assertLess(ending, self.browser.run(BOXES)["bar"][0])
+
+    def test_no_text_is_clipped(self) -> None:
+        for width, height in (PHONE, TABLET, DESK):
+            self.browser.size(width, height)
+            for scene in self.scenes:
+                with self.subTest(f"{scene['name']} at {width}"):
+                    self.open(f"#{scene['name']}")
+                    self.browser.run("document.querySelectorAll('details').forEach(one => { one.open = true; })")
+                    self.assertEqual(self.browser.run(OVERFLOWS), [])
+            self.assertEqual(self.browser.run(CLIPPED), [])
+
+    def test_the_sentence_is_right_above_the_directories_and_the_end_right_below(self) -> None:
+        for width, height in (PHONE, DESK):
+            self.browser.size(width, height)
+            for scene in self.scenes:
+                self.open(f"#{scene['name']}")
+                for now, state, ending in self.browser.run(PARTS):
+                    self.assertTrue(0 <= state[0] - now[1] <= 12 and 0 <= ending[0] - state[1] <= 12, scene["name"])
 
     def test_it_opens_where_the_loss_is_seen(self) -> None:
         mflag, ours = self.scenes[0]["sides"]
@@ -242,16 +297,15 @@ class Page(BrowserTest):
 
     def test_on_a_phone_the_directories_are_in_sight(self) -> None:
         self.browser.size(*PHONE)
-        for name in ("two-flaggers", "listing-beside-move"):
-            self.open(f"#{name}")
-            self.browser.run("document.getElementById('play').click(); document.getElementById('play').click()")
-            for _ in range(3):
+        self.set_motion("reduce")
+        for scene in self.scenes:
+            self.open(f"#{scene['name']}/{scene['sides'][0]['own'] + 1}/0")
+            for _ in range(int(self.text("#place").split()[-1])):
                 self.browser.run("document.getElementById('forward').click()")
-            time.sleep(0.8)
-            boxes = self.browser.run(BOXES)
-            self.assertLessEqual(boxes["bar"][1], boxes["high"])
-            for top, bottom in boxes["states"]:
-                self.assertTrue(0 <= top and bottom <= boxes["bar"][0], boxes)
+                boxes = self.browser.run(BOXES)
+                self.assertLessEqual(boxes["bar"][1], boxes["high"])
+                for top, bottom in boxes["states"]:
+                    self.assertTrue(0 <= top and bottom <= boxes["bar"][0], f"{scene['name']} {self.text('#place')} {boxes}")
 
     def test_play_goes_to_the_end(self) -> None:
         self.browser.run("document.getElementById('play').click()")
@@ -286,6 +340,20 @@ class Page(BrowserTest):
         self.assertEqual(lines[:3], ["maildir_log 1", "folder box", "file box/cur/u:2,S 1000"])
         self.assertIn("1000 B rename box/cur/u:2,S box/cur/u:2,RS notfound", lines)
         self.assertIn("1 B rename i/cur/u:2,FS i/cur/u:2,FRS ok", self.browser.run(taken + clicked, 1).splitlines())
+
+    def test_the_command_that_makes_it(self) -> None:
+        kept, ours = self.browser.run("return [...document.querySelectorAll('.made pre')].map(one => one.textContent)")
+        self.assertIn("tools/explore --setup", kept)
+        self.assertEqual(ours, "tools/races crates/examples/data/two-flaggers.script -o OUT.html")
+
+    def test_the_link_that_is_copied(self) -> None:
+        self.open("#two-flaggers/3/2")
+        taken = "const writeText = text => { window.copied = text; return %s; };"
+        clip = "Object.defineProperty(navigator, 'clipboard', { value: { writeText }, configurable: true });"
+        clicked = "document.getElementById('link').click(); await null; await null; return document.getElementById('link').textContent"
+        self.assertEqual(self.browser.run(taken % "Promise.resolve()" + clip + clicked), "Copied")
+        self.assertTrue(self.browser.run("return window.copied").endswith("races.html#two-flaggers/3/2"))
+        self.assertEqual(self.browser.run(taken % "Promise.reject()" + clip + clicked), "Copy the address")
 
     def test_no_error_and_no_request(self) -> None:
         self.browser.log("browser"), self.browser.log("performance")

@@ -143,14 +143,17 @@ module _ (t : Story) (job : ℕ) (c : Call) (own : (k : ℕ) (x : Step) → step
         (λ past. absurd (omega (arith, low, past)))
   ]
 
-  -- what an answered job has had
-  had-all : (a : Answer) → IsAnswered t job a → (had : Option Effect) × HasHad t job (length t.steps) had × Settles had a
-  had-all a gave =
+  -- at the end it has its answer
+  pub answered-all : (a : Answer) → IsAnswered t job a → standing t job c (length t.steps) ≡ answered a
+  answered-all a gave =
       let x = gave.last.step in
       let within = slice_get_within t.steps gave.k x gave.last.at in
       let then = (own gave.k x gave.last.at gave.last.own).answers a gave.answer in
-      let end = answered-at a (suc gave.k) then (length t.steps) (omega (arith, within)) (omega arith) in
-      subst (Had t (length t.steps) job) end (had-at (length t.steps) (omega arith))
+      answered-at a (suc gave.k) then (length t.steps) (omega (arith, within)) (omega arith)
+
+  -- what an answered job has had
+  had-all : (a : Answer) → IsAnswered t job a → (had : Option Effect) × HasHad t job (length t.steps) had × Settles had a
+  had-all a gave = subst (Had t (length t.steps) job) (answered-all a gave) (had-at (length t.steps) (omega arith))
 
   within-all : (k : ℕ) (own : IsStepOf t job k) → k < length t.steps
   within-all k own = slice_get_within t.steps k own.step own.at

@@ -1,5 +1,5 @@
 -- A clean of ours keeps its promise in a story whose directories are sound and in which each message has one path at each moment.
-use Rattle.std.proofs.Common.{ℕ, suc, ◌≡◌, ◌≤◌, List, Some, sym, subst, length, slice_get}
+use Rattle.std.proofs.Common.{ℕ, suc, ◌≡◌, ◌≤◌, List, Some, sym, subst, length, slice_get, arith}
 use Rattle.md_dirs.specs.State.{IsSound}
 use Rattle.md_jobs.specs.declared.answer.Answer.{Answer}
 use Rattle.md_jobs.specs.declared.answer.Answer.TheVariants as answer
@@ -12,10 +12,11 @@ use Rattle.md_law.specs.Clauses.{CleanedEarly}
 use Rattle.md_law.specs.Law.{Breaks}
 use Rattle.md_law.specs.Owed.{MadeAgain, WrittenLate}
 use Rattle.md_beside.specs.Story.{Story, Step, ours, step_at, state, history, standing}
-use Rattle.md_beside.specs.Beside.{IsStory, IsClean, Says, Owes}
+use Rattle.md_beside.specs.Beside.{IsStory, IsAnswered, IsClean, Says, Owes}
 use Rattle.md_beside.specs.Jobs.{AreUsedOnce, AreTimely, MayBreak, KeepsPromise}
-use Rattle.md_beside.proofs.Acting.{OwnStep, stands-beside, by-who, acts}
-use Rattle.md_beside.proofs.CleanSteps.{FitsClean, Old, old-first, old-next, old-beside, own-step, never-gone, not-early, says-here, owes-here, lawful-here}
+use Rattle.md_beside.proofs.Acting.{OwnStep, stands-beside, by-who, acts, answered-all}
+use Rattle.md_beside.proofs.CleanSays.{folder_of, Taking, taking-first, taking-beside, has-cleaned, is-cleaned}
+use Rattle.md_beside.proofs.CleanSteps.{FitsClean, Old, old-first, old-next, old-beside, own-step, never-gone, not-early, says-here, taking-next, owes-here, lawful-here}
 use Rattle.md_beside.proofs.EachMoment.{each-moment}
 use Rattle.md_beside.proofs.Histories.{next_at, history-next}
 use Rattle.md_beside.proofs.OneFile.{IsOneFile}
@@ -45,8 +46,14 @@ module _ (t : Story) (story : IsStory t) (i : ℕ) (c : Call) (of : slice_get t.
     own-its : OwnStep t k job x c
     own-its = its t story i c of k x is who (OwnStep t k job x) (own-step t story k job x is who sound-here (one-at k) fits-here)
 
-    says-its : (a : Answer) → x.answer ≡ Some a → Says t job c a
-    says-its a gave = its t story i c of k x is who (λ c'. Says t job c' a)
+    taking-its : Taking t job (folder_of c) k (standing t job c k) → Taking t job (folder_of c) (suc k) (standing t job c (suc k))
+    taking-its taking = its t story i c of k x is who (λ c'. Taking t job (folder_of c') (suc k) (standing t job c' (suc k)))
+        (taking-next t story k job x is who sound-here (one-at k) fits-here
+        (back t story i c of k x is who (λ c'. Taking t job (folder_of c') k (standing t job c' k)) taking))
+
+    says-its : (a : Answer) → x.answer ≡ Some a → ((n : ℕ) → a ≡ answer.Cleaned n → Says t job c (answer.Cleaned n)) → Says t job c a
+    says-its a gave = its t story i c of k x is who
+        (λ c'. ((n : ℕ) → a ≡ answer.Cleaned n → Says t job c' (answer.Cleaned n)) → Says t job c' a)
         (says-here t story k job x is who sound-here (one-at k) fits-here a gave)
 
     gone-its : x.answer ≡ Some answer.TmpGone → ⊥
@@ -80,11 +87,24 @@ module _ (t : Story) (story : IsStory t) (i : ℕ) (c : Call) (of : slice_get t.
       (old-beside t story k x is (sound-at k (within-story t k x is)) (one-at k) i c of (unmade-at timely k x is) (in_time-at timely k x is)
       (standing t job c k) old)))
 
+  -- what it has taken
+  taking-at : (k : ℕ) → k ≤ length t.steps → Taking t job (folder_of c) k (standing t job c k)
+  taking-at = each-moment t (λ k. Taking t job (folder_of c) k (standing t job c k)) (taking-first t job (folder_of c) c)
+      (λ k x is taking. by-who x.who job (λ who. taking-its k x is who taking)
+      (λ not-own. subst (Taking t job (folder_of c) (suc k)) (sym (stands-beside t job c k x is not-own))
+      (taking-beside t job (folder_of c) k x is not-own (standing t job c k) taking)))
+
+  counts-all : (n : ℕ) → IsAnswered t job (answer.Cleaned n) → Says t job c (answer.Cleaned n)
+  counts-all n gave = is-cleaned t job c clean n (has-cleaned t job (folder_of c) n
+      (subst (Taking t job (folder_of c) (length t.steps)) (answered-all t job c own-its (answer.Cleaned n) gave)
+      (taking-at (length t.steps) (omega arith))))
+
   pub keeps : KeepsPromise t job c
   keeps = record {
     as_alone = λ k x is who. (own-its k x is who).as_alone;
     acts = acts t job c own-its;
-    says = λ forward a gave. says-its gave.k gave.last.step gave.last.at gave.last.own a gave.answer;
+    says = λ forward a gave. says-its gave.k gave.last.step gave.last.at gave.last.own a gave.answer
+        (λ n same. counts-all n (subst (IsAnswered t job) same gave));
     one_path = one-at;
     whole = λ k u bytes e its there. absurd (delivers-none c clean u bytes its);
     never_gone = λ apart spare gave. gone-its gave.k gave.last.step gave.last.at gave.last.own gave.answer;

@@ -34,6 +34,7 @@ use Rattle.md_beside.specs.Story.{Story, Step, Did, asked, ours, step_at, state,
 use Rattle.md_beside.specs.Beside.{IsStory, IsClean, Says, Owes, reply_due}
 use Rattle.md_beside.specs.Jobs.{AreUsedOnce, AreTimely, MayBreak}
 use Rattle.md_beside.proofs.Acting.{Had, OwnStep, had-own, stands-own, stands-beside, by-who}
+use Rattle.md_beside.proofs.CleanSays.{folder_of, AtStage, Taking, taking-own}
 use Rattle.md_beside.proofs.ErrandPaths.{leaves, quiet, lists-nothing, no-write, no-create}
 use Rattle.md_beside.proofs.Histories.{next_at, history-next}
 use Rattle.md_beside.proofs.KeepsPaths.{KeepsPaths, breaks-none, owes-by}
@@ -141,13 +142,24 @@ module _ (t : Story) (story : IsStory t) (k job : ℕ) (x : Step) (is : step_at 
       SaysBy r = MatchOption ((cleaning_turn clean x.at.own).follows r (rows_for (cleaning_turn clean x.at.own).asked (state t k))).answer
           (Unit {0}) (CleanTells r)
 
-  pub says-here : (a : Answer) → x.answer ≡ Some a → Says t job c a
-  says-here a gave = by a (tells a gave)
+  pub says-here : (a : Answer) → x.answer ≡ Some a → ((n : ℕ) → a ≡ answer.Cleaned n → Says t job c (answer.Cleaned n)) → Says t job c a
+  says-here a gave counts = by a (tells a gave) counts
     where
-      by : (a : Answer) → CleanTells x.reply a → Says t job c a
-      by (answer.Cleaned n) says = is-clean
-      by answer.Fault says = (k, record { step = x; at = is; own = who }, says)
-      by other says = absurd says
+      by : (a : Answer) → CleanTells x.reply a → ((n : ℕ) → a ≡ answer.Cleaned n → Says t job c (answer.Cleaned n)) → Says t job c a
+      by (answer.Cleaned n) says counts' = counts' n refl
+      by answer.Fault says counts' = (k, record { step = x; at = is; own = who }, says)
+      by other says counts' = absurd says
+
+  -- what it has taken
+  pub taking-next : Taking t job (folder_of c) k (standing t job c k) → Taking t job (folder_of c) (suc k) (standing t job c (suc k))
+  taking-next taking = subst (Taking t job (folder_of c) (suc k))
+      (sym (stands ∙ ap (λ (task : Task). standing_of task after.answer) task-is
+      ∙ ap (λ (o : Option Answer). standing_of (Clean left.task) o) (turned.answers ∙ sym answer-is)))
+      (taking-own t job (folder_of c) k x is who clean (sym (ap folder_of fit.2)) clean.stage now x.reply makes refl)
+    where
+      now : AtStage t job (folder_of c) k clean.stage
+      now = subst (λ (task : Task). Taking t job (folder_of c) k (working task)) fit.1
+          (subst (Taking t job (folder_of c) k) turned.works taking)
 
   pub never-gone : x.answer ≡ Some answer.TmpGone → ⊥
   never-gone gave = tells answer.TmpGone gave

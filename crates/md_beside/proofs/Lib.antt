@@ -33,6 +33,7 @@ pub mod ErrandLooks
 pub mod ErrandSteps
 pub mod ErrandTries
 pub mod ErrandKeeps
+pub mod CleanSays
 pub mod CleanSteps
 pub mod CleanKeeps
 pub mod DeliverySays

@@ -1,10 +1,13 @@
 -- The words of the law of our jobs beside other programs (Jobs): which stories there are, what programs owe one another, how a job acts,
 -- and what its answer says.
-use Rattle.std.specs.Prelude.{ℕ, suc, ◌+◌, ◌-◌, ◌≡◌, ◌≢◌, ◌≤◌, ◌<◌, ◌⊎◌, List, Some, None, true, false, take, slice_get, is_some, if◌then◌else◌}
+use Rattle.std.specs.Prelude.{ℕ, suc, ◌+◌, ◌-◌, ◌≡◌, ◌≢◌, ◌≤◌, ◌<◌, ◌⊎◌, List, ◌∷◌, Some, None, true, false, map, filter, take, count_by, slice_get, is_some, if◌then◌else◌}
+use Rattle.std.specs.List.{All}
+use Rattle.md_dirs.specs.Path.{path_of as path}
+use Rattle.md_dirs.specs.Rows.{rows_of}
 use Rattle.md_dirs.specs.State.{State, IsSound, file_at, file_by}
 use Rattle.md_dirs.specs.declared.paths.Path.{Path}
 use Rattle.md_dirs.specs.declared.paths.Place.TheVariants.{Tmp}
-use Rattle.md_jobs.specs.Asked.{reply_by, ask_of}
+use Rattle.md_jobs.specs.Asked.{list, unlink, reply_by, ask_of}
 use Rattle.md_jobs.specs.declared.answer.Answer.{Answer}
 use Rattle.md_jobs.specs.declared.answer.Answer.TheVariants as answer
 use Rattle.md_jobs.specs.declared.call.Call.{Call}
@@ -15,13 +18,14 @@ use Rattle.md_jobs.specs.declared.step.DirReply.TheVariants as reply
 use Rattle.md_name.specs.Names.{unique_of}
 use Rattle.md_core.specs.Mailbox.{Entry, HasOnePath, is_message}
 use Rattle.md_core.specs.Alone.{alone}
+use Rattle.md_core.specs.Answering.{is_ok, is_unused}
 use Rattle.md_core.specs.Accepting.{IsAccepted, MakesMessage, name_used}
 use Rattle.md_core.specs.Interleaving.{is_success, IsDeliveryOf}
 use Rattle.md_core.specs.Trace.{call_at}
 use Rattle.md_law.specs.Clauses as law
 use Rattle.md_law.specs.History.{History}
 use Rattle.md_law.specs.Owed as owed
-use Rattle.md_beside.specs.Story.{Story, Step, ours, another, Did, asked, wrote, flushed, step_at, state, box, IsTurn}
+use Rattle.md_beside.specs.Story.{Story, Step, ours, another, Did, asked, wrote, flushed, step_at, state, box, is_by, IsTurn}
 
 -- ---- the premises
 
@@ -187,6 +191,26 @@ abbrev pub IsClean : Call → Type 0
 IsClean (call.Clean folder) = Unit {0}
 IsClean c = ⊥
 
+-- What a clean of a folder did that counted n files: it listed tmp, and then unlinked each name whose file was not used for 36 hours by
+-- its own clock at that listing, once and in order, and took no other step. Each name was there, whatever file it had by then, or it was
+-- gone, and the clean counts those that were there.
+pub record HasCleaned (t : Story) (job folder n : ℕ) : Type 0 where
+  pub k : ℕ
+  pub look : IsStepOf t job k
+  pub unlinks : List Step
+  pub steps : filter (λ x. is_by job x.who) t.steps ≡ look.step ∷ unlinks
+  pub listed : look.step.did ≡ asked (list folder Tmp)
+  pub ok : look.step.reply ≡ reply.Ok
+  pub names : map (λ x. x.did) unlinks
+      ≡ map (λ row. asked (unlink (path folder Tmp row.name))) (filter (is_unused look.step.at.own) (rows_of (state t k) folder Tmp))
+  pub replies : All (λ x. (x.reply ≡ reply.Ok) ⊎ (x.reply ≡ reply.NotFound)) unlinks
+  pub count : n ≡ count_by (λ x. is_ok x.reply) unlinks
+
+-- the call is a clean, which counted n files so
+abbrev pub IsCleaned : Story → ℕ → Call → ℕ → Type 0
+IsCleaned t job (call.Clean folder) n = HasCleaned t job folder n
+IsCleaned t job c n = ⊥
+
 -- what an answer says that comes without an effect
 abbrev pub Says : Story → ℕ → Call → Answer → Type 0
 Says t job c answer.NotThere = IsOfSpan t job c answer.NotThere
@@ -197,7 +221,7 @@ Says t job c answer.TimedOut = IsTimedOut t job c
 Says t job c answer.TmpGone = IsTmpGone t job c
 Says t job c answer.Fault = IsFaulted t job
 Says t job c answer.NameTaken = ⊥
-Says t job c (answer.Cleaned n) = IsClean c
+Says t job c (answer.Cleaned n) = IsCleaned t job c n
 Says t job c a = Unit {0}
 
 -- a message of ours has the bytes of the delivery of its name, as long as readers see it

@@ -93,10 +93,10 @@ MayBreak t c b = ⊥
 -- What a job promises: each step of its own is its call's effect, alone on the mailbox as the others left it, or leaves the mailbox as it
 -- was. If it is answered with success, one step of its own is that effect, with this answer. If not, none is, and the answer says what was
 -- so at a moment of its span, or that others took its message away as often as it has tries, or its file in tmp, or that 24 hours went by,
--- or that a directory call of its own faulted. No message ever has two paths, and one that was delivered has the bytes of the body for as
--- long as readers see it. No delivery is answered that its file in tmp was gone, if nobody takes young files and no clock of ours is more
--- than 4 hours from that of the directories. With such clocks a delivery does all that jobs of any kind are owed; an errand does it always,
--- and a clean where the others leave it time, and else but that it may take a young file.
+-- or that a directory call of its own faulted, or how many old files a clean took. No message ever has two paths, and one that was
+-- delivered has the bytes of the body for as long as readers see it. No delivery is answered that its file in tmp was gone, if nobody takes
+-- young files and no clock of ours is more than 4 hours from that of the directories. With such clocks a delivery does all that jobs of any
+-- kind are owed; an errand does it always, and a clean where the others leave it time, and else but that it may take a young file.
 pub record KeepsPromise (t : Story) (job : ℕ) (c : Call) : Type 0 where
   pub as_alone : (k : ℕ) (x : Step) → step_at t k ≡ Some x → x.who ≡ ours job → AsAlone c x.effect (box t k) (box t (suc k))
   pub acts : (a : Answer) → IsAnswered t job a → Acts t job c a

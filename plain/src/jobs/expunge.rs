@@ -61,5 +61,5 @@ impl Expunge {
 }
 
 fn is_trashed(info: Info, turn: &Turn<'_>) -> bool {
-    info.flags(turn.names).is_some_and(|flags| flags.has(Flags::TRASHED))
+    info.flags(turn.names).map_or(false, |flags| flags.has(Flags::TRASHED))
 }

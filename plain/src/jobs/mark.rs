@@ -71,8 +71,9 @@ impl Marking {
     }
 
     fn found(&mut self, found: Info, turn: &mut Turn<'_>) -> Option<Answer> {
-        let Some(had) = found.flags(turn.names) else {
-            return Some(Answer::OtherInfo);
+        let had = match found.flags(turn.names) {
+            Some(had) => had,
+            None => return Some(Answer::OtherInfo),
         };
         let flags = self.mark.apply(had);
         // A flag change that changes nothing takes effect here, and leaves the spelling.

@@ -101,6 +101,15 @@ pub(crate) fn ended(answer: sys::Answer) -> Option<Result<Answer, Failure>> {
 }
 
 /// The directory call of a step.
+///
+/// ```
+/// use deolmutt::{Call, DirCall, Place, World};
+///
+/// let mut world = World::with_folders(&["inbox"])?;
+/// let job = world.submit(&Call::Clean { folder: 0 })?;
+/// assert_eq!(world.step(job, 1000)?.call, DirCall::List(Place::Tmp));
+/// # Ok::<(), deolmutt::CallError>(())
+/// ```
 #[derive(Clone, Copy, Debug, PartialEq, Eq)]
 pub enum DirCall {
     /// A file is made in tmp.
@@ -118,6 +127,17 @@ pub enum DirCall {
 }
 
 /// What the directories replied.
+///
+/// ```
+/// use deolmutt::{Call, Reply, World};
+///
+/// let mut world = World::load(b"folder i\nfile i new a 1000\n")?;
+/// let seen = Call::Seen { folder: 0, unique: b"a", flags: "S" };
+/// let jobs = [world.submit(&seen)?, world.submit(&seen)?];
+/// let replies = [0, 1, 0, 1].map(|at: usize| world.step(jobs[at], 1000).map(|step| step.reply));
+/// assert_eq!(replies, [Ok(Reply::Done), Ok(Reply::Done), Ok(Reply::Done), Ok(Reply::NotFound)]);
+/// # Ok::<(), deolmutt::CallError>(())
+/// ```
 #[derive(Clone, Copy, Debug, PartialEq, Eq)]
 pub enum Reply {
     /// It was done.

@@ -79,6 +79,15 @@ pub enum Call<'a> {
 }
 
 /// The number of a job in its world.
+///
+/// ```
+/// use deolmutt::{Call, World};
+///
+/// let mut world = World::with_folders(&["inbox"])?;
+/// let first = world.submit(&Call::Clean { folder: 0 })?;
+/// assert!(first < world.submit(&Call::Clean { folder: 0 })?);
+/// # Ok::<(), deolmutt::CallError>(())
+/// ```
 #[derive(Clone, Copy, Debug, PartialEq, Eq, Hash, PartialOrd, Ord)]
 pub struct Job(pub(crate) u64);
 

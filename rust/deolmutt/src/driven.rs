@@ -38,6 +38,16 @@ pub struct Driven {
 unsafe impl Send for Driven {}
 
 /// The name of a file in a directory.
+///
+/// ```
+/// use deolmutt::{Call, Driven, Path, Place, Request};
+///
+/// let mut job = Driven::new(&Call::Deliver { folder: 3, unique: b"a", body: b"hello" })?;
+/// job.ask(1000)?;
+/// let path = Path { folder: 3, place: Place::Tmp, name: b"a".to_vec() };
+/// assert_eq!(job.request()?, Request::Create { path });
+/// # Ok::<(), deolmutt::Refusal>(())
+/// ```
 #[derive(Clone, Debug, PartialEq, Eq)]
 pub struct Path {
     /// Its folder, by the caller's own number.
@@ -49,6 +59,15 @@ pub struct Path {
 }
 
 /// A directory call that a driven job asks for.
+///
+/// ```
+/// use deolmutt::{Call, Driven, Place, Request};
+///
+/// let mut job = Driven::new(&Call::Expunge { folder: 3, unique: b"a" })?;
+/// job.ask(1000)?;
+/// assert_eq!(job.request()?, Request::List { folder: 3, place: Place::Cur });
+/// # Ok::<(), deolmutt::Refusal>(())
+/// ```
 #[derive(Clone, Debug, PartialEq, Eq)]
 pub enum Request {
     /// Make a file, which is not there yet.
@@ -141,11 +160,30 @@ impl Driven {
     }
 
     /// Asks for the next call, at a second by the caller's clock.
+    ///
+    /// ```
+    /// use deolmutt::{Call, Driven, Refusal};
+    ///
+    /// let mut job = Driven::new(&Call::Clean { folder: 0 })?;
+    /// job.ask(1000)?;
+    /// assert_eq!(job.ask(1000), Err(Refusal::ASKED));
+    /// # Ok::<(), deolmutt::Refusal>(())
+    /// ```
     pub fn ask(&mut self, second: u64) -> Result<(), Refusal> {
         Refusal::check(unsafe { sys::deolmutt_driven_ask(self.handle.as_ptr(), second) })
     }
 
     /// The call that was asked for, as often as wanted.
+    ///
+    /// ```
+    /// use deolmutt::{Call, Driven, Refusal};
+    ///
+    /// let mut job = Driven::new(&Call::Clean { folder: 0 })?;
+    /// assert_eq!(job.request(), Err(Refusal::NOT_ASKED));
+    /// job.ask(1000)?;
+    /// assert_eq!(job.request()?, job.request()?);
+    /// # Ok::<(), deolmutt::Refusal>(())
+    /// ```
     pub fn request(&self) -> Result<Request, Refusal> {
         let mut asked = sys::Request::default();
         // The buffer's room is told, and what is asked is a place for one value.
@@ -176,6 +214,15 @@ impl Driven {
     }
 
     /// What was replied to the call that was asked for, and what this came to.
+    ///
+    /// ```
+    /// use deolmutt::{Call, Driven, Failure, Reply};
+    ///
+    /// let mut job = Driven::new(&Call::Clean { folder: 0 })?;
+    /// job.ask(1000)?;
+    /// assert_eq!(job.take(Reply::Faulted)?.answer, Some(Err(Failure::Fault)));
+    /// # Ok::<(), deolmutt::Refusal>(())
+    /// ```
     pub fn take(&mut self, reply: Reply) -> Result<Step, Refusal> {
         let mut step = sys::Step::default();
         // The step is a place for one value.
@@ -184,6 +231,17 @@ impl Driven {
     }
 
     /// How the job ended, or none while it has no answer.
+    ///
+    /// ```
+    /// use deolmutt::{Answer, Call, Driven, Reply};
+    ///
+    /// let mut job = Driven::new(&Call::Clean { folder: 0 })?;
+    /// assert_eq!(job.answer()?, None);
+    /// job.ask(1000)?;
+    /// job.take(Reply::Done)?;
+    /// assert_eq!(job.answer()?, Some(Ok(Answer::Cleaned(0))));
+    /// # Ok::<(), deolmutt::Refusal>(())
+    /// ```
     pub fn answer(&self) -> Result<Option<Result<Answer, Failure>>, Refusal> {
         let mut answer = sys::Answer::default();
         // The answer is a place for one value.

@@ -21,11 +21,24 @@ pub struct Flags(pub(crate) u64);
 
 impl Flags {
     /// Whether a letter is among them.
+    ///
+    /// ```
+    /// assert!(!deolmutt::Flags::default().contains('S'));
+    /// ```
     pub fn contains(self, letter: char) -> bool {
         self.letters().any(|found| found == letter)
     }
 
     /// The letters in order, large ones first.
+    ///
+    /// ```
+    /// use deolmutt::{split_name, Info};
+    ///
+    /// if let Info::Flags(flags) = split_name(b"1000.M1P7Q1.a:2,aTS")?.info {
+    ///     assert_eq!(flags.letters().collect::<Vec<_>>(), ['S', 'T', 'a']);
+    /// }
+    /// # Ok::<(), deolmutt::Refusal>(())
+    /// ```
     pub fn letters(self) -> impl Iterator<Item = char> {
         ('A'..='Z')
             .chain('a'..='z')

@@ -3,6 +3,15 @@
 use std::convert::TryInto;
 
 /// The directory of a file.
+///
+/// ```
+/// use deolmutt::{Place, World};
+///
+/// let world = World::load(b"folder inbox\nfile inbox cur a:2,S 1000\n")?;
+/// assert_eq!(world.names(0, Place::New).count(), 0);
+/// assert_eq!(world.names(0, Place::Cur).count(), 1);
+/// # Ok::<(), deolmutt::LineError>(())
+/// ```
 #[derive(Clone, Copy, Debug, PartialEq, Eq, Hash)]
 pub enum Place {
     /// What is being delivered.
@@ -28,6 +37,15 @@ impl Place {
 }
 
 /// A message of a listing.
+///
+/// ```
+/// use deolmutt::{Entry, Place, World};
+///
+/// let world = World::load(b"folder inbox\nfile inbox new a 1000 hello\n")?;
+/// let listing = world.list(0)?;
+/// assert_eq!(listing.iter().next(), Some(Entry { place: Place::New, name: b"a", size: 5 }));
+/// # Ok::<(), Box<dyn std::error::Error>>(())
+/// ```
 #[derive(Clone, Copy, Debug, PartialEq, Eq)]
 pub struct Entry<'a> {
     /// Its directory.
@@ -54,6 +72,12 @@ pub struct Listing(pub(crate) Vec<u8>);
 
 impl Listing {
     /// Its messages.
+    ///
+    /// ```
+    /// let world = deolmutt::World::load(b"folder inbox\nfile inbox new a 1000 hello\nfile inbox new b 1000 hi\n")?;
+    /// assert_eq!(world.list(0)?.iter().map(|entry| entry.size).sum::<u64>(), 7);
+    /// # Ok::<(), Box<dyn std::error::Error>>(())
+    /// ```
     pub fn iter(&self) -> Entries<'_> {
         Entries(&self.0)
     }
@@ -69,6 +93,14 @@ impl<'a> IntoIterator for &'a Listing {
 }
 
 /// The messages of a listing.
+///
+/// ```
+/// let world = deolmutt::World::load(b"folder inbox\nfile inbox new a 1000 hello\n")?;
+/// for entry in &world.list(0)? {
+///     assert_eq!(entry.name, b"a");
+/// }
+/// # Ok::<(), Box<dyn std::error::Error>>(())
+/// ```
 #[derive(Clone, Debug)]
 pub struct Entries<'a>(&'a [u8]);
 

@@ -19,6 +19,15 @@ pub fn unique_name(second: u64, microsecond: u64, process: u64, count: u64, host
 }
 
 /// What stands after the unique part of a name.
+///
+/// ```
+/// use deolmutt::{split_name, Flags, Info};
+///
+/// assert_eq!(split_name(b"a")?.info, Info::None);
+/// assert_eq!(split_name(b"a:2,")?.info, Info::Flags(Flags::default()));
+/// assert_eq!(split_name(b"a:1,x")?.info, Info::Other);
+/// # Ok::<(), deolmutt::Refusal>(())
+/// ```
 #[derive(Clone, Copy, Debug, PartialEq, Eq)]
 pub enum Info {
     /// Nothing.
@@ -30,6 +39,12 @@ pub enum Info {
 }
 
 /// The parts of a message's file name.
+///
+/// ```
+/// let parts = deolmutt::split_name(b"1000.M1P7Q1.a:2,S")?;
+/// assert_eq!(parts.unique, b"1000.M1P7Q1.a");
+/// # Ok::<(), deolmutt::Refusal>(())
+/// ```
 #[derive(Clone, Copy, Debug, PartialEq, Eq)]
 pub struct Parts<'a> {
     /// The unique name.

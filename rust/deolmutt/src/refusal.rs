@@ -55,6 +55,10 @@ pub(crate) const ROOM: u32 = 3;
 
 impl Refusal {
     /// Its number in `deolmutt.h`.
+    ///
+    /// ```
+    /// assert_eq!(deolmutt::Refusal::NO_FOLDER.number(), 24);
+    /// ```
     pub fn number(self) -> u32 {
         self.0
     }
@@ -113,6 +117,17 @@ impl fmt::Display for LineError {
 impl Error for LineError {}
 
 /// Why a call did not come to success.
+///
+/// ```
+/// use deolmutt::{Call, CallError, Failure, Refusal, World};
+///
+/// let mut world = World::with_folders(&["inbox"])?;
+/// let refused = world.call(&Call::Clean { folder: 7 }, 1000).unwrap_err();
+/// assert_eq!(refused, CallError::Refused(Refusal::NO_FOLDER, None));
+/// let failed = world.call(&Call::Expunge { folder: 0, unique: b"a" }, 1000).unwrap_err();
+/// assert_eq!(failed, CallError::Failed(Failure::NotThere));
+/// # Ok::<(), deolmutt::LineError>(())
+/// ```
 #[derive(Clone, Copy, Debug, PartialEq, Eq)]
 pub enum CallError {
     /// It was not taken, and nothing has changed; but where memory was refused amid its steps, the job is there, and goes on by its steps.
@@ -145,6 +160,15 @@ impl From<LineError> for CallError {
 }
 
 /// Why a world was not settled.
+///
+/// ```
+/// use deolmutt::{Call, Refusal, World};
+///
+/// let mut world = World::with_folders(&["inbox"])?;
+/// world.submit(&Call::Clean { folder: 0 })?;
+/// assert_eq!(world.settle().unwrap_err().refusal, Refusal::UNANSWERED);
+/// # Ok::<(), deolmutt::CallError>(())
+/// ```
 #[derive(Clone, Copy, Debug, PartialEq, Eq)]
 pub struct Unanswered {
     /// Why: a job has no answer, or memory was refused.

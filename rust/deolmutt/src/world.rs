@@ -156,6 +156,16 @@ impl World {
     }
 
     /// How a job ended, or none while it has no answer.
+    ///
+    /// ```
+    /// use deolmutt::{Answer, Call, World};
+    ///
+    /// let mut world = World::with_folders(&["inbox"])?;
+    /// let job = world.submit(&Call::Clean { folder: 0 })?;
+    /// world.step(job, 1000)?;
+    /// assert_eq!(world.answer(job)?, Some(Ok(Answer::Cleaned(0))));
+    /// # Ok::<(), deolmutt::CallError>(())
+    /// ```
     pub fn answer(&self, job: Job) -> Result<Option<Result<Answer, Failure>>, Refusal> {
         let mut answer = sys::Answer::default();
         // The answer is a place for one value.
@@ -183,6 +193,15 @@ impl World {
     }
 
     /// The messages of a folder, in order of their unique names.
+    ///
+    /// ```
+    /// use deolmutt::{Refusal, World};
+    ///
+    /// let world = World::with_folders(&["inbox"])?;
+    /// assert_eq!(world.list(0)?.iter().count(), 0);
+    /// assert_eq!(world.list(1).unwrap_err(), Refusal::NO_FOLDER);
+    /// # Ok::<(), Box<dyn std::error::Error>>(())
+    /// ```
     pub fn list(&self, folder: u32) -> Result<Listing, Refusal> {
         // The buffer's room is told.
         given(|out, room, length| unsafe { sys::deolmutt_list(self.handle.as_ptr(), folder, out, room, length) })
