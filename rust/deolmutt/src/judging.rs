@@ -7,6 +7,14 @@ use std::convert::TryInto;
 use std::ffi::CStr;
 
 /// A step of a log that breaks a clause of the law.
+///
+/// ```
+/// for found in deolmutt::judge(b"maildir_log 1\nfolder i\n10 p create i/new/u ok\n")? {
+///     assert_eq!(format!("{}: {}: {}", found.line, found.clause, found.why),
+///         "3: SeenBeforeWhole: readers see a message that is not written whole");
+/// }
+/// # Ok::<(), deolmutt::LineError>(())
+/// ```
 #[derive(Clone, Copy, Debug, PartialEq, Eq)]
 pub struct Finding {
     /// The number of its line, from 1.
