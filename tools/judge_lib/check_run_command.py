@@ -16,7 +16,7 @@ from .known import read_known, split
 from .refused import Refused
 from .reports import Checked
 from .statuses import check_ran, read_expected, shown, unexpected
-from .trace_run import Traced, add_options, run, warnings
+from .trace_run import IDLE, Traced, add_options, run, warnings
 
 _ABOUT = """\
 Traces a command, has deolmutt judge what it did in maildirs, and ends
@@ -86,6 +86,7 @@ def _checked(options: argparse.Namespace, traced: Traced, new: List[reports.Told
     wrong = [f"nobody is {actor}, for whom --status says something" for actor in expected if actor is not None and actor not in traced.statuses]
     command = {actor: status for actor, status in traced.statuses.items() if actor == traced.command or actor in expected}
     check_ran(command, {})
+    wrong += [IDLE] * traced.is_idle()
     wrong += [f"{actor} ended with {shown(command[actor])}, which nobody expected (--status)" for actor in unexpected(command, expected)]
     return Checked(options.log, traced.statuses, new, old, unmet, traced.wrong + wrong, bool(options.claims), options.allow)
 

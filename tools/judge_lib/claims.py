@@ -66,6 +66,15 @@ def read_claims(texts: List[str]) -> Dict[Optional[str], List[Claim]]:
     return claims
 
 
+def check_claims(claims: Dict[Optional[str], List[Claim]], folders: List[bytes]) -> None:
+    """Refuses claims about folders that are none of the judged ones."""
+    for claim in (claim for those in claims.values() for claim in those):
+        for folder in filter(None, (claim.folder, claim.to)):
+            if folder not in folders:
+                there = b" ".join(map(escaped, folders)).decode("utf-8", "replace")
+                raise Refused(f"--claims {claim.word}: no judged folder is {folder.decode('utf-8', 'replace')}: they are {there}")
+
+
 class Seen(NamedTuple):
     """What was seen of a claim's message up to a moment, in so many words as its answer needs."""
 

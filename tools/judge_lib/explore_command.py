@@ -9,8 +9,9 @@ from typing import List, Optional, Sequence
 
 from . import explored_table, trials_table
 from .called import called
-from .explored_table import all_unexpected
 from .claims import read_claims
+from .ending import end_by_signals
+from .explored_table import all_unexpected
 from .exploring import STOPS, Bounds, Explored, Pairing, explore, explore_one
 from .judge_run import SENTENCES, deolmutt
 from .keeping import Keeper
@@ -49,8 +50,9 @@ examples:
 
 status:
   0    no interleaving that was tried breaks the law
-  1    one does, or a command ends with a status that nobody expected; or mail
-       is lost or cut short, or a call failed and the status is 0 all the same
+  1    one does, or a command ends with a status that nobody expected, or calls
+       nothing in a maildir; or mail is lost or cut short, or a call failed and
+       the status is 0 all the same
   2    refused: wrong words, no strace, no judge, a command that does not run
        (status 126 or 127) or does not end
 """
@@ -83,6 +85,7 @@ def _options() -> argparse.ArgumentParser:
 def main(words: Optional[Sequence[str]] = None) -> int:
     """Explores what the words say, and answers the status."""
     options = _options().parse_args(words)
+    end_by_signals()
     try:
         strace()
         deolmutt()
@@ -141,7 +144,7 @@ def _show(explored: Explored, expected: Expected, options: argparse.Namespace) -
     else:
         for line in _lines(explored, expected, options):
             print(line)
-    return 1 if explored.broken or all_unexpected(explored, expected) else 0
+    return 1 if explored.broken or all_unexpected(explored, expected) or explored.without_call() else 0
 
 
 def _lines(explored: Explored, expected: Expected, options: argparse.Namespace) -> List[str]:

@@ -60,10 +60,11 @@ class Broken(NamedTuple):
 
 
 class Order(NamedTuple):
-    """How the commands of an interleaving ended, and which clauses it breaks."""
+    """How the commands of an interleaving ended, which clauses it breaks, and all that was found."""
 
     statuses: Statuses
     clauses: List[str]
+    found: Tuple[Finding, ...] = ()
 
 
 class Explored(NamedTuple):
@@ -120,7 +121,7 @@ def judged(pairing: Pairing, order: str, log: Log, broken: Dict[str, Broken]) ->
     text = log.encoded()
     found = judge(text, pairing.allowed)
     note(order, text, found, broken)
-    return Order(log.statuses, list(dict.fromkeys(finding.clause for finding in found)))
+    return Order(log.statuses, list(dict.fromkeys(finding.clause for finding in found)), tuple(found))
 
 
 def note(order: str, log: bytes, found: List[Finding], broken: Dict[str, Broken]) -> bool:

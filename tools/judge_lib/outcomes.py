@@ -7,11 +7,13 @@ import time
 from pathlib import Path
 from typing import Dict, List, Optional, Tuple
 
+from .grades import GRADES, at_least
 from .scene import Scene, version_of
 from .staging import Found, Outcome, trace_words
 from .tracing import version
 
 _HEAD = ["| Program | Scene | What the judge found | Shown by |", "|---|---|---|---|"]
+_NOTHING = "Nothing is found"
 
 
 def system() -> str:
@@ -31,13 +33,27 @@ def text(outcome: Outcome) -> List[str]:
     head = f"{scene.name}: {scene.program} ({scene.package} {outcome.version}) {scene.about}"
     if not outcome.found:
         return [head, f"  nothing{_of_runs(outcome)}{_unjudged(outcome)}"]
-    return [head, *(f"  {each.clause}{_share(each, outcome)}: {each.sentence}: {each.line}" for each in outcome.found)]
+    return [head, *(f"  {each.grade}: {each.clause}{_share(each, outcome)}: {each.sentence}: {each.line}" for each in outcome.found)]
+
+
+def chosen(outcome: Outcome, least: str) -> Outcome:
+    """An outcome with what it shows of a grade and the worse ones."""
+    return outcome._replace(found=[each for each in outcome.found if each.grade in at_least(least)])
 
 
 def markdown(outcomes: List[Outcome]) -> List[str]:
     """The table, a row for each scene; of pairs, a row for each command."""
     pairs = {outcome.scene.pair: outcome for outcome in outcomes if outcome.scene.pair}
-    return [ran_here(), "", *(_table_of(pairs) if pairs else [*_HEAD, *map(_row, outcomes)])]
+    return [ran_here(), *(["", *_table_of(pairs)] if pairs else _tables(outcomes))]
+
+
+def _tables(outcomes: List[Outcome]) -> List[str]:
+    """A table for each grade, with the scenes of which it is the worst."""
+    by_worst: Dict[str, List[Outcome]] = {grade: [] for grade in (*GRADES, _NOTHING)}
+    for outcome in outcomes:
+        by_worst[outcome.found[0].grade if outcome.found else _NOTHING].append(outcome)
+    titles = {**{grade: f"{grade.capitalize()}: {says}" for grade, says in GRADES.items()}, _NOTHING: _NOTHING}
+    return [line for grade, those in by_worst.items() if those for line in ("", f"### {titles[grade]}", "", *_HEAD, *map(_row, those))]
 
 
 def _table_of(pairs: Dict[Tuple[str, str], Outcome]) -> List[str]:
@@ -53,13 +69,14 @@ def _table_of(pairs: Dict[Tuple[str, str], Outcome]) -> List[str]:
 def _cell(outcome: Optional[Outcome]) -> str:
     if outcome is None:
         return "-"
-    found = "".join(f"; {each.clause} by {each.actors} in {each.runs}" for each in outcome.found)
+    found = "".join(f"; *{each.grade}*: {each.clause} by {each.actors} in {each.runs}" for each in outcome.found)
     return f"{outcome.runs}{'' if outcome.is_whole else ' of more'}{found}"
 
 
 def _row(outcome: Outcome) -> str:
     scene = outcome.scene
-    found = "; ".join(f"`{each.clause}`{_share(each, outcome)}, {each.sentence}: `{_short(each.line)}`" for each in outcome.found)
+    found = "; ".join(f"*{each.grade}*: `{each.clause}`{_share(each, outcome)}, {each.sentence}: `{_short(each.line)}`"
+                      for each in outcome.found)
     cell = found or f"nothing{_of_runs(outcome)}"
     return f"| {program_of(outcome)} | {scene.about} | {cell}{_unjudged(outcome)} | `tools/scenes {scene.name}` |"
 
@@ -72,13 +89,17 @@ def program_of(outcome: Outcome) -> str:
 
 
 def _share(found: Found, outcome: Outcome) -> str:
-    return "" if outcome.scene.beside is None else f" in {found.runs} of {outcome.runs} interleavings"
+    return "" if outcome.scene.beside is None else f" in {found.runs} of {outcome.runs} interleavings{_and_more(outcome)}"
 
 
 def _of_runs(outcome: Outcome) -> str:
     if outcome.scene.beside is None:
         return ""
-    return f" in {outcome.runs} interleavings" + ("" if outcome.is_whole else ", and there are more")
+    return f" in {outcome.runs} interleavings{_and_more(outcome)}"
+
+
+def _and_more(outcome: Outcome) -> str:
+    return "" if outcome.is_whole else ", and there are more"
 
 
 def _unjudged(outcome: Outcome) -> str:

@@ -277,6 +277,8 @@ class Resolver:
         if paths[0] is not None and paths[1] is not None:
             yield Name(made.when, word, paths[0], paths[1], reply)
         elif paths[1] is not None:
+            if reply == "ok":
+                yield Unsaid(made.when, "a file that comes from elsewhere: the next lines say it as made, written and flushed here")
             yield FromOutside(made.when, paths[1], reply, replaces=word == "rename")
         elif paths[0] is not None and word == "rename":
             yield Unlink(made.when, paths[0], reply, is_rename=True)

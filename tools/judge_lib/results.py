@@ -22,7 +22,7 @@ class Results:
             return
         os.makedirs(self._folder, exist_ok=True)
         said = {"scene": repr(outcome.scene), "versions": _versions(outcome.scene), "version": outcome.version, "runs": outcome.runs,
-                "is_whole": outcome.is_whole, "found": outcome.found}
+                "is_whole": outcome.is_whole, "words": Found._fields, "found": outcome.found}
         with open(self._path(outcome.scene, "log"), "wb") as file:
             file.write(outcome.log)
         # What is whole gets its name, so that a run that is ended leaves no half of it.
@@ -43,7 +43,8 @@ class Results:
         except FileNotFoundError:
             return None
         versions = _versions(scene)
-        if said["scene"] != repr(scene) or said["versions"] != versions and None not in versions:
+        is_as_now = said["scene"] == repr(scene) and said.get("words") == list(Found._fields)
+        if not is_as_now or said["versions"] != versions and None not in versions:
             return None
         return Outcome(scene, said["version"], said["runs"], said["is_whole"], [Found(*each) for each in said["found"]], log)
 

@@ -20,6 +20,7 @@ OWN = {path.name.removesuffix(PAIRS) for path in FOLDER.glob("*" + PAIRS)}
 # What each scene begins with, before its own lines `setup`.
 BEGINNING = ["mkdir -p box/tmp box/new box/cur", r"printf 'From: a@example.org\nSubject: one\n\nhello\n' > mail"]
 _LINE = re.compile(r"([a-z]+) +(.*)")
+_PARTS = re.compile(r" ::(?= |$)")
 _ONCE = ("package", "program", "runs", "scene", "needs", "trace", "explore", "beside", "user", "stops")
 _MANY = ("setup", "claims", "fail", "status")
 
@@ -88,20 +89,21 @@ def read_pairs(path: Path) -> Iterator[Scene]:
     for line in path.read_text(encoding="utf-8").splitlines():
         found = _LINE.fullmatch(line)
         if found:
-            rows.setdefault(found[1], []).append([part.strip() for part in found[2].split(" :: ")] + [""] * 3)
-    program, setup = rows["program"][0][0], [row[0] for row in rows["setup"]]
+            rows.setdefault(found[1], []).append([part.strip() for part in _PARTS.split(found[2])] + [""] * 4)
+    program, own_ends, setup = rows["program"][0][0], rows["ends"][0][0], [row[0] for row in rows["setup"]]
     made, others = {row[0]: row[1] for row in rows["place"]}, {row[0]: row for row in rows["others"]}
     for first, command, claim, *_ in rows["explore"]:
         place = first.split()[1]
         own = ["itself " + place, command]
         for other, beside, *_ in [own, *(row for row in rows["beside"] if row[0].endswith(" " + place))]:
             peer = other.split()[0]
-            _, packages, makes, user, *_ = others.get(peer, [""] * 4)
+            _, packages, makes, user, ends, *_ = others.get(peer, [""] * 5)
             claims = ["A: " + claim] + ["B: " + claim] * (peer == "itself")
+            status = [f"A: {own_ends}", f"B: {own_ends}" if peer == "itself" else f"B: 0 {ends}"]
             yield Scene(name="-".join([program, *first.split(), "beside", peer]), package=program, program=program, runs=program,
                         about=f"{first.split()[0]}, its message in {place}, beside {peer}", needs=packages.split(),
                         setup=[*BEGINNING, *setup, made[place], *filter(None, [makes])], claims=claims, fail=[], command=command,
-                        beside=beside, status=[], is_unprivileged=bool(user), pair=(first, peer))
+                        beside=beside, status=status, is_unprivileged=bool(user), pair=(first, peer))
 
 
 def read_scenes(names: List[str], folder: Path = FOLDER) -> List[Scene]:

@@ -3,15 +3,20 @@
 from __future__ import annotations
 
 import argparse
+import contextlib
 import os
 import subprocess
 import sys
+import tempfile
+import threading
 from concurrent.futures import ThreadPoolExecutor
-from typing import List, Optional, Sequence
+from typing import Iterator, List, Optional, Sequence
 
+from .ending import end_by_signals
 from .exploring import Bounds
 from .judge_run import BUILT, deolmutt
-from .outcomes import markdown, repeated, text
+from .grades import GRADES
+from .outcomes import chosen, markdown, repeated, text
 from .refused import Refused
 from .results import Results
 from .scene import OWN, Scene, read_scenes, version_of
@@ -21,15 +26,19 @@ from .tracing import strace
 _ABOUT = """\
 Runs scenes of real mail programs, of Debian's packages, and says what
 `deolmutt judge` finds in each. Each scene is a file of tools/scenes.d, and runs
-in an empty directory of its own. A program that isn't installed is named, and
-its scenes are left out. Of `deolmutt`, which has to be named, each command is
-explored beside itself and beside others: the built one, or DEOLMUTT's.
+in an empty directory of its own; the home of all is another. A program that
+isn't installed is named, and its scenes are left out. Of `deolmutt`, which has
+to be named, each command is explored beside itself and beside others: the
+built one, or DEOLMUTT's.
 """
+
+# Scenes at work side by side end after their next run once this is set.
+_STOPPED = threading.Event()
 
 _MORE = """\
 status:
   0    all scenes that were asked for were run, or left out as not installed
-  1    a scene could not be run
+  1    a scene could not be run, or none of them was
   2    refused: wrong words, no strace, no judge
 """
 
@@ -46,6 +55,9 @@ def _options() -> argparse.ArgumentParser:
     parser.add_argument("--resume", action="store_true", help="takes from --logs what a scene has shown there, with the same packages")
     parser.add_argument("--runs", type=int, default=1000, metavar="N", help="at most so many runs of two commands (1000)")
     parser.add_argument("--seconds", type=float, default=120, metavar="N", help="at most so many seconds for two commands (120)")
+    parser.add_argument("--least", choices=GRADES, metavar="GRADE",
+                        help="shows what was found of this grade or a worse one: "
+                             + ", ".join(f"{grade} ({says})" for grade, says in GRADES.items()))
     parser.add_argument("--jobs", type=int, default=1, metavar="N", help="so many scenes side by side (1)")
     parser.add_argument("names", nargs="*", metavar="SCENE", help="which scenes; without any, all")
     return parser
@@ -54,6 +66,7 @@ def _options() -> argparse.ArgumentParser:
 def main(words: Optional[Sequence[str]] = None) -> int:
     """Does what the words say, and answers the status."""
     options = _options().parse_args(words)
+    end_by_signals()
     os.environ["PATH"] = os.path.dirname(os.environ.get("DEOLMUTT", BUILT)) + ":" + os.environ["PATH"]
     try:
         scenes = read_scenes(options.names)
@@ -67,12 +80,28 @@ def main(words: Optional[Sequence[str]] = None) -> int:
             raise Refused("--resume goes on with what --logs DIR has")
         strace()
         deolmutt()
-        return _run(scenes, options)
+        with _own_home():
+            return _run(scenes, options)
     except (Refused, OSError) as error:
         print(f"scenes: {error}", file=sys.stderr)
         return 2
     except KeyboardInterrupt:
         return 130
+    finally:
+        _STOPPED.clear()
+
+
+@contextlib.contextmanager
+def _own_home() -> Iterator[None]:
+    """Gives all programs a home of their own, so that they read and write nothing in the user's."""
+    former = os.environ.get("HOME")
+    with tempfile.TemporaryDirectory(prefix="scenes-home-") as home:
+        os.environ["HOME"] = home
+        try:
+            yield
+        finally:
+            if former is not None:
+                os.environ["HOME"] = former
 
 
 def _install(scenes: List[Scene], is_now: bool) -> int:
@@ -90,13 +119,30 @@ def _run(scenes: List[Scene], options: argparse.Namespace) -> int:
     there = [scene for scene in scenes if options.resume and results.former(scene) or _is_there(scene)]
     with ThreadPoolExecutor(options.jobs) as pool:
         side_by_side = map if options.jobs == 1 else pool.map
-        for outcome in side_by_side(lambda scene: options.resume and results.former(scene) or _staged(scene, bounds, results), there):
-            if outcome is not None:
-                outcomes.append(outcome)
-                _say("" if options.markdown else "\n".join(text(outcome)))
+        try:
+            for outcome in side_by_side(lambda scene: options.resume and results.former(scene) or _staged(scene, bounds, results), there):
+                if outcome is not None:
+                    outcomes.append(outcome)
+                    shown = _shown(outcome, options)
+                    _tell("")
+                    if shown and not options.markdown:
+                        print("\n".join(text(shown[0])), flush=True)
+        except KeyboardInterrupt:
+            _STOPPED.set()
+            raise
     if options.markdown:
-        print("\n".join(markdown(outcomes)))
-    return 1 if len(outcomes) < len(there) else 0
+        print("\n".join(markdown([shown for outcome in outcomes for shown in _shown(outcome, options)])))
+    if not there:
+        _say("no scene was run")
+    return 1 if len(outcomes) < len(there) or not there else 0
+
+
+def _shown(outcome: Outcome, options: argparse.Namespace) -> List[Outcome]:
+    """What is shown of an outcome: where only some grades are, nothing of one that has none of them."""
+    if options.least is None:
+        return [outcome]
+    graded = chosen(outcome, options.least)
+    return [graded] if graded.found else []
 
 
 def _is_there(scene: Scene) -> bool:
@@ -117,12 +163,12 @@ def _staged(scene: Scene, bounds: Bounds, results: Results) -> Optional[Outcome]
 
 
 def _tell(words: str) -> None:
+    if _STOPPED.is_set() and threading.current_thread() is not threading.main_thread():
+        raise Refused("stopped before the end of a scene")
     if sys.stderr.isatty():
         print(f"\r{words}\033[K", end="", file=sys.stderr, flush=True)
 
 
 def _say(words: str) -> None:
     _tell("")
-    if words:
-        is_outcome = "\n" in words
-        print(words if is_outcome else f"scenes: {words}", file=sys.stdout if is_outcome else sys.stderr, flush=True)
+    print(f"scenes: {words}", file=sys.stderr, flush=True)

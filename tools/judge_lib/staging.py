@@ -9,38 +9,42 @@ import subprocess
 import sys
 import tempfile
 from pathlib import Path
-from typing import List, NamedTuple
+from typing import Dict, Iterable, List, NamedTuple, Tuple
 
 from .claims import read_claims
 from .exploring import STOPS, Bounds, Order, Pairing, Tell, explore, line_of, make_ready
-from .judge_run import SENTENCES, judge
+from .grades import GRADES, grade_of
+from .judge_run import SENTENCES, Finding, judge
 from .making import Log
 from .refused import Refused
 from .scene import Scene
 from .statuses import Statuses, read_expected, shown, unexpected
-from .stopping import LIMITED
+from .stopping import LIMITED, SIDES
 
 _TOOLS = Path(__file__).resolve().parent.parent
 _MOST_SECONDS = 60
 _MOST_SAID = 2000
 _ENDED = re.compile(r"^# (\S+) ended with (?:status (\d+)|a signal)$", re.MULTILINE)
+_CALL = re.compile(rb"^\d\S* \S+ (?!answer )", re.MULTILINE)
 _NOBODY = 65534
 # Some programs refuse to run as root.
 _AS_NOBODY = ["setpriv", f"--reuid={_NOBODY}", f"--regid={_NOBODY}", "--clear-groups"]
 
 
 class Found(NamedTuple):
-    """A clause that is broken: in how many of the runs, the line that breaks it first, without its moment, that line's sentence, and by whom."""
+    """A clause that is broken with a grade: in how many of the runs, the line that does it first, without its moment, that line's sentence,
+    by whom, and the grade."""
 
     clause: str
     runs: int
     line: str
     sentence: str
     actors: str = ""
+    grade: str = "lost"
 
 
 class Outcome(NamedTuple):
-    """What a scene showed: findings by clause, and the log that shows the first of them."""
+    """What a scene showed: findings by clause and grade, the worst first, and the log that shows the first of them."""
 
     scene: Scene
     version: str
@@ -58,11 +62,37 @@ def stage(scene: Scene, version: str, bounds: Bounds, tell: Tell) -> Outcome:
         base = os.path.join(top, "work")
         os.mkdir(base)
         log = traced(scene, base, os.path.join(top, "log"))
-    first = {}
-    for finding in judge(log):
-        first.setdefault(finding.clause, finding)
-    found = [Found(clause, 1, line_of(log, finding.line), SENTENCES[clause]) for clause, finding in first.items()]
-    return Outcome(scene, version, 1, True, found, log)
+    check_calls(scene, log)
+    gathered = Gathered()
+    gathered.add(log, judge(log))
+    return Outcome(scene, version, 1, True, gathered.found(), log)
+
+
+class Gathered:
+    """What was found in all runs of a scene."""
+
+    def __init__(self) -> None:
+        self._found: Dict[Tuple[str, str], Found] = {}
+        self._logs: Dict[Tuple[str, str], bytes] = {}
+
+    def add(self, log: bytes, findings: Iterable[Finding]) -> None:
+        """Adds what was found in a run."""
+        graded: Dict[Tuple[str, str], List[str]] = {}
+        for finding in findings:
+            graded.setdefault((finding.clause, grade_of(log, finding)), []).append(line_of(log, finding.line))
+        for key, lines in graded.items():
+            former = self._found.get(key, Found(key[0], 0, lines[0], SENTENCES[key[0]], "", key[1]))
+            actors = "".join(sorted({*former.actors, *(line.split()[0] for line in lines)} & set(SIDES)))
+            self._found[key] = former._replace(runs=former.runs + 1, actors=actors)
+            self._logs.setdefault(key, log)
+
+    def found(self) -> List[Found]:
+        """All of it, the worst first."""
+        return sorted(self._found.values(), key=lambda each: list(GRADES).index(each.grade))
+
+    def log(self) -> bytes:
+        """The log of the first run that shows the worst of it."""
+        return next((self._logs[each.clause, each.grade] for each in self.found()), b"")
 
 
 def traced(scene: Scene, base: str, log: str) -> bytes:
@@ -76,6 +106,12 @@ def traced(scene: Scene, base: str, log: str) -> bytes:
     ended = {actor: int(status) if status else None for actor, status in _ENDED.findall(text.decode("utf-8", "replace"))}
     check_expected(scene, ended, said)
     return text
+
+
+def check_calls(scene: Scene, log: bytes) -> None:
+    """Refuses a scene whose command did nothing in a maildir: it shows nothing."""
+    if not _CALL.search(log):
+        raise Refused(f"{scene.name}: its command made no call in a maildir")
 
 
 def check_expected(scene: Scene, statuses: Statuses, said: str) -> None:
@@ -123,15 +159,14 @@ def trace_words(scene: Scene) -> List[str]:
 def _explored(scene: Scene, version: str, bounds: Bounds, tell: Tell) -> Outcome:
     commands = [shlex.join(["exec", *before(scene), "sh", "-c", command]) for command in (scene.command, scene.beside or "")]
     pairing = Pairing(setup_of(scene), commands, read_claims(scene.claims), stops=STOPS[scene.stops])
-    explored = explore(pairing, bounds, tell, lambda order, log, judged: _check_order(scene, order, log, judged))
+    gathered = Gathered()
+    explored = explore(pairing, bounds, tell, lambda order, log, judged: _take_order(scene, gathered, order, log, judged))
     if explored.without_call():
         raise Refused(f"{scene.name}: {explored.without_call()} made no call in a maildir")
-    found = [Found(clause, each.count, line_of(each.log, each.finding.line), SENTENCES[clause], "".join(sorted(each.actors)))
-             for clause, each in explored.broken.items()]
-    log = next((each.log for each in explored.broken.values()), b"")
-    return Outcome(scene, version, len(explored.orders), explored.is_whole, found, log)
+    return Outcome(scene, version, len(explored.orders), explored.is_whole, gathered.found(), gathered.log())
 
 
-def _check_order(scene: Scene, order: str, log: Log, judged: Order) -> None:
+def _take_order(scene: Scene, gathered: Gathered, order: str, log: Log, judged: Order) -> None:
     said = b"\n".join(log.said.values())[-_MOST_SAID:].decode("utf-8", "replace").strip()
     check_expected(scene, judged.statuses, f"in {order or 'no call'}: {said}")
+    gathered.add(log.encoded(), judged.found)

@@ -11,7 +11,7 @@ import time
 from collections import Counter
 from typing import IO, Dict, Iterable, Iterator, List, NamedTuple, Optional
 
-from .claims import read_claims
+from .claims import check_claims, read_claims
 from .folders import File, Folder, Folders, check_made, files_of, found_folders, named_folders
 from .making import UNCLAIMED, Beginning, Making
 from .processes import Actors, Processes, actor_word
@@ -23,6 +23,7 @@ from .tracing import Tracer, strace, tracer_of, version
 _SECONDS_TO_ATTACH = 5
 _TIMES_TO_ATTACH = 3
 _MOST_WARNED = 8
+IDLE = "the command called nothing in a judged maildir"
 # All commands begin at once, and the first shell waits for them.
 _ALL = 'for command; do sh -c "$command" & done; wait'
 
@@ -36,6 +37,12 @@ class Traced(NamedTuple):
     command: Optional[str]
     unsaid: Dict[str, int]
     wrong: List[str]
+    # How many calls in the judged folders its log has.
+    calls: int = 0
+
+    def is_idle(self) -> bool:
+        """Whether the command ended well, and did nothing in a maildir."""
+        return self.command is not None and self.statuses.get(self.command) == 0 and self.calls == 0
 
     def write(self, out: IO[bytes]) -> None:
         """Writes the log."""
@@ -134,6 +141,7 @@ class _Run:
         self._processes = Processes(asked.actors, asked.base)
         self._unsaid: Counter[str] = Counter()
         self._told = 0
+        self._calls = 0
         self._begin()
 
     def _begin(self) -> None:
@@ -181,6 +189,7 @@ class _Run:
 
     def _tell(self, line: Line) -> None:
         self._told += 1
+        self._calls += line.actor is not None and not line.text.startswith(b"answer ")
         if line.actor is None:
             self._unsaid[re.sub(r"\d+", "N", line.text.decode("utf-8", "replace").partition(": ")[2])] += 1
         self._out.write(line.encoded() + b"\n")
@@ -193,12 +202,13 @@ class _Run:
         if not self.folders:
             raise Refused("there is no maildir here, and the command made none: name one by --folder DIR")
         check_made(self.folders)
+        check_claims(self._asked.claims, [folder.name for folder in self.folders])
         wrong = [f"ended {tracer.why}"] if tracer.why and not asked.pids else []
         if not asked.pids and tracer.why is None and self._processes.first_is_there():
             wrong.append("the trace is cut: strace ended before the command")
         wrong += [f"nobody is {actor}, of whom something is claimed: the actors were {' '.join(log.statuses)}" for actor in self._making.unheard()]
         head = [log.head[0], *(f"# {text}".encode("utf-8", "surrogateescape") for text in wrong), *log.head[1:]]
-        return Traced(head, self._path, log.statuses, self._processes.first_actor, dict(self._unsaid), wrong)
+        return Traced(head, self._path, log.statuses, self._processes.first_actor, dict(self._unsaid), wrong, self._calls)
 
 
 def _made_meanwhile(asked: _Asked, known: List[Folder]) -> List[Folder]:
@@ -220,6 +230,8 @@ def _comm(pid: int) -> str:
 def warnings(traced: Traced, has_claims: bool) -> Iterator[str]:
     """What is to be said on standard error."""
     yield from traced.wrong
+    if traced.is_idle() and IDLE not in traced.wrong:
+        yield IDLE
     for actor, status in traced.statuses.items():
         if status != 0:
             yield f"{actor} ended with " + ("a signal" if status is None else f"status {status}")

@@ -52,11 +52,11 @@ class BadPrograms(unittest.TestCase):
         return run
 
     def left(self):
-        """The processes that are still at work in the folder."""
+        """The processes that are still at work in the folder, or below it."""
         there = []
         for name in filter(str.isdigit, os.listdir("/proc")):
             try:
-                if os.readlink(f"/proc/{name}/cwd") == str(self.room):
+                if os.readlink(f"/proc/{name}/cwd").startswith(str(self.room)):
                     there.append(name)
             except OSError:
                 pass
@@ -76,10 +76,22 @@ class BadPrograms(unittest.TestCase):
         self.assertEqual(run.returncode, 2)
         self.assertIn("explore: the commands did not end, after the calls A", run.stderr)
 
+    def test_a_command_that_never_ran_or_did_nothing_is_no_good_run(self):
+        setup = ["--setup", "mkdir -p box/tmp box/new box/cur"]
+        run = self.run_tool("explore", *setup, "--claims", "A: delivered box", "nosuchcommand box", "true")
+        self.assertEqual((run.returncode, run.stdout), (2, ""))
+        self.assertRegex(run.stderr, "^explore: A did not run: status 127: .*nosuchcommand")
+        run = self.run_tool("explore", *setup, "ls box/new; exit 3", "ls box/new")
+        self.assertEqual(run.returncode, 1, run.stderr)
+        self.assertIn(": nobody expected that of A (--status)\n", run.stdout)
+        run = self.run_tool("explore", *setup, "ls box/new", "true")
+        self.assertEqual(run.returncode, 1, run.stderr)
+        self.assertIn("no call         B: never called in a maildir\n", run.stdout)
+
     def test_a_file_gets_no_longer_than_its_limit(self):
         writes = "head -c 200000000 /dev/zero > box/tmp/u"
         run = self.run_tool("explore", "--keep", "kept", "--status", "A: 0 1 2 153", "--stop-at", "names", "--setup",
-                            "mkdir -p box/tmp box/new box/cur", f"{writes}; stat -c %s box/tmp/u", "true")
+                            "mkdir -p box/tmp box/new box/cur", f"{writes}; stat -c %s box/tmp/u", "ls box/new")
         self.assertEqual(run.returncode, 0, run.stderr + run.stdout)
         said = next((self.room / "kept").glob("A*/A.out")).read_text()
         self.assertIn(str(64 << 20), said)
@@ -90,6 +102,17 @@ class BadPrograms(unittest.TestCase):
         self.assertEqual((run.returncode, run.stderr), (2, "trace: other: is no maildir: it lacks tmp, new or cur\n"))
         run = self.run_tool("trace", "--folder", "none", "true")
         self.assertRegex(run.stderr, "trace: .*/none: is no maildir, and the command made none there\n")
+
+    def test_a_tool_that_is_ended_leaves_nothing(self):
+        """Its commands are stopped at a call, or sleep."""
+        environment = {**os.environ, "DEOLMUTT": shutil.which("true"), "TMPDIR": str(self.room)}
+        words = [sys.executable, TOOLS / "explore", "--setup", "mkdir -p box/tmp box/new box/cur", "touch box/tmp/u; exec sleep 1000", "ls box/new"]
+        with subprocess.Popen(words, cwd=self.room, env=environment, start_new_session=True) as tool:
+            self.wait_for(lambda: list(self.room.glob("explore-*/work/box/tmp/u")))
+            tool.terminate()
+            self.assertEqual(tool.wait(SECONDS), 130)
+        self.wait_for(lambda: not self.left())
+        self.assertEqual(list(self.room.glob("explore-*")), [])
 
     def wait_for(self, is_so):
         until = time.monotonic() + SECONDS

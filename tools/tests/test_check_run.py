@@ -27,6 +27,8 @@ else:
     digits = lambda path: "".join(f"\\\\x{{byte:02x}}" for byte in path)
     with open({str(RECORDED / "deliverer.strace")!r}, encoding="latin1") as trace:
         text = trace.read().replace(digits(b"/srv/mail"), digits(os.getcwdb()))
+    if os.path.exists("idle"):
+        text = "".join(line for line in text.splitlines(keepends=True) if "exited" in line or "execve" in line)
     if os.path.exists("fails"):
         text = text.replace("exited with 0", "exited with 3")
     with open(sys.argv[sys.argv.index("-o") + 1], "w", encoding="latin1") as out:
@@ -47,8 +49,8 @@ sys.exit(1 if found else 0)
 """
 
 
-class Deliverer(unittest.TestCase):
-    """A deliverer that flushes after its rename."""
+class Faked(unittest.TestCase):
+    """A deliverer that flushes after its rename, traced and judged by stand-ins."""
 
     def setUp(self):
         room = tempfile.TemporaryDirectory()
@@ -62,11 +64,50 @@ class Deliverer(unittest.TestCase):
         for place in ("tmp", "new", "cur"):
             (self.room / "box" / place).mkdir(parents=True)
 
-    def check(self, *words, **more):
+    def run_tool(self, tool, *words, **more):
         environment = {**os.environ, "PATH": f"{self.room}/bin", "DEOLMUTT": f"{self.room}/bin/judge", "GITHUB_ACTIONS": "false", **more}
-        words = [sys.executable, TOOLS / "check-run", "--actor", "d", "--claims", "delivered box", *words, "--", "deliverer", "box"]
+        words = [sys.executable, TOOLS / tool, "--actor", "d", *words, "--", "deliverer", "box"]
         return subprocess.run(words, cwd=self.room, env=environment, capture_output=True, text=True, check=False)
 
+    def check(self, *words, **more):
+        return self.run_tool("check-run", "--claims", "delivered box", *words, **more)
+
+
+class TraceAlone(Faked):
+    """What tools/trace says on standard error, which no log can say."""
+
+    def test_a_status_other_than_0(self):
+        run = self.run_tool("trace", "--claims", "delivered box", "-o", "log")
+        self.assertEqual((run.returncode, run.stderr), (0, ""))
+        (self.room / "fails").touch()
+        run = self.run_tool("trace", "--claims", "delivered box", "-o", "log")
+        self.assertEqual((run.returncode, run.stderr), (0, "trace: d ended with status 3\n"))
+        self.assertIn(b" d answer failed box ", (self.room / "log").read_bytes())
+
+    def test_claims_that_nobody_made(self):
+        run = self.run_tool("trace", "--claims", "nosuch.1: delivered box", "-o", "log")
+        self.assertEqual(run.returncode, 1)
+        self.assertEqual(run.stderr, "trace: nobody is nosuch.1, of whom something is claimed: the actors were d\n")
+        self.assertIn(b"# nobody is nosuch.1, of whom something is claimed", (self.room / "log").read_bytes())
+
+    def test_claims_of_a_folder_that_is_none(self):
+        run = self.run_tool("trace", "--claims", "delivered bax", "-o", "log")
+        self.assertEqual((run.returncode, run.stderr), (2, "trace: --claims delivered: no judged folder is bax: they are box\n"))
+
+    def test_a_command_that_does_nothing(self):
+        (self.room / "idle").touch()
+        run = self.run_tool("trace", "-o", "log")
+        self.assertEqual((run.returncode, run.stderr.splitlines()[0]), (0, "trace: the command called nothing in a judged maildir"))
+        run = self.run_tool("check-run")
+        self.assertEqual((run.returncode, run.stderr.splitlines()[0]), (2, "check-run: the command called nothing in a judged maildir"))
+        run = self.check()
+        self.assertEqual(run.returncode, 1, "it delivered nothing")
+        self.assertIn("AnsweredFalsely", run.stdout)
+        (self.room / "fails").touch()
+        self.assertEqual(self.check("--status", "3").returncode, 0, "it refused the message, as was expected")
+
+
+class Deliverer(Faked):
     def test_its_bug_is_found(self):
         run = self.check()
         self.assertEqual(run.returncode, 1, run.stderr)
@@ -103,6 +144,10 @@ class Deliverer(unittest.TestCase):
     def test_claims_of_nobody(self):
         run = self.check("--claims", "x: done box u")
         self.assertIn("nobody is x, of whom something is claimed: the actors were d", run.stderr)
+        (self.room / "known").write_text("NotFlushed d *\n")
+        self.assertEqual(self.check("--claims", "x: done box u", "--known", "known").returncode, 2)
+        run = self.check("--claims", "delivered bax")
+        self.assertEqual((run.returncode, run.stderr), (2, "check-run: --claims delivered: no judged folder is bax: they are box\n"))
 
     def test_forms_of_others(self):
         run = self.check("--json", "--junit", "j.xml", "--sarif", "s.json", "--allow", "Gone")

@@ -1,5 +1,7 @@
 """Tests of tools/scenes: the files of scenes, and the table of what they showed."""
 
+import contextlib
+import io
 import os
 import subprocess
 import sys
@@ -10,13 +12,15 @@ from unittest import mock
 
 from judge_support import TOOLS
 
-from judge_lib import outcomes, results
+from judge_lib import outcomes, results, scene, scenes_command, staging
 from judge_lib.claims import read_claim
-from judge_lib.judge_run import judge, deolmutt
+from judge_lib.exploring import Bounds
+from judge_lib.grades import GRADES
+from judge_lib.judge_run import Finding, judge, deolmutt
 from judge_lib.refused import Refused
 from judge_lib.results import Results
 from judge_lib.scene import FOLDER, read_scene, read_scenes
-from judge_lib.staging import Found, Outcome, check_expected
+from judge_lib.staging import Found, Gathered, Outcome, check_calls, check_expected
 
 TRACED = """\
 package  p
@@ -86,8 +90,9 @@ class Scenes(unittest.TestCase):
         with mock.patch.object(outcomes, "version_of", return_value="1"):
             self.assertEqual(outcomes.markdown(rows)[2:], [
                 "With deolmutt 1, mblaze 1.", "", "|  | itself | mblaze |", "| --- | --- | --- |", "| flag cur | 4 | - |",
-                "| seen new | - | 4 of more; Gone by B in 2 |"])
+                "| seen new | - | 4 of more; *lost*: Gone by B in 2 |"])
         self.assertEqual(rows[0].scene.claims, ["A: flags box u +F", "B: flags box u +F"])
+        self.assertEqual([row.scene.status for row in rows], [["A: 0 65", "B: 0 65"], ["A: 0 65", "B: 0 3"]])
 
     def test_repeated(self):
         traced = "tools/trace --actor q --claims 'done box u' --fail unlink:error=EIO -o log sh -c 'q r < s'"
@@ -96,14 +101,39 @@ class Scenes(unittest.TestCase):
                                                                        "  --status 'A: 0' --status 'B: 0 1' --stop-at names q t"])
 
     def test_rows(self):
-        found = [Found("Gone", 2, "q unlink box/cur/u|v ok", "it goes")]
+        found = [Found("Gone", 2, "q unlink box/cur/u|v ok", "it goes", "", "owed"),
+                 Found("GaveUp", 1, "q answer done box u", "it gave up", "", "custom")]
         rows = [Outcome(self.read(TRACED), "1-2", 1, True, [], b""), Outcome(self.read(EXPLORED), "3", 4, True, found, b""),
                 Outcome(self.read(EXPLORED), "3", 4, False, [], b"")]
+        head = ["", "| Program | Scene | What the judge found | Shown by |", "|---|---|---|---|"]
         with mock.patch.object(outcomes, "ran_here", return_value="Run here."):
-            self.assertEqual(outcomes.markdown(rows)[4:], [
+            self.assertEqual(outcomes.markdown(rows), [
+                "Run here.", "", "### Owed: " + GRADES["owed"], *head,
+                "| `q`, p 3 | does it | *owed*: `Gone` in 2 of 4 interleavings, it goes: `q unlink box/cur/u\\|v ok`; "
+                "*custom*: `GaveUp` in 1 of 4 interleavings, it gave up: `q answer done box u` (no claims) | `tools/scenes one` |",
+                "", "### Nothing is found", *head,
                 "| `q r`, p 1-2 | does it | nothing | `tools/scenes one` |",
-                "| `q`, p 3 | does it | `Gone` in 2 of 4 interleavings, it goes: `q unlink box/cur/u\\|v ok` (no claims) | `tools/scenes one` |",
                 "| `q`, p 3 | does it | nothing in 4 interleavings, and there are more (no claims) | `tools/scenes one` |"])
+            self.assertIn(" in 2 of 4 interleavings, and there are more: it goes", outcomes.text(rows[1]._replace(is_whole=False))[1])
+            self.assertEqual(outcomes.text(rows[1])[1:], ["  owed: Gone in 2 of 4 interleavings: it goes: q unlink box/cur/u|v ok",
+                                                          "  custom: GaveUp in 1 of 4 interleavings: it gave up: q answer done box u"])
+
+    def test_grades_are_chosen(self):
+        found = [Found("Gone", 1, "q unlink box/cur/u ok", "it goes", "", "owed"),
+                 Found("GaveUp", 1, "q answer done box u", "it gave up", "", "custom")]
+        outcome = Outcome(self.read(TRACED), "1", 1, True, found, b"")
+        chosen = [[each.clause for each in outcomes.chosen(outcome, grade).found] for grade in GRADES]
+        self.assertEqual(chosen, [[], [], ["Gone"], ["Gone", "GaveUp"]])
+
+    def test_what_is_found_is_gathered_by_clause_and_grade(self):
+        """The first line of each, in how many runs, and the log of the worst."""
+        log = b"file box/cur/u:2,S 1\nfile box/new/v 1\n1 A rename box/new/v box/new/w ok\n1 B unlink box/cur/u:2,S ok\n"
+        gathered = Gathered()
+        gathered.add(log[:-1] + b"\n# one\n", [Finding(3, "Gone")])
+        gathered.add(log, [Finding(3, "Gone"), Finding(4, "Gone")])
+        self.assertEqual([(each.grade, each.runs, each.line, each.actors) for each in gathered.found()],
+                         [("lost", 1, "B unlink box/cur/u:2,S ok", "B"), ("custom", 2, "A rename box/new/v box/new/w ok", "A")])
+        self.assertEqual(gathered.log(), log)
 
     def test_a_status_that_nobody_expected_fails_a_scene(self):
         traced, explored = self.read(TRACED), self.read(EXPLORED)
@@ -112,6 +142,15 @@ class Scenes(unittest.TestCase):
         for scene, statuses in ((traced, {"q": 0}), (explored, {"A": 1, "B": 0}), (explored, {"A": 0, "B": None})):
             with self.assertRaisesRegex(Refused, "which the scene doesn't expect: said"):
                 check_expected(scene, statuses, "said")
+
+    def test_a_command_that_does_nothing_fails_a_scene(self):
+        head = b"maildir_log 1\nfolder box\nfile box/cur/u:2,S 1000\n1 q answer failed box u\n"
+        check_calls(self.read(TRACED), head + b"1@2..3 q list box new ok\n")
+        with self.assertRaisesRegex(Refused, "one: its command made no call in a maildir"):
+            check_calls(self.read(TRACED), head)
+        explored = mock.Mock(without_call=lambda: "B")
+        with mock.patch.object(staging, "explore", return_value=explored), self.assertRaisesRegex(Refused, "one: B made no call in a maildir"):
+            staging.stage(self.read(EXPLORED), "1", Bounds(1, 1), print)
 
     def test_a_run_goes_on(self):
         """What a scene showed is taken again, unless the scene or a package is another since then."""
@@ -127,6 +166,8 @@ class Scenes(unittest.TestCase):
         with mock.patch.object(results, "version_of", return_value=None):
             self.assertEqual(kept.former(scene), outcome, "its packages had to go for others")
         self.assertEqual((self.room / "logs/one.log").read_bytes(), b"log\n")
+        with mock.patch.object(results, "version_of", return_value="3"), mock.patch.object(results.Found, "_fields", ("clause",)):
+            self.assertIsNone(kept.former(scene), "it was kept in other words")
 
     def test_judge(self):
         """The program is one that prints `LINE CLAUSE`, and whose status is 0, 1 or 2."""
@@ -139,6 +180,28 @@ class Scenes(unittest.TestCase):
                 judge(b"no log\n")
         with mock.patch.dict(os.environ, {"DEOLMUTT": "/nowhere"}), self.assertRaisesRegex(Refused, "/nowhere: is no program"):
             deolmutt()
+
+    def test_a_scene_that_can_not_be_run_is_no_good_run(self):
+        """Nor is a run of no scene at all."""
+        def status(version, *stages):
+            shown = [Outcome(read_scenes(["safecat"])[0], "1", 1, True, [], b"")]
+            with mock.patch.object(scenes_command, "strace"), mock.patch.object(scenes_command, "deolmutt"), \
+                    mock.patch.object(scenes_command, "version_of", return_value=version), \
+                    mock.patch.object(scene, "version_of", return_value=version), \
+                    mock.patch.object(scenes_command, "stage", side_effect=stages or shown), \
+                    contextlib.redirect_stdout(io.StringIO()), contextlib.redirect_stderr(io.StringIO()) as said:
+                return scenes_command.main(["safecat"]), said.getvalue()
+        self.assertEqual(status("1"), (0, ""))
+        self.assertEqual(status("1", Refused("safecat: sh ended with status 1:\nit said")), (1, "scenes: safecat: sh ended with status 1:\nit said\n"))
+        self.assertEqual(status(None), (1, "scenes: safecat: left out: not installed: safecat\nscenes: no scene was run\n"))
+
+    def test_programs_have_a_home_of_their_own(self):
+        before, seen = os.environ.get("HOME"), []
+        with scenes_command._own_home():
+            seen.append(os.environ["HOME"])
+            self.assertEqual(os.listdir(seen[0]), [])
+        self.assertEqual(os.environ.get("HOME"), before)
+        self.assertFalse(os.path.exists(seen[0]))
 
     def test_program(self):
         run = subprocess.run([sys.executable, TOOLS / "scenes", "--list", "mdeliver"], capture_output=True, text=True, check=False)

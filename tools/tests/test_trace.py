@@ -8,11 +8,12 @@ import unittest
 
 from judge_support import BOX, TOOLS, beginning, log_of, opened, quoted, recorded, steps_of, trace
 
-from judge_lib.claims import read_claim
+from judge_lib.claims import check_claims, read_claim, read_claims
 from judge_lib.folders import Folders, check_made, files_of, found_folders, named_folders
 from judge_lib.making import Beginning, Making
 from judge_lib.processes import Actors, Processes
 from judge_lib.refused import Refused
+from law_lib.logs import findings
 
 BOX_AT = BOX.directory.decode()
 
@@ -144,6 +145,12 @@ class WhatAStatusClaims(unittest.TestCase):
         self.assertEqual(self.answers("done box u", 0), ["a answer done box u"])
         self.assertEqual(self.answers("b: done box u", 0), [])
 
+    def test_claims_of_a_folder_that_nobody_judges(self):
+        for text in ("delivered bax", "moved bax box u", "moved box bax u"):
+            with self.assertRaisesRegex(Refused, "no judged folder is bax: they are box far"):
+                check_claims(read_claims([text]), [b"box", b"far"])
+        check_claims(read_claims(["delivered box", "b: moved far box u"]), [b"box", b"far"])
+
     def test_wrong_claims(self):
         for text in ["", "done box", "flags box u", "flags box u F", "moved box u", "told box u"]:
             with self.assertRaises(Refused, msg=text):
@@ -176,6 +183,24 @@ class WhoIsAnActor(unittest.TestCase):
         self.assertEqual(self.actors(Actors("child", "sh")), ["sh.1", "sh.1", "sh.2"])
         self.assertEqual(self.actors(Actors("child", "sh", ("in", "out"))), ["in", "in", "out"])
         self.assertEqual(self.actors(Actors("fork", "sh")), ["sh.2", "sh.2", "sh.3"])
+
+    def test_a_shell_deliverer_is_not_blamed(self):
+        """By the law: no file is written to by another than made it, and what was delivered was."""
+        for how in ("one", "program", "child"):
+            first = {"one": "sh", "program": "sh.1", "child": "sh"}[how]
+            for claims in ((), (f"{first}: delivered box",)):
+                log = log_of(self.SHELL, claims=claims, actors=Actors(how, "sh", speaking=frozenset([first] if claims else [])))
+                with self.subTest(how=how, claims=claims):
+                    self.assertEqual({clause for _, clause in findings(log.encoded())}, {"NotFlushed"})
+
+    def test_a_server_that_forks(self):
+        """What two children read at once counts, where each is an actor; of one actor they would drop each other's readings."""
+        new = opened(3, f"{BOX_AT}/new")
+        parts = [f"getdents64({new}, [{{d_name={quoted('u')}}}], 32768) = 24", f"getdents64({new}, [], 32768) = 0"]
+        lines = trace("1 clone(flags=SIGCHLD) = 2", "1 clone(flags=SIGCHLD) = 3", *(f"{pid} {part}" for part in parts for pid in (2, 3)))
+        dropped = "# not said: a part of a reading of new, as another came between its parts"
+        for how, ends in (("fork", ["a.2 list box new ok", "a.3 list box new ok"]), ("one", [dropped, "a list box new ok"])):
+            self.assertEqual(steps_of(log_of(lines, [("new", b"u")], actors=Actors(how, "a")))[-2:], ends)
 
     def test_threads(self):
         lines = trace("1 clone3({flags=CLONE_VM|CLONE_FILES|CLONE_THREAD}, 88) = 2", f"2 unlink({quoted('box/cur/u')}) = 0",
