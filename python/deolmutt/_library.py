@@ -96,7 +96,7 @@ _spare: list[bytearray] = []
 
 _DRIVEN = ctypes.c_void_p
 
-# A library that was built without them has no settle, or no driven jobs.
+# A library that was built without them has no settle, no driven jobs, or no judge.
 _MAYBE = {
     "deolmutt_settle": (_WORLD, _TO_U64),
     "deolmutt_drive": (*_CALL, ctypes.POINTER(_DRIVEN)),
@@ -106,6 +106,14 @@ _MAYBE = {
     "deolmutt_driven_row": (_DRIVEN, _BYTES, _SIZE, _U64, _U64),
     "deolmutt_driven_take": (_DRIVEN, _U32, ctypes.POINTER(StepStruct)),
     "deolmutt_driven_answer": (_DRIVEN, _TO_ANSWER),
+    "deolmutt_judge": (_BYTES, _SIZE, _OUT, _SIZE, _TO_SIZE, _TO_U64),
+}
+
+# Those of them that give a text, which is the library's.
+_TEXTS = {
+    "deolmutt_clause_name": (_U32,),
+    "deolmutt_clause_text": (_U32,),
+    "deolmutt_strerror": (ctypes.c_int,),
 }
 
 
@@ -145,6 +153,11 @@ def drives(found: ctypes.CDLL) -> bool:
     return hasattr(found, "deolmutt_drive")
 
 
+def judges(found: ctypes.CDLL) -> bool:
+    """Whether the library has the judge."""
+    return hasattr(found, "deolmutt_judge")
+
+
 def start_of(buffer: bytearray) -> Any:
     """Where a buffer begins, of 1 byte or more.
 
@@ -178,10 +191,14 @@ def _declared(found: ctypes.CDLL, path: str) -> ctypes.CDLL:
     try:
         found.deolmutt_abi.restype = _U32
         version = found.deolmutt_abi()
-        for name, types in {**_FUNCTIONS, **_those_of(found)}.items():
+        for name, types in {**_FUNCTIONS, **_those_of(found, _MAYBE)}.items():
             function = getattr(found, name)
             function.argtypes = types
             function.restype = _U32
+        for name, types in _those_of(found, _TEXTS).items():
+            function = getattr(found, name)
+            function.argtypes = types
+            function.restype = ctypes.c_char_p
     except AttributeError as error:
         raise LibraryMissing(f"{path} is no library of Deolmutt's: {error}. {_HOW}") from error
     if version != ABI:
@@ -189,5 +206,5 @@ def _declared(found: ctypes.CDLL, path: str) -> ctypes.CDLL:
     return found
 
 
-def _those_of(found: ctypes.CDLL) -> dict[str, tuple[Any, ...]]:
-    return {name: types for name, types in _MAYBE.items() if hasattr(found, name)}
+def _those_of(found: ctypes.CDLL, wanted: dict[str, tuple[Any, ...]]) -> dict[str, tuple[Any, ...]]:
+    return {name: types for name, types in wanted.items() if hasattr(found, name)}

@@ -56,6 +56,7 @@ REFUSALS: dict[int, type[DeolmuttError]] = {
     57: errors.NoFirstReading,
     58: errors.SamePath,
     59: errors.NotInThisRun,
+    **dict.fromkeys(range(70, 87), errors.BadLog),
 }
 
 _DELIVERED, _FLAGS, _MOVED, _EXPUNGED, _COPIED, _CLEANED = range(1, 7)

@@ -66,6 +66,10 @@ class NotDriven(DeolmuttError):
     """The library has no driven jobs: it was built before them."""
 
 
+class NotJudged(DeolmuttError):
+    """The library has no judge: it was built before it."""
+
+
 class Restless(DeolmuttError, OSError):
     """A directory was changed again and again, so that no reading of it could be believed."""
 
@@ -214,6 +218,15 @@ class DuplicateUnique(BadLine):
 
 class SamePath(BadLine):
     """Two files have one path."""
+
+
+# What is refused of a log that is judged.
+
+
+class BadLog(BadLine):
+    """A log is refused. `line` is the number of its first wrong line, from 1, and `text` says what is wrong."""
+
+    text: str = ""
 
 
 # How a job ends that had no effect.

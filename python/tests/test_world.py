@@ -406,7 +406,7 @@ class NumbersTest(unittest.TestCase):
         answers = numbers_in(text, "deolmutt_answer_kind")
         self.assertEqual(set(range(7, len(answers))), set(FAILURES))
         for name, number in refusals.items():
-            if number in REFUSALS and REFUSALS[number] is not errors.Misused:
+            if number in REFUSALS and REFUSALS[number] not in (errors.Misused, errors.BadLog):
                 self.assertIn(plain(name), ALSO_CALLED.get(number, plain(REFUSALS[number].__name__)))
 
 

@@ -117,6 +117,7 @@ uint32_t md_ffi_transcript(const uint8_t *script, size_t length, const uint8_t *
                            size_t *out_length, uint64_t *line);
 uint32_t md_ffi_index(const uint8_t *lines, size_t length, const uint8_t *seed, size_t drawn, uint8_t *out, size_t room,
                       size_t *out_length, uint64_t *line);
+uint32_t md_ffi_judge(const uint8_t *log, size_t length, uint8_t *out, size_t room, size_t *out_length, uint64_t *line);
 uint32_t md_ffi_unique(uint64_t sec, uint64_t micro, uint64_t pid, uint64_t count, const uint8_t *host, size_t host_length, uint8_t *out,
                        size_t room, size_t *length);
 uint32_t md_ffi_split(const uint8_t *name, size_t length, size_t *unique_length, uint32_t *info, uint64_t *flags);
@@ -169,6 +170,14 @@ static inline int overlap(size_t written, const struct range *ranges, size_t cou
 
 #define RANGES(...) ((const struct range[]){__VA_ARGS__})
 #define OVERLAPS(written, ...) overlap((written), RANGES(__VA_ARGS__), sizeof RANGES(__VA_ARGS__) / sizeof(struct range))
+
+/* A number of so many bytes, little-endian. */
+static inline uint64_t little(const uint8_t *at, size_t bytes) {
+    uint64_t value = 0;
+    while (bytes-- > 0)
+        value = value << 8 | at[bytes];
+    return value;
+}
 
 #define BYTES(bytes, length) ((length) == 0 ? no_bytes : (bytes)), (length)
 #define ROOM(out, room) ((room) == 0 ? (uint8_t *)no_bytes : (out)), (room)

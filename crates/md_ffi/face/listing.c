@@ -8,13 +8,6 @@
 /* What stands before the name of a message: its place, the length of its name, and that of its bytes. */
 #define HEAD 16
 
-static uint64_t little(const uint8_t *at, size_t bytes) {
-    uint64_t value = 0;
-    while (bytes-- > 0)
-        value = value << 8 | at[bytes];
-    return value;
-}
-
 /* The message at a position of a listing, and the position after it. */
 static uint32_t read_message(const uint8_t *listing, size_t length, size_t *at, deolmutt_message *message) {
     const uint8_t *head = listing + *at;

@@ -56,6 +56,23 @@ static const char *const texts[] = {
     [DEOLMUTT_WRITE_FAULT] = "write fault",
     [DEOLMUTT_SCRIPT_TOO_LONG] = "script too long",
     [DEOLMUTT_TOO_MANY_READS] = "too many reads",
+    [DEOLMUTT_NO_LOG] = "no log",
+    [DEOLMUTT_LOG_BAD_LINE] = "bad line",
+    [DEOLMUTT_LOG_BAD_NUMBER] = "bad number",
+    [DEOLMUTT_LOG_BAD_ESCAPE] = "bad escape",
+    [DEOLMUTT_LOG_BAD_PLACE] = "bad place",
+    [DEOLMUTT_LOG_BAD_NAME] = "bad name",
+    [DEOLMUTT_LOG_BAD_REPLY] = "bad reply",
+    [DEOLMUTT_LOG_BAD_CLAUSE] = "bad clause",
+    [DEOLMUTT_LOG_BAD_FLAGS] = "bad flags",
+    [DEOLMUTT_LOG_UNKNOWN_FOLDER] = "unknown folder",
+    [DEOLMUTT_LOG_SAME_FOLDER] = "same folder",
+    [DEOLMUTT_LOG_TOO_MANY_FOLDERS] = "too many folders",
+    [DEOLMUTT_LOG_SAME_PATH] = "same path",
+    [DEOLMUTT_LOG_NO_SUCH_PATH] = "no such path",
+    [DEOLMUTT_LOG_TOO_LATE] = "too late",
+    [DEOLMUTT_LOG_NO_ORDER] = "no order",
+    [DEOLMUTT_LOG_TOO_MANY_ORDERS] = "too many orders",
 };
 
 const char *deolmutt_strerror(int status) {

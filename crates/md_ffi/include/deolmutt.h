@@ -11,7 +11,7 @@
  * Out-parameters: what a function gives beside `out`, as *world, *job, *length, *line, *answer and *step. A call begins by making each that
  * is there null, 0 or, of a struct, all zero. So it is after every refusal, also those of the next paragraph, but where the function says
  * what the out-parameter is after one. Where the status is 0 each has what the function says. `out`, `answers` and the *at of deolmutt_next
- * are none: of these no byte is written but those that the function says.
+ * and deolmutt_next_finding are none: of these no byte is written but those that the function says.
  *
  * What is refused before anything else, in this order: a pointer that is null, but for those that may be, as DEOLMUTT_NULL; a length of
  * more than PTRDIFF_MAX as DEOLMUTT_LENGTH; and as DEOLMUTT_OVERLAP where what the call writes, `out`, `answers` or an out-parameter,
@@ -118,7 +118,43 @@ enum deolmutt_refusal {
     DEOLMUTT_READ_FAULT = 60,      /* no call gives it: scripts come whole */
     DEOLMUTT_WRITE_FAULT = 61,     /* no call gives it */
     DEOLMUTT_SCRIPT_TOO_LONG = 62, /* no call gives it */
-    DEOLMUTT_TOO_MANY_READS = 63   /* no call gives it */
+    DEOLMUTT_TOO_MANY_READS = 63,  /* no call gives it */
+
+    /* of the lines of a judge's log */
+    DEOLMUTT_NO_LOG = 70,               /* the first line is not the head of a log, or no line is there */
+    DEOLMUTT_LOG_BAD_LINE = 71,         /* a word is missing, empty, one too many, or names nothing that can stand there */
+    DEOLMUTT_LOG_BAD_NUMBER = 72,       /* a word that should be a number is none, or has more than 19 digits */
+    DEOLMUTT_LOG_BAD_ESCAPE = 73,       /* a backslash begins no escape */
+    DEOLMUTT_LOG_BAD_PLACE = 74,        /* a word that should be tmp, new or cur is none of these */
+    DEOLMUTT_LOG_BAD_NAME = 75,         /* no folder, file or message can have this name */
+    DEOLMUTT_LOG_BAD_REPLY = 76,        /* the call gives no such reply */
+    DEOLMUTT_LOG_BAD_CLAUSE = 77,       /* no clause has this name, or it is the one that is always judged */
+    DEOLMUTT_LOG_BAD_FLAGS = 78,        /* flags are other bytes than letters */
+    DEOLMUTT_LOG_UNKNOWN_FOLDER = 79,   /* no line before names the folder */
+    DEOLMUTT_LOG_SAME_FOLDER = 80,      /* a line before names the folder */
+    DEOLMUTT_LOG_TOO_MANY_FOLDERS = 81, /* 1,000 folders are there */
+    DEOLMUTT_LOG_SAME_PATH = 82,        /* a line before puts a file at the path */
+    DEOLMUTT_LOG_NO_SUCH_PATH = 83,     /* no line before puts a file at the path */
+    DEOLMUTT_LOG_TOO_LATE = 84,         /* a line of the beginning comes after a step */
+    DEOLMUTT_LOG_NO_ORDER = 85,         /* in no order of calls that overlap do directories give the replies */
+    DEOLMUTT_LOG_TOO_MANY_ORDERS = 86   /* so many orders were tried that no more are */
+};
+
+/* The clauses of the law that a log is judged by, in its order. */
+enum deolmutt_clause {
+    DEOLMUTT_CLAUSE_NOT_A_DIRECTORY = 1,
+    DEOLMUTT_CLAUSE_OVERWRITTEN = 2,
+    DEOLMUTT_CLAUSE_SEEN_BEFORE_WHOLE = 3,
+    DEOLMUTT_CLAUSE_MIXED = 4,
+    DEOLMUTT_CLAUSE_NOT_FLUSHED = 5,
+    DEOLMUTT_CLAUSE_TWO_NAMES = 6,
+    DEOLMUTT_CLAUSE_GONE = 7,
+    DEOLMUTT_CLAUSE_USED_AGAIN = 8,
+    DEOLMUTT_CLAUSE_MOVED_BACK = 9,
+    DEOLMUTT_CLAUSE_CLEANED_EARLY = 10,
+    DEOLMUTT_CLAUSE_UNLISTED = 11,
+    DEOLMUTT_CLAUSE_GAVE_UP = 12,
+    DEOLMUTT_CLAUSE_ANSWERED_FALSELY = 13
 };
 
 /* What a call asks. */
@@ -229,6 +265,13 @@ typedef struct deolmutt_row {
     uint64_t stamp;
     uint64_t size;
 } deolmutt_row;
+
+/* A step of a log that breaks a clause of the law: the number of its line, from 1, and enum deolmutt_clause. */
+typedef struct deolmutt_finding {
+    uint64_t line;
+    uint32_t clause;
+    uint32_t reserved;
+} deolmutt_finding;
 
 /* The version of this interface: DEOLMUTT_ABI of the header that the library was built with. It is another one where a call changes; a
    call that is added leaves it, and raises DEOLMUTT_MINOR. */
@@ -383,6 +426,21 @@ uint32_t deolmutt_transcript(const uint8_t *script, size_t length, uint8_t *out,
    with *line the number of the last one as DEOLMUTT_SAME_PATH, BAD_NAME, LONG_UNIQUE or DUPLICATE_UNIQUE. Refused also as
    DEOLMUTT_NO_MEMORY and ROOM (*out_length is said). */
 uint32_t deolmutt_index(const uint8_t *lines, size_t length, uint8_t *out, size_t room, size_t *out_length, uint64_t *line);
+
+/* The findings of a whole log, as `deolmutt judge` reads it (docs/JUDGE.md): which steps break which clauses of the law. `out` has for
+   each, little-endian, `u64 line, u32 clause, u32 0`, 16 bytes, in the order of the lines, and at one line in the order of the law: none
+   where the log keeps the law. Refused as the log's first wrong line is, DEOLMUTT_NO_LOG to LOG_TOO_MANY_ORDERS, with *line its number,
+   from 1. Refused also as DEOLMUTT_NO_MEMORY, and ROOM (*out_length is said). */
+uint32_t deolmutt_judge(const uint8_t *log, size_t length, uint8_t *out, size_t room, size_t *out_length, uint64_t *line);
+
+/* The finding at *at of such findings, from 0 on, and *at is the position after it. Refused, with *at as it was: DEOLMUTT_NOT_THERE at
+   their end; BAD_RECORD where there is no whole finding. */
+uint32_t deolmutt_next_finding(const uint8_t *findings, size_t length, size_t *at, deolmutt_finding *finding);
+
+/* The name of a clause, as a log's `allow` line has it, and why a step that breaks it is wrong, in a sentence of ASCII, each with a NUL at
+   its end: "no such clause" for a number that is none. They are the library's, and stay as they are. */
+const char *deolmutt_clause_name(uint32_t clause);
+const char *deolmutt_clause_text(uint32_t clause);
 
 /* A unique name as "Using maildir format" has it, SEC.MmicroPpidQcount.host. Refused: DEOLMUTT_BAD_MICRO, BAD_HOST, NO_MEMORY,
    ROOM (*length is said). */

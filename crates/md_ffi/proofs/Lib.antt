@@ -2,6 +2,7 @@ pub mod DrivenSlots
 pub mod Filed
 pub mod Laid
 pub mod Listed
+pub mod Packed
 pub mod Records
 pub mod Refused
 pub mod Slots

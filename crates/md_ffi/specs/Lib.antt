@@ -6,6 +6,7 @@ pub mod Doing
 pub mod Driving
 pub mod Files
 pub mod Handled
+pub mod Judging
 pub mod Keeping
 pub mod Laying
 pub mod Loads

@@ -5,6 +5,9 @@ use Rattle.md_name.specs.declared.error.NameError.{NameError}
 use Rattle.md_name.specs.declared.error.NameError.TheVariants as name
 use Rattle.md_jobs.specs.declared.error.CoreError.{CoreError}
 use Rattle.md_jobs.specs.declared.error.CoreError.TheVariants as core
+use Rattle.md_log.specs.Texts.{fault_text}
+use Rattle.md_log.specs.declared.error.LineFault.{LineFault}
+use Rattle.md_log.specs.declared.error.LineFault.TheVariants as fault
 use Rattle.md_script.specs.Refusals.{kind_text}
 use Rattle.md_script.specs.declared.error.PlayKind.{PlayKind}
 use Rattle.md_script.specs.declared.error.PlayKind.TheVariants as play
@@ -55,6 +58,27 @@ kind_number play.WriteFault = 61
 kind_number play.TooLong = 62
 kind_number play.TooManyReads = 63
 
+-- the number of why a line of a judge's log is refused
+abbrev pub fault_number : LineFault → ℕ
+fault_number fault.NoMemory = 4
+fault_number fault.NoLog = 70
+fault_number fault.BadLine = 71
+fault_number fault.BadNumber = 72
+fault_number fault.BadEscape = 73
+fault_number fault.BadPlace = 74
+fault_number fault.BadName = 75
+fault_number fault.BadReply = 76
+fault_number fault.BadClause = 77
+fault_number fault.BadFlags = 78
+fault_number fault.UnknownFolder = 79
+fault_number fault.SameFolder = 80
+fault_number fault.TooManyFolders = 81
+fault_number fault.SamePath = 82
+fault_number fault.NoSuchPath = 83
+fault_number fault.TooLate = 84
+fault_number fault.NoOrder = 85
+fault_number fault.TooManyOrders = 86
+
 -- the number of a refusal
 abbrev pub refusal_number : Refusal → ℕ
 refusal_number refusal.Null = 1
@@ -71,6 +95,7 @@ refusal_number refusal.NotAsked = 12
 refusal_number refusal.Asked = 13
 refusal_number refusal.BadReply = 14
 refusal_number (refusal.Kind kind) = kind_number kind
+refusal_number (refusal.Log fault) = fault_number fault
 
 -- what a refusal says
 abbrev pub refusal_text : Refusal → List ℕ
@@ -88,6 +113,7 @@ refusal_text refusal.NotAsked = codes "not asked"
 refusal_text refusal.Asked = codes "asked before"
 refusal_text refusal.BadReply = codes "bad reply"
 refusal_text (refusal.Kind kind) = kind_text kind
+refusal_text (refusal.Log fault) = fault_text fault
 
 -- the text of the refusal that has this number, and no byte where none has it
 abbrev pub IsTextOf : ℕ → List ℕ → Type 0

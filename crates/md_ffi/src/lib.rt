@@ -1,5 +1,5 @@
-//! The store for C: worlds behind handles, jobs whose directory calls C makes itself, scripts, indexes, names and header summaries.
-//! `include/deolmutt.h` has the interface.
+//! The store for C: worlds behind handles, jobs whose directory calls C makes itself, scripts, indexes, judged logs, names and header
+//! summaries. `include/deolmutt.h` has the interface.
 //!
 //! Each exported function here takes references, and the files of `face/` make them of C's pointers, which they test for null first.
 #![tactic(auto)]
@@ -16,6 +16,7 @@ mod handle;
 mod held;
 pub mod indexing;
 pub mod jobs;
+pub mod judging;
 pub mod keeping;
 pub mod load;
 mod loose;

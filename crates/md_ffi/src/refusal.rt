@@ -1,11 +1,12 @@
 //! Why a call is refused, and the number and the text of each refusal.
 ghost use Rattle.std.specs.Prelude.{◌≡◌, ◌≢◌, ◌≤◌, ◌<◌, ◌⊎◌, length, IfSome, IfNone};
-ghost use Rattle.md_ffi.specs.Numbers.{refusal_number, kind_number, core_number, name_number, refusal_text, status_number, IsTextOf};
+ghost use Rattle.md_ffi.specs.Numbers.{refusal_number, kind_number, core_number, name_number, fault_number, refusal_text, status_number, IsTextOf};
 ghost use Rattle.md_script.specs.declared.error.PlayKind.TheVariants.{NoMemory};
 ghost use Rattle.md_ffi.specs.declared.refusal.Refusal.{Refusal};
 ghost use Rattle.md_ffi.specs.declared.refusal.Refusal.TheVariants.{Kind};
 
 use md_core::CoreError;
+use md_log::LineFault;
 use md_name::NameError;
 use md_script::PlayKind;
 use std::alloc::{AllocError, AllocFailed};
@@ -41,6 +42,8 @@ pub enum Refusal {
     BadReply,
     /// What the store, a name or a line of a script is refused for.
     Kind(PlayKind),
+    /// What a line of a judge's log is refused for.
+    Log(LineFault),
 }
 
 /// Out of memory.
@@ -66,6 +69,7 @@ impl Refusal {
             Refusal::Asked => 13,
             Refusal::BadReply => 14,
             Refusal::Kind(kind) => kind_number(kind),
+            Refusal::Log(fault) => fault_number(fault),
         }
     }
 
@@ -89,6 +93,7 @@ impl Refusal {
             Refusal::Asked => "asked before",
             Refusal::BadReply => "bad reply",
             Refusal::Kind(kind) => kind.text(),
+            Refusal::Log(fault) => fault.text(),
         }
     }
 }
@@ -159,6 +164,31 @@ fn name_number(error: NameError) -> u32
     }
 }
 
+fn fault_number(fault: LineFault) -> u32
+    ensures { result ≡ fault_number fault }
+{
+    match fault {
+        LineFault::NoMemory => 4,
+        LineFault::NoLog => 70,
+        LineFault::BadLine => 71,
+        LineFault::BadNumber => 72,
+        LineFault::BadEscape => 73,
+        LineFault::BadPlace => 74,
+        LineFault::BadName => 75,
+        LineFault::BadReply => 76,
+        LineFault::BadClause => 77,
+        LineFault::BadFlags => 78,
+        LineFault::UnknownFolder => 79,
+        LineFault::SameFolder => 80,
+        LineFault::TooManyFolders => 81,
+        LineFault::SamePath => 82,
+        LineFault::NoSuchPath => 83,
+        LineFault::TooLate => 84,
+        LineFault::NoOrder => 85,
+        LineFault::TooManyOrders => 86,
+    }
+}
+
 /// What the refusal of a number says, and nothing where no refusal has it.
 pub(crate) fn text_of(number: u32) -> &'static str
     ensures text { IsTextOf number result.now }
@@ -194,6 +224,7 @@ fn refusal_of(number: u32) -> Option<Refusal>
         40 => Some(Refusal::Kind(PlayKind::Name(NameError::BadHost))),
         41 => Some(Refusal::Kind(PlayKind::Name(NameError::BadMicro))),
         42 => Some(Refusal::Kind(PlayKind::Name(NameError::BadFlag))),
+        70..=86 => fault_of(number),
         _ => kind_of(number),
     }
 }
@@ -239,6 +270,32 @@ fn kind_of(number: u32) -> Option<Refusal>
         61 => PlayKind::WriteFault,
         62 => PlayKind::TooLong,
         63 => PlayKind::TooManyReads,
+        _ => return None,
+    }))
+}
+
+fn fault_of(number: u32) -> Option<Refusal>
+    ensures some { IfSome result (λ refusal. refusal_number refusal ≡ number) }
+    ensures none { IfNone result ((number < 70) ⊎ (86 < number)) }
+{
+    Some(Refusal::Log(match number {
+        70 => LineFault::NoLog,
+        71 => LineFault::BadLine,
+        72 => LineFault::BadNumber,
+        73 => LineFault::BadEscape,
+        74 => LineFault::BadPlace,
+        75 => LineFault::BadName,
+        76 => LineFault::BadReply,
+        77 => LineFault::BadClause,
+        78 => LineFault::BadFlags,
+        79 => LineFault::UnknownFolder,
+        80 => LineFault::SameFolder,
+        81 => LineFault::TooManyFolders,
+        82 => LineFault::SamePath,
+        83 => LineFault::NoSuchPath,
+        84 => LineFault::TooLate,
+        85 => LineFault::NoOrder,
+        86 => LineFault::TooManyOrders,
         _ => return None,
     }))
 }

@@ -133,6 +133,16 @@ extern "C" {
         out_length: *mut usize,
         line: *mut u64,
     ) -> u32;
+    pub fn deolmutt_judge(
+        log: *const u8,
+        length: usize,
+        out: *mut u8,
+        room: usize,
+        out_length: *mut usize,
+        line: *mut u64,
+    ) -> u32;
+    pub fn deolmutt_clause_name(clause: u32) -> *const u8;
+    pub fn deolmutt_clause_text(clause: u32) -> *const u8;
     pub fn deolmutt_unique(
         second: u64,
         microsecond: u64,

@@ -86,7 +86,7 @@ impl fmt::Debug for Refusal {
 
 impl Error for Refusal {}
 
-/// Why lines were refused: of a load, a script or an index.
+/// Why lines were refused: of a load, a script, an index or a log.
 ///
 /// ```
 /// use deolmutt::{Refusal, World};

@@ -29,7 +29,7 @@ pub fn index(lines: &[u8]) -> Result<Vec<u8>, LineError> {
 
 type Function = unsafe extern "C" fn(*const u8, usize, *mut u8, usize, *mut usize, *mut u64) -> u32;
 
-fn run(lines: &[u8], function: Function) -> Result<Vec<u8>, LineError> {
+pub(crate) fn run(lines: &[u8], function: Function) -> Result<Vec<u8>, LineError> {
     let mut line = 0;
     // The lines are read as far as they go, and the buffer's room is told.
     let (checked, printed) =

@@ -4,6 +4,7 @@
 #include "each.h"
 #include "files.h"
 #include "folders.h"
+#include "judging.h"
 #include "listings.h"
 #include "passed.h"
 #include "worlds.h"
@@ -13,7 +14,8 @@
 
 static void test_texts(void) {
     static const uint32_t numbers[] = {1,  2,  3,  4,  5,  6,  7,  8,  9,  10, 11, 12, 13, 14, 15, 16, 20, 21, 22, 23, 24, 25, 26, 27, 28,
-                                       29, 30, 31, 32, 40, 41, 42, 50, 51, 52, 53, 54, 55, 56, 57, 58, 59, 60, 61, 62, 63};
+                                       29, 30, 31, 32, 40, 41, 42, 50, 51, 52, 53, 54, 55, 56, 57, 58, 59, 60, 61, 62, 63,
+                                       70, 71, 72, 73, 74, 75, 76, 77, 78, 79, 80, 81, 82, 83, 84, 85, 86};
     uint8_t text[64];
     uint32_t number, at = 0;
     CHECK(deolmutt_abi() == DEOLMUTT_ABI && deolmutt_minor() == DEOLMUTT_MINOR);
@@ -609,6 +611,7 @@ int main(void) {
     test_folders();
     test_listings();
     test_each();
+    test_judging();
     test_files();
     printf("%lu checks\n", checked);
     return 0;

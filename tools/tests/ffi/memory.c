@@ -34,6 +34,9 @@ static void must(int is_so, const char *what) {
 
 static const char lines[] = "folder a\nfile a cur old:2,S 5 body\n";
 
+/* A log with one finding. */
+static const char moved_back[] = "maildir_log 1\nfolder i\nfile i/cur/u:2,S 5\n9 a list i cur ok u:2,S\n9 a rename i/cur/u:2,S i/new/u ok\n";
+
 static deolmutt_world *loaded(void) {
     deolmutt_world *world = NULL;
     uint64_t line = 0;
@@ -200,6 +203,9 @@ static int call_without(long at) {
     WITHOUT(deolmutt_transcript((const uint8_t *)"folder i\njob deliver i u 1 x\nfinish 1 1\nlist i\n", 47, out, sizeof out, &length, &line));
     WITHOUT(deolmutt_index((const uint8_t *)lines, sizeof lines - 1, out, sizeof out, &length, &line));
     must(line == 0 && (length != 0) == (status == DEOLMUTT_OK), "an index or none");
+    line = 9;
+    WITHOUT(deolmutt_judge((const uint8_t *)moved_back, sizeof moved_back - 1, out, sizeof out, &length, &line));
+    must(line == 0 && length == (status == DEOLMUTT_OK ? 16 : 0), "a finding or none");
     WITHOUT(deolmutt_free(world));
     return was_met;
 }
