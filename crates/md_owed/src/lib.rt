@@ -13,8 +13,6 @@ mod messages;
 mod paths;
 mod session;
 mod table;
-#[cfg(test)]
-mod tests;
 mod watch;
 
 pub use clause::{OWED, OwedClause};
