@@ -110,7 +110,7 @@ _MAYBE = {
 }
 
 # Those of them that give a text, which is the library's.
-_TEXTS = {
+_TEXTS: dict[str, tuple[Any, ...]] = {
     "deolmutt_clause_name": (_U32,),
     "deolmutt_clause_text": (_U32,),
     "deolmutt_strerror": (ctypes.c_int,),
