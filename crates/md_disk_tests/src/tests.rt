@@ -1,19 +1,23 @@
 //! Jobs that `md_disk` runs, in memory and on real maildirs: what a proof can't see is that they succeed where memory is there, and that what
-//! the system replies is what the machines take it for. Each scene is played twice, of which one refused allocation ends one at most.
+//! the system replies is what the machines take it for. A scene is a table of steps, so that the proof knows the few functions that take one.
+//! Each scene is played twice, of which one refused allocation ends one at most.
+mod act;
+mod beside;
 mod causes;
 mod checks;
 mod counting;
 mod faults;
 mod hints;
 mod jobs;
+mod keeping;
 mod messages;
 mod readings;
 mod real;
 mod scene;
+mod step;
 
-use md_dirs::{Bytes, Place};
-use md_disk::{Logged, System};
-use md_jobs::{Answer, CoreError, Purpose};
+use md_dirs::Bytes;
+use md_jobs::CoreError;
 use md_name::Flags;
 use std::alloc::{AllocError, Global};
 use std::process::Abort;
@@ -21,43 +25,23 @@ use std::process::Abort;
 // What is delivered.
 const BODY: &[u8] = b"hello\n";
 
-fn copied(alloc: Global, bytes: &[u8]) -> Result<Bytes, AllocError> {
-    Bytes::copied(alloc, bytes)
-}
+// A name that is no text is written so.
+const HIGH: &str = "HIGH";
 
-fn flags(letters: &[u8]) -> Flags {
-    Flags::parse(letters).unwrap_or(Flags::empty())
-}
-
-// Delivers the message u into the first folder.
-fn delivered<S: System>(alloc: Global, system: &mut Logged<S>) -> Result<Answer, CoreError> {
-    let (unique, body) = (copied(alloc, b"u")?, copied(alloc, BODY)?);
-    md_disk::deliver(alloc, system, 0, unique, body, 4)
-}
-
-// Runs an errand on the message u of a folder, of which one try is made.
-fn ran<S: System>(
-    alloc: Global,
-    system: &mut Logged<S>,
-    folder: u32,
-    purpose: Purpose,
-) -> Result<Answer, CoreError> {
-    md_disk::run_errand(alloc, system, folder, copied(alloc, b"u")?, purpose, 1)
-}
-
-// Whether a directory shows a message under this whole name, or not at all where that is empty.
-fn has_name<S: System>(
-    alloc: Global,
-    system: &mut Logged<S>,
-    (folder, place): (u32, Place),
-    unique: &[u8],
-    name: &[u8],
-) -> Result<bool, CoreError> {
-    let purpose = Purpose::Move { to: folder };
-    match system.system.look(alloc, folder, place, unique, &purpose)? {
-        (_, Some(row)) => Ok(row.name.as_slice() == name),
-        (_, None) => Ok(name.is_empty()),
+fn name_of(text: &str) -> &[u8] {
+    if text == HIGH {
+        b"\xff"
+    } else {
+        text.as_bytes()
     }
+}
+
+fn copied(alloc: Global, text: &str) -> Result<Bytes, AllocError> {
+    Bytes::copied(alloc, name_of(text))
+}
+
+fn flags(letters: &str) -> Flags {
+    Flags::parse(letters.as_bytes()).unwrap_or(Flags::empty())
 }
 
 // Both were right, or memory was wanting for one of them.

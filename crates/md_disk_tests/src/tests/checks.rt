@@ -1,31 +1,22 @@
 //! What a check finds in two maildirs.
-use super::are_right;
-use super::scene::{fresh_path, make_boxes, put, within};
+use super::beside::Beside::{Make, Put};
+use super::scene::play;
+use super::step::Look::{Flaws, NoFlaws};
+use super::step::Step;
+use super::step::Step::{Beside, Look};
 use md_dirs::Place;
 use md_dirs::Place::{Cur, New};
-use md_disk::{Flaw, FlawKind, check_folders};
+use md_disk::{Disk, Flaw, FlawKind, check_folders};
 use md_jobs::{CoreError, DirReply};
 use std::alloc::Global;
 use std::fs::Files;
 use std::time::Clock;
 
-// What is put into the maildirs, besides a directory.
-const FILES: [&str; 11] = [
-    "inbox/cur/a:2,FS",
-    "inbox/cur/b",
-    "inbox/cur/c:2,SF",
-    "inbox/cur/e:1,x",
-    "inbox/cur/.d",
-    "inbox/new/f",
-    "inbox/new/g:2,S",
-    "inbox/new/h",
-    "inbox/cur/h:2,",
-    "inbox/tmp/i",
-    "other/cur/f:2,",
-];
+/// A flaw by its folder, place, name and kind.
+pub(super) type Found = (u32, Place, &'static str, FlawKind);
 
-// What is found.
-const FOUND: [(u32, Place, &str, FlawKind); 9] = [
+/// What is found.
+pub(super) static FOUND: [Found; 9] = [
     (0, New, "f", FlawKind::InOtherFolders),
     (0, New, "g:2,S", FlawKind::InfoInNew),
     (0, New, "h", FlawKind::TwiceInFolder),
@@ -37,48 +28,49 @@ const FOUND: [(u32, Place, &str, FlawKind); 9] = [
     (1, Cur, "f:2,", FlawKind::InOtherFolders),
 ];
 
-fn is_found(flaw: &Flaw, found: &(u32, Place, &str, FlawKind)) -> bool {
+// Nothing, and then what is put into the maildirs, besides a directory.
+static FLAWS: [Step; 14] = [
+    Look(NoFlaws),
+    Beside(Put("inbox/cur/a:2,FS")),
+    Beside(Put("inbox/cur/b")),
+    Beside(Put("inbox/cur/c:2,SF")),
+    Beside(Put("inbox/cur/e:1,x")),
+    Beside(Put("inbox/cur/.d")),
+    Beside(Put("inbox/new/f")),
+    Beside(Put("inbox/new/g:2,S")),
+    Beside(Put("inbox/new/h")),
+    Beside(Put("inbox/cur/h:2,")),
+    Beside(Put("inbox/tmp/i")),
+    Beside(Put("other/cur/f:2,")),
+    Beside(Make("inbox/cur/j:2,")),
+    Look(Flaws),
+];
+
+fn is_found(flaw: &Flaw, found: &Found) -> bool {
     flaw.folder == found.0
         && flaw.place == found.1
         && flaw.name.as_slice() == found.2.as_bytes()
         && flaw.kind == found.3
 }
 
-fn are_found(flaws: &[Flaw]) -> bool {
-    flaws.len() == FOUND.len()
-        && flaws
-            .iter()
-            .zip(FOUND.iter())
-            .all(|(flaw, found)| is_found(flaw, found))
-}
-
-fn plays_in<R: Files + Clock>(alloc: Global, rt: &R, root: &str) -> Result<bool, CoreError> {
-    let disk = make_boxes(alloc, rt, root)?;
-    let (empty, none) = check_folders(alloc, &disk)?;
-    for name in FILES {
-        put(alloc, rt, root, name)?;
-    }
-    let directory = within(alloc, root, "inbox/cur/j:2,")?;
-    let is_made = rt.create_dir(directory.as_str()).is_ok();
-    let (reply, flaws) = check_folders(alloc, &disk)?;
+/// Whether a check finds this, in this order, and nothing else.
+pub(super) fn are_found<R: Files + Clock>(
+    alloc: Global,
+    disk: &Disk<'_, R>,
+    wanted: &[Found],
+) -> Result<bool, CoreError> {
+    let (reply, flaws) = check_folders(alloc, disk)?;
     Ok(
-        empty == DirReply::Ok
-            && none.is_empty()
-            && is_made
-            && reply == DirReply::Ok
-            && are_found(flaws.as_slice()),
+        reply == DirReply::Ok
+            && flaws.len() == wanted.len()
+            && flaws
+                .iter()
+                .zip(wanted.iter())
+                .all(|(flaw, found)| is_found(flaw, found)),
     )
-}
-
-fn plays<R: Files + Clock>(alloc: Global, rt: &R) -> Result<bool, CoreError> {
-    let root = fresh_path(alloc, rt)?;
-    let played = plays_in(alloc, rt, root.as_str());
-    let _gone = rt.remove_dir_all(alloc, root.as_str());
-    played
 }
 
 #[test]
 fn a_check_finds_flaws(rt: HostRuntime) {
-    let alloc = rt.alloc();
-    are_right(&rt, plays(alloc, &rt), plays(alloc, &rt));
+    play(&rt, rt.alloc(), false, &FLAWS);
 }

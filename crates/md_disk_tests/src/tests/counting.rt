@@ -24,9 +24,11 @@ impl<'a, R: Files + Clock> Counting<'a, R> {
         }
     }
 
-    /// How many directories were opened to be read.
-    pub(super) fn readings(&self) -> u64 {
-        self.readings.get()
+    /// How many directories were opened to be read, since this was asked last.
+    pub(super) fn take_readings(&self) -> u64 {
+        let readings = self.readings.get();
+        self.readings.set(0);
+        readings
     }
 }
 

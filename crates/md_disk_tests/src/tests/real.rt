@@ -1,7 +1,11 @@
 //! Two maildirs on a disk.
-use super::jobs::plays;
-use super::scene::{fresh_path, make_boxes};
-use super::{BODY, are_right, copied};
+use super::BODY;
+use super::keeping::Kept::{Because, Flushed};
+use super::scene::play;
+use super::step::Look::{Listed, NoFolder};
+use super::step::Step;
+use super::step::Step::{AllJobs, Keep, Look};
+use md_dirs::Bytes;
 use md_dirs::Place::{Cur, New};
 use md_disk::{Cause, Disk, Namer, System, deliver, list_folder};
 use md_jobs::{Answer, CoreError, DirReply, Purpose};
@@ -9,64 +13,73 @@ use std::alloc::Global;
 use std::fs::Files;
 use std::time::Clock;
 
-// A message that is delivered under a name of the namer is listed whole, and once.
-fn is_listed<R: Files + Clock>(
+static REAL: [Step; 5] = [
+    AllJobs,
+    Look(Listed),
+    Look(NoFolder(7)),
+    Keep(Because(Cause::NoSuchFolder)),
+    Keep(Flushed),
+];
+
+fn fresh_name<R: Clock>(alloc: Global, clock: &R) -> Result<Bytes, CoreError> {
+    let host = Vec::from_slice(alloc, b"host")?;
+    match Namer::new(1, host).name(alloc, clock) {
+        Ok(name) => Ok(name),
+        Err(_) => Err(CoreError::NoMemory),
+    }
+}
+
+// What a delivery of a name into the second folder is answered.
+fn delivered<R: Files + Clock>(
     alloc: Global,
-    rt: &R,
     disk: &mut Disk<'_, R>,
+    name: &Bytes,
+) -> Result<Answer, CoreError> {
+    let unique = name.again(alloc)?;
+    deliver(alloc, disk, 1, unique, Bytes::copied(alloc, BODY)?, 4)
+}
+
+// The second folder has this message in new, and no other.
+fn is_alone<R: Files + Clock>(
+    alloc: Global,
+    disk: &Disk<'_, R>,
+    name: &Bytes,
 ) -> Result<bool, CoreError> {
-    let Ok(unique) = Namer::new(1, Vec::from_slice(alloc, b"host")?).name(alloc, rt) else {
-        return Err(CoreError::NoMemory);
-    };
-    let again = copied(alloc, unique.as_slice())?;
-    let third = copied(alloc, unique.as_slice())?;
-    let is_delivered = deliver(alloc, disk, 1, unique, copied(alloc, BODY)?, 4)?
-        == Answer::Delivered;
-    let is_taken = deliver(alloc, disk, 1, again, copied(alloc, BODY)?, 4)? == Answer::NameTaken;
     let (reply, listed) = list_folder(alloc, disk, 1)?;
     Ok(
-        is_delivered
-            && is_taken
-            && reply == DirReply::Ok
+        reply == DirReply::Ok
             && listed.len() == 1
             && listed.iter().all(|entry| entry.place == New
-                && entry.name.as_slice() == third.as_slice()),
+                && entry.name.as_slice() == name.as_slice()),
     )
 }
 
-// A folder that is not there, and one that is no maildir.
-fn is_refused<R: Files + Clock>(alloc: Global, disk: &mut Disk<'_, R>) -> Result<bool, CoreError> {
-    let purpose = Purpose::Expunge;
-    let (none, _) = list_folder(alloc, disk, 7)?;
-    let (found, row) = disk.system.look(alloc, 7, Cur, b"u", &purpose)?;
-    Ok(
-        none == DirReply::Fault
-            && found == DirReply::Fault
-            && row.is_none()
-            && disk.cause() == Some(Cause::NoSuchFolder),
-    )
+/// A message that is delivered under a name of the namer is listed whole, and once.
+pub(super) fn is_listed<R: Files + Clock>(
+    alloc: Global,
+    clock: &R,
+    disk: &mut Disk<'_, R>,
+) -> Result<bool, CoreError> {
+    let name = fresh_name(alloc, clock)?;
+    let first = delivered(alloc, disk, &name)?;
+    let second = delivered(alloc, disk, &name)?;
+    Ok(first == Answer::Delivered && second == Answer::NameTaken && is_alone(alloc, disk, &name)?)
 }
 
-fn plays_in<R: Files + Clock>(alloc: Global, rt: &R, root: &str) -> Result<bool, CoreError> {
-    let mut disk = make_boxes(alloc, rt, root)?;
-    Ok(
-        plays(alloc, &mut disk)?
-            && is_listed(alloc, rt, &mut disk)?
-            && is_refused(alloc, &mut disk)?
-            && !disk.is_unflushed(),
-    )
-}
-
-// Plays on new maildirs, which go afterwards.
-fn plays_on_disk<R: Files + Clock>(alloc: Global, rt: &R) -> Result<bool, CoreError> {
-    let root = fresh_path(alloc, rt)?;
-    let played = plays_in(alloc, rt, root.as_str());
-    let _gone = rt.remove_dir_all(alloc, root.as_str());
-    played
+/// A folder that is not there is neither listed nor looked into.
+pub(super) fn is_no_folder<R: Files + Clock>(
+    alloc: Global,
+    disk: &mut Disk<'_, R>,
+    folder: u32,
+) -> Result<bool, CoreError> {
+    let (none, _) = list_folder(alloc, disk, folder)?;
+    let (found, row) = disk
+        .system
+        .look(alloc, folder, Cur, b"u", &Purpose::Expunge)?;
+    Ok(none == DirReply::Fault && found == DirReply::Fault && row.is_none())
 }
 
 #[test]
 fn all_jobs_on_a_disk(rt: HostRuntime) {
-    let alloc = rt.alloc();
-    are_right(&rt, plays_on_disk(alloc, &rt), plays_on_disk(alloc, &rt));
+    play(&rt, rt.alloc(), false, &REAL);
 }

@@ -1,11 +1,21 @@
-//! Maildirs on a disk for a scene.
-use super::BODY;
+//! Two maildirs on a disk for a scene.
+use super::are_right;
+use super::counting::Counting;
+use super::step::{Step, are_taken};
 use md_disk::{Disk, Folders, Namer, make_maildir};
 use md_jobs::CoreError;
 use std::alloc::Global;
-use std::fs::{Files, OpenOptions};
-use std::io::Write;
+use std::fs::Files;
+use std::process::Abort;
 use std::time::Clock;
+
+/// Where a scene is played: on a host, whose readings are counted, in a folder.
+#[derive(Drop)]
+pub(super) struct Stage<'h, 'r, R: Files + Clock> {
+    pub(super) alloc: Global,
+    pub(super) host: &'h Counting<'r, R>,
+    pub(super) root: &'h str,
+}
 
 /// The path of something in a folder.
 pub(super) fn within(alloc: Global, folder: &str, name: &str) -> Result<String, CoreError> {
@@ -15,8 +25,8 @@ pub(super) fn within(alloc: Global, folder: &str, name: &str) -> Result<String, 
     Ok(path)
 }
 
-/// A path that is not there yet, in the folder for temporary files.
-pub(super) fn fresh_path<R: Clock>(alloc: Global, clock: &R) -> Result<String, CoreError> {
+// A path that is not there yet, in the folder for temporary files.
+fn fresh_path<R: Clock>(alloc: Global, clock: &R) -> Result<String, CoreError> {
     let Ok(name) = Namer::new(1, Vec::from_slice(alloc, b"deolmutt-test")?).name(alloc, clock)
     else {
         return Err(CoreError::NoMemory);
@@ -28,45 +38,56 @@ pub(super) fn fresh_path<R: Clock>(alloc: Global, clock: &R) -> Result<String, C
     )
 }
 
-/// Makes the maildirs inbox and other in a folder that is made for them, numbered so.
-pub(super) fn make_boxes<'r, R: Files + Clock>(
+// Makes the maildirs inbox and other in a folder that is made for them, numbered so.
+fn make_boxes<R: Files + Clock>(
     alloc: Global,
-    rt: &'r R,
+    files: &R,
     root: &str,
-) -> Result<Disk<'r, R>, CoreError> {
+) -> Result<Folders, CoreError> {
     let mut folders = Folders::new(Vec::new(alloc));
-    let _made = rt.create_dir(root);
+    let _made = files.create_dir(root);
     for name in ["inbox", "other"] {
         let path = within(alloc, root, name)?;
-        let _made = make_maildir(alloc, rt, path.as_str());
+        let _made = make_maildir(alloc, files, path.as_str());
         folders.add(path)?;
     }
-    Ok(Disk::new(rt, folders, true))
+    Ok(folders)
 }
 
-/// Makes a file at a path in a folder.
-pub(super) fn put<R: Files>(
-    alloc: Global,
-    files: &R,
-    root: &str,
-    name: &str,
-) -> Result<bool, CoreError> {
-    let path = within(alloc, root, name)?;
-    let mut how = OpenOptions::new();
-    how.write(true).create_new(true);
-    match files.open_file(&how, path.as_str()) {
-        Ok(mut file) => Ok(file.write_all(BODY).is_ok()),
-        Err(_) => Ok(false),
-    }
+fn plays_in<R: Files + Clock>(stage: &Stage<'_, '_, R>, steps: &[Step]) -> Result<bool, CoreError> {
+    let folders = make_boxes(stage.alloc, stage.host, stage.root)?;
+    let mut disk = Disk::new(stage.host, folders, true);
+    are_taken(stage, &mut disk, steps)
 }
 
-/// Whether a path in a folder is there.
-pub(super) fn holds<R: Files>(
+fn plays<R: Files + Clock>(
     alloc: Global,
-    files: &R,
-    root: &str,
-    name: &str,
+    rt: &R,
+    is_early: bool,
+    steps: &[Step],
 ) -> Result<bool, CoreError> {
-    let path = within(alloc, root, name)?;
-    Ok(files.symlink_metadata(path.as_str()).is_ok())
+    let root = fresh_path(alloc, rt)?;
+    let host = Counting::new(rt, is_early);
+    let stage = Stage {
+        alloc,
+        host: &host,
+        root: root.as_str(),
+    };
+    let played = plays_in(&stage, steps);
+    let _gone = rt.remove_dir_all(alloc, root.as_str());
+    played
+}
+
+/// Plays the steps of a scene twice, each time on new maildirs, which go afterwards.
+pub(super) fn play<R: Files + Clock + Abort>(
+    rt: &R,
+    alloc: Global,
+    is_early: bool,
+    steps: &[Step],
+) {
+    are_right(
+        rt,
+        plays(alloc, rt, is_early, steps),
+        plays(alloc, rt, is_early, steps),
+    );
 }

@@ -1,0 +1,93 @@
+//! The steps of a scene on a disk.
+use super::act::{Job, Wanted, are_done, is_answered};
+use super::beside::{Beside, is_so};
+use super::checks::{FOUND, are_found};
+use super::counting::Counting;
+use super::jobs::JOBS;
+use super::keeping::{Kept, is_kept};
+use super::messages::{is_read, is_told, is_unread};
+use super::readings::{are_flagged, are_many};
+use super::real::{is_listed, is_no_folder};
+use super::scene::Stage;
+use md_disk::Disk;
+use md_jobs::{CoreError, DirReply};
+use std::fs::Files;
+use std::time::Clock;
+
+#[derive(Clone, Copy)]
+pub(super) enum Step {
+    /// A job with the answer that is wanted.
+    Job(Job, Wanted),
+    /// A message goes through all jobs.
+    AllJobs,
+    Beside(Beside),
+    Keep(Kept),
+    Look(Look),
+}
+
+/// What the library shows beside jobs.
+#[derive(Clone, Copy)]
+pub(super) enum Look {
+    /// The message of a unique name is read whole.
+    Shown(&'static str),
+    /// It is not opened, with this reply.
+    Unread(&'static str, DirReply),
+    /// What is told of the first message of a listing.
+    Told,
+    /// A check of both maildirs finds nothing, or what was put there for it.
+    NoFlaws,
+    Flaws,
+    /// A message that is delivered under a name of the namer is listed.
+    Listed,
+    /// A folder is not there.
+    NoFolder(u32),
+    /// Many messages are put into cur, and then each is flagged.
+    Many,
+    ManyFlagged,
+}
+
+fn is_seen<'h, 'r, R: Files + Clock>(
+    stage: &Stage<'h, 'r, R>,
+    disk: &mut Disk<'h, Counting<'r, R>>,
+    look: Look,
+) -> Result<bool, CoreError> {
+    match look {
+        Look::Shown(unique) => is_read(stage.alloc, disk, unique),
+        Look::Unread(unique, reply) => is_unread(stage.alloc, disk, unique, reply),
+        Look::Told => is_told(stage.alloc, disk),
+        Look::NoFlaws => are_found(stage.alloc, disk, &[]),
+        Look::Flaws => are_found(stage.alloc, disk, &FOUND),
+        Look::Listed => is_listed(stage.alloc, stage.host, disk),
+        Look::NoFolder(folder) => is_no_folder(stage.alloc, disk, folder),
+        Look::Many => are_many(stage),
+        Look::ManyFlagged => are_flagged(stage, disk),
+    }
+}
+
+fn is_taken<'h, 'r, R: Files + Clock>(
+    stage: &Stage<'h, 'r, R>,
+    disk: &mut Disk<'h, Counting<'r, R>>,
+    step: Step,
+) -> Result<bool, CoreError> {
+    match step {
+        Step::Job(job, wanted) => is_answered(stage.alloc, disk, job, wanted),
+        Step::AllJobs => are_done(stage.alloc, disk, &JOBS),
+        Step::Beside(beside) => is_so(stage, beside),
+        Step::Keep(kept) => is_kept(stage, disk, kept),
+        Step::Look(look) => is_seen(stage, disk, look),
+    }
+}
+
+/// Whether all steps come to what is wanted, in their order.
+pub(super) fn are_taken<'h, 'r, R: Files + Clock>(
+    stage: &Stage<'h, 'r, R>,
+    disk: &mut Disk<'h, Counting<'r, R>>,
+    steps: &[Step],
+) -> Result<bool, CoreError> {
+    for step in steps {
+        if !is_taken(stage, disk, *step)? {
+            return Ok(false);
+        }
+    }
+    Ok(true)
+}
