@@ -3,12 +3,15 @@
 from __future__ import annotations
 
 import re
+from functools import lru_cache
 from typing import List, NamedTuple, Optional
 
-_DESCRIPTOR = re.compile(r"(-?\d+|AT_FDCWD)(?:<((?:\\x[0-9a-f]{2})*)>(\(deleted\))?)?")
-_STRING = re.compile(r'"((?:\\x[0-9a-f]{2})*)"(?:\.\.\.)?')
+_DESCRIPTOR = re.compile(r"(-?\d+|AT_FDCWD)(?:<([^>]*)>(\(deleted\))?)?")
+_STRING = re.compile(r'"([^"]*)"(?:\.\.\.)?')
 _SHOWN = re.compile(r'd_name="((?:\\x[0-9a-f]{2})*)"')
 _OPENS, _MARK = frozenset("[{("), re.compile(r"[\[\]{}(),]")
+# A program names a file in several calls, one soon after the other: so many words are kept as they were read.
+_MOST_KEPT = 1024
 
 
 class Descriptor(NamedTuple):
@@ -21,7 +24,7 @@ class Descriptor(NamedTuple):
 
 def split(text: str) -> List[str]:
     """The arguments of a call."""
-    if _OPENS.isdisjoint(text):
+    if "(" not in text and "[" not in text and "{" not in text:
         return text.split(", ") if text else []
     parts, depth, begin = [], 0, 0
     for mark in _MARK.finditer(text):
@@ -36,28 +39,35 @@ def split(text: str) -> List[str]:
     return parts + [last] if last else parts
 
 
+@lru_cache(_MOST_KEPT)
 def read_descriptor(text: str) -> Optional[Descriptor]:
     """An open file, or the working directory."""
     found = _DESCRIPTOR.fullmatch(text)
-    if found is None:
+    path = None if found is None or found[2] is None else _bytes(found[2])
+    if found is None or path is None and found[2] is not None:
         return None
-    path = None if found[2] is None else _bytes(found[2])
     return Descriptor(None if found[1] == "AT_FDCWD" else int(found[1]), path, found[3] is not None)
 
 
+@lru_cache(_MOST_KEPT)
 def read_string(text: str) -> Optional[bytes]:
     """A string; None for NULL or an address that couldn't be read."""
-    if text[:1] != '"':
-        return None
     found = _STRING.fullmatch(text)
     return None if found is None else _bytes(found[1])
 
 
 def shown_names(text: str) -> List[bytes]:
     """The names of a reading of a directory, without the directory itself and the one above it."""
-    names = [_bytes(digits) for digits in _SHOWN.findall(text)]
+    names = [bytes.fromhex(digits.replace("\\x", "")) for digits in _SHOWN.findall(text)]
     return [name for name in names if name not in (b".", b"..")]
 
 
-def _bytes(digits: str) -> bytes:
-    return bytes.fromhex(digits.replace("\\x", ""))
+def _bytes(text: str) -> Optional[bytes]:
+    """The bytes of a text of hexadecimal digits, None of any other one."""
+    digits = text.replace("\\x", "")
+    if 2 * len(digits) != len(text):
+        return None
+    try:
+        return bytes.fromhex(digits)
+    except ValueError:
+        return None

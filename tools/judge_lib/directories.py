@@ -2,7 +2,8 @@
 
 from __future__ import annotations
 
-from typing import Any, Callable, Dict, Iterable, List, NamedTuple, Optional, Set, Tuple
+from collections import defaultdict
+from typing import Any, Callable, DefaultDict, Dict, Iterable, List, NamedTuple, Optional, Set, Tuple
 
 from .folders import File, Place
 from .names import Path
@@ -36,7 +37,7 @@ class Directories:
         self.readings: Dict[Tuple[str, Place], Reading] = {}
         self.unflushed: Dict[int, str] = {}
         self._paths: Dict[int, Dict[Path, None]] = {}
-        self._in: Dict[Tuple[bytes, str], Set[bytes]] = {}
+        self._in: DefaultDict[Tuple[bytes, str], Set[bytes]] = defaultdict(set)
         # Of files that were there at the beginning, which may be open since then: the last one of each path.
         self._former: Dict[Path, List[int]] = {}
         self._files = 0
@@ -81,9 +82,11 @@ class Directories:
 
     def put(self, path: Path, file: int) -> None:
         """Has a path name a file, and no other any more."""
-        if self.names.get(path) == file:
+        former = self.names.get(path)
+        if former == file:
             return
-        self.take(path)
+        if former is not None:
+            self.take(path)
         self._name(path, file)
         self._tell(path, True)
         self._undo.append(lambda: self._forget(path, file))
@@ -150,7 +153,7 @@ class Directories:
 
     def _tell(self, path: Path, is_there: bool) -> None:
         self.changes.append(Change(len(self.told), path, is_there))
-        for (_, place), reading in self.readings.items():
+        for (_, place), reading in self.readings.items() if self.readings else ():
             if path[:2] == place:
                 self._tell_reading(reading, path.name, is_there)
 
@@ -164,15 +167,20 @@ class Directories:
 
     def _name(self, path: Path, file: int) -> None:
         self.names[path] = file
-        self._paths.setdefault(file, {})[path] = None
-        self._in.setdefault(path[:2], set()).add(path.name)
+        paths = self._paths.get(file)
+        if paths is None:
+            self._paths[file] = {path: None}
+        else:
+            paths[path] = None
+        self._in[path.folder, path.place].add(path.name)
 
     def _unname(self, path: Path, file: int) -> None:
         del self.names[path]
-        del self._paths[file][path]
-        if not self._paths[file]:
+        paths = self._paths[file]
+        del paths[path]
+        if not paths:
             del self._paths[file]
-        self._in[path[:2]].discard(path.name)
+        self._in[path.folder, path.place].discard(path.name)
 
     def _forget(self, path: Path, file: int) -> None:
         self._unname(path, file)

@@ -3,12 +3,16 @@
 from __future__ import annotations
 
 import os
-from typing import Callable, Dict, Iterable, List, NamedTuple, Optional, Set, Tuple, Union
+from functools import lru_cache
+from typing import Callable, Dict, Iterable, Iterator, List, NamedTuple, Optional, Set, Tuple, Union
 
 from .names import PLACES, Path
 from .refused import Refused
 
 _MOST_DEEP = 2
+# So many paths are kept as they were resolved.
+_MOST_KEPT = 4096
+_NO_NAMES = (b"", b".", b"..")
 
 
 class Place(NamedTuple):
@@ -31,9 +35,12 @@ class Folders:
 
     def __init__(self, folders: Iterable[Folder], resolve: Callable[[bytes], bytes] = os.path.realpath) -> None:
         self.folders = list(folders)
-        self._resolve = resolve
-        self._resolved: Dict[bytes, bytes] = {}
+        self._real: Callable[[bytes], bytes] = lru_cache(_MOST_KEPT)(resolve)
+        # What a path from the root is: a file of a folder, one of its directories, or neither.
+        self.where: Callable[[bytes], Union[Path, Place, None]] = lru_cache(_MOST_KEPT)(self._where)
         self._places: Dict[bytes, Place] = {}
+        # The places, by each path by which a program has named a file in them.
+        self._named: Dict[bytes, Place] = {}
         # The directories that the command has yet to make.
         self.absent: Set[Place] = set()
         for folder in self.folders:
@@ -42,27 +49,41 @@ class Folders:
                 self._places[directory] = Place(folder.name, place)
                 if folder.is_to_be_made:
                     self.absent.add(self._places[directory])
+        # The places, all directories that they are in, and whether one of them is in another.
+        self._above = {above for directory in self._places for above in _with_all_above(directory)}
+        self._is_nested = any(above in self._places for directory in self._places for above in list(_with_all_above(directory))[1:])
 
-    def where(self, path: bytes) -> Union[Path, Place, None]:
-        """What a path from the root is: a file of a folder, one of its directories, or neither."""
-        parent, _, name = path.rstrip(b"/").rpartition(b"/")
-        if name in (b"", b".", b".."):
+    def _where(self, path: bytes) -> Union[Path, Place, None]:
+        parent, _, name = path.rpartition(b"/")
+        place = self._named.get(parent)
+        if place is not None and name not in _NO_NAMES:
+            return Path(place.folder, place.place, name)
+        return self._sought(path)
+
+    def _sought(self, path: bytes) -> Union[Path, Place, None]:
+        named, _, name = path.rstrip(b"/").rpartition(b"/")
+        if name in _NO_NAMES:
             return self._places.get(self._real(path))
-        parent = self._real(parent or b"/")
+        parent = self._real(named or b"/")
         place = self._places.get(parent)
         if place is not None:
+            self._named[named] = place
             return Path(place.folder, place.place, name)
         return self._places.get(os.path.join(parent, name)) or self._places.get(self._real(path))
 
     def holds(self, path: bytes) -> bool:
-        """Whether a judged directory is at a path or below it."""
-        real = self._real(path)
-        return any(place == real or place.startswith(real.rstrip(b"/") + b"/") for place in self._places)
+        """Whether a judged directory is at a path or below it. A name in a place holds none, unless places are nested."""
+        named, _, name = path.rpartition(b"/")
+        if named in self._named and name not in _NO_NAMES and not self._is_nested:
+            return False
+        return self._real(path) in self._above
 
-    def _real(self, directory: bytes) -> bytes:
-        if directory not in self._resolved:
-            self._resolved[directory] = self._resolve(directory)
-        return self._resolved[directory]
+
+def _with_all_above(directory: bytes) -> Iterator[bytes]:
+    while directory not in (b"", b"/"):
+        yield directory
+        directory = directory.rpartition(b"/")[0]
+    yield b"/"
 
 
 def is_maildir(directory: bytes) -> bool:

@@ -29,7 +29,8 @@ class Taking:
     def add(self, steps: List[Step], least: Optional[int]) -> None:
         """Adds steps. `least` is where the first call began that has not returned yet."""
         if least is None and not self._waiting and len(steps) == 1:
-            self._take([steps[0]])
+            self._directories.told += steps[0].take(self._directories)
+            self._settle()
             return
         self._waiting += steps
         if least is None or least > self._waiting[-1].when.end or len(self._waiting) > self._most:

@@ -16,6 +16,8 @@ _ENDED = 0
 class Turn:
     """One reading of an open directory from its first name on. Where another reading comes between its parts, it is dropped."""
 
+    __slots__ = ("is_dropped", "is_read_to_end", "parts")
+
     def __init__(self) -> None:
         self.is_dropped = False
         self.is_read_to_end = False
@@ -24,6 +26,8 @@ class Turn:
 
 class OpenFile:
     """An open file or directory. Descriptors that were copied share one. Who writes through it writes for the actor that opened it."""
+
+    __slots__ = ("file", "place", "is_judged", "actor", "is_sync", "turn")
 
     def __init__(self, actor: Optional[str] = None, is_sync: bool = False) -> None:
         self.file: Optional[int] = None
@@ -59,12 +63,18 @@ class Process:
 
     def path(self, path: bytes, at: Optional[Descriptor] = None) -> Optional[bytes]:
         """A path from the root; None where nobody knows the directory that it goes from."""
-        if at is not None and at.number is None and at.path is not None:
-            self.directory = at.path
-        base = self.directory if at is None or at.number is None else at.path
-        if os.path.isabs(path):
+        base: Optional[bytes]
+        if at is not None and at.number is not None:
+            base = at.path
+        else:
+            if at is not None and at.path is not None:
+                self.directory = at.path
+            base = self.directory
+        if path[:1] == b"/":
             return path
-        return None if base is None or not os.path.isabs(base) else os.path.join(base, path)
+        if base is None or base[:1] != b"/":
+            return None
+        return base + path if base[-1:] == b"/" else base + b"/" + path
 
 
 class Actors(NamedTuple):
@@ -116,9 +126,10 @@ class Processes:
 
     def of(self, pid: int) -> Process:
         """The process of a number, made at its first call."""
-        if pid not in self._processes:
-            self._processes[pid] = self._made(pid)
-        return self._processes[pid]
+        process = self._processes.get(pid)
+        if process is None:
+            process = self._processes[pid] = self._made(pid)
+        return process
 
     def end(self, pid: int) -> None:
         """Forgets a process that has ended, whose number another one may get."""

@@ -3,7 +3,7 @@
 from __future__ import annotations
 
 import re
-from typing import Callable, Dict, Iterator, List, Optional, Set, Union
+from typing import Callable, Dict, Iterable, Iterator, List, Optional, Set, Union
 
 from .arguments import Descriptor, read_descriptor, read_string, shown_names, split
 from .folders import Folders, Place, first_path
@@ -12,11 +12,14 @@ from .processes import OpenFile, Process, Processes, Turn
 from .steps import FlushAll, FromOutside, Look, Name, OnFile, Open, Read, Step, Unlink, Unsaid, When, text_of
 from .strace_lines import LOOKS, STARTS, Begun, Call, Ended, Event, Opening, Starting, Unread
 
+_SYNC = re.compile(r"\bO_D?SYNC\b")
 _OF_DESCRIPTOR = re.compile(rb"/(?:proc/(?:self|\d+)|dev)/fd/(\d+)")
 _WRITES = {"write": 0, "pwrite64": 0, "writev": 0, "pwritev": 0, "pwritev2": 0, "ftruncate": 0, "fallocate": 0, "sendfile": 0,
            "copy_file_range": 2, "splice": 2}
 # These may write nothing at all, and then change nothing.
 _COUNTED = set(_WRITES) - {"ftruncate", "fallocate"}
+
+_READS = ("getdents", "getdents64")
 
 # These change what a process has, and nothing in a folder.
 _WITHOUT_STEP = {"exit_group", "execve", "execveat", "mmap", "close", "close_range", "dup", "dup2", "dup3", "fcntl", "lseek", "chdir", "fchdir"}
@@ -32,7 +35,7 @@ class Resolver:
         self._said: Set[str] = set()
         # Whether the call that is read was done, or found its path there.
         self._is_done = False
-        self._by_name: Dict[str, Callable[[_Made], Iterator[Step]]] = {
+        self._by_name: Dict[str, Callable[[_Made], Iterable[Step]]] = {
             **{name: self._start for name in STARTS},
             **{name: self._program for name in ("execve", "execveat")},
             "chdir": self._change_directory, "fchdir": self._change_directory, "chroot": self._unseen,
@@ -47,29 +50,29 @@ class Resolver:
             **{name: self._look for name in LOOKS.split()}, "ioctl": self._clone, "io_uring_setup": self._unseen,
         }
 
-    def steps(self, event: Event) -> Iterator[Step]:
+    def steps(self, event: Event) -> Iterable[Step]:
         """The steps of an event: none where it is none of the judged folders'."""
         if isinstance(event, Call):
-            yield from self._called(event)
-        elif isinstance(event, Ended):
-            yield from self._end(event)
-        elif isinstance(event, Starting):
+            return self._called(event)
+        if isinstance(event, Ended):
+            return self._end(event)
+        if isinstance(event, Starting):
             self._processes.start(event.pid, event.arguments)
         elif isinstance(event, Begun):
-            yield from self._begun(event)
+            return self._begun(event)
         elif isinstance(event, Unread):
-            yield Unsaid(When("", event.end, event.end, 0), f"line {event.end} of the trace: {event.text[:200]}")
+            return (Unsaid(When("", event.end, event.end, 0), f"line {event.end} of the trace: {event.text[:200]}"),)
+        return ()
 
-    def _called(self, call: Call) -> Iterator[Step]:
+    def _called(self, call: Call) -> Iterable[Step]:
         steps = self._by_name.get(call.name)
-        if steps is None or call.is_undone():
-            return
+        if steps is None or call.error is not None and call.is_undone():
+            return ()
         made = _Made(call, self._processes.of(call.pid))
-        self._is_done = made.is_ok() or call.error == "EEXIST"
+        self._is_done = call.error is None or call.error == "EEXIST"
         if call.error == "ENAMETOOLONG":
-            yield Unsaid(made.when, f"{call.name} of a name that is too long")
-            return
-        yield from steps(made)
+            return (Unsaid(made.when, f"{call.name} of a name that is too long"),)
+        return steps(made)
 
     def _end(self, event: Ended) -> Iterator[Step]:
         self._processes.of(event.pid)
@@ -87,7 +90,7 @@ class Resolver:
         """Whether a call may change or read anything of the judged folders."""
         if event.name in _WITHOUT_STEP:
             return False
-        made = _Made(Call(event.pid, event.begin, event.begin, 0, event.name, event.arguments, None, "EINTR", None),
+        made = _Made(Call(event.pid, event.begin, event.begin, 0, event.name, event.arguments, None, "EINTR"),
                      self._processes.of(event.pid))
         paths = [made.path_of(number) for number in range(len(made.words))]
         descriptors = [read_descriptor(word) for word in made.words]
@@ -130,11 +133,11 @@ class Resolver:
                 made.process.table[made.call.result] = made.process.table[descriptor.number]
         return iter(())
 
-    def _close(self, made: _Made) -> Iterator[Step]:
+    def _close(self, made: _Made) -> Iterable[Step]:
         descriptor = read_descriptor(made.words[0])
         if descriptor is not None:
             made.process.table.pop(descriptor.number, None)
-        return iter(())
+        return ()
 
     def _close_range(self, made: _Made) -> Iterator[Step]:
         first, last = (int(word, 0) for word in made.words[:2])
@@ -145,41 +148,42 @@ class Resolver:
 
     # Files
 
-    def _open(self, made: _Made) -> Iterator[Step]:
+    def _open(self, made: _Made) -> Iterable[Step]:
         name = made.call.name
         at = 0 if name in ("open", "creat") else 1
         path = made.path(at, None if at == 0 else 0)
         flags = "O_CREAT|O_TRUNC" if name == "creat" else made.words[at + 1]
-        opened = OpenFile(made.process.actor, is_sync=re.search(r"\bO_D?SYNC\b", flags) is not None)
+        opened = OpenFile(made.process.actor, is_sync="SYNC" in flags and _SYNC.search(flags) is not None)
         if made.is_ok() and made.call.result is not None:
             made.process.table[made.call.result] = opened
         where = self._where(path)
-        if "O_TMPFILE" in flags:
-            return
+        if where is None or "O_TMPFILE" in flags:
+            return ()
         if isinstance(where, Place):
             opened.place = where
-            yield Look(made.when, where, made.call.reply())
-        elif where is not None:
-            opened.is_judged = True
-            yield Open(made.when, where, made.call.reply(), flags, opened)
+            return (Look(made.when, where, made.call.reply()),)
+        opened.is_judged = True
+        return (Open(made.when, where, made.call.reply(), flags, opened),)
 
-    def _write(self, made: _Made) -> Iterator[Step]:
+    def _write(self, made: _Made) -> Iterable[Step]:
         if made.is_ok() and made.call.result == 0 and made.call.name in _COUNTED:
-            return
-        yield from self._on_file(made, "write", _WRITES[made.call.name])
+            return ()
+        return self._on_file(made, "write", _WRITES[made.call.name])
 
-    def _flush(self, made: _Made) -> Iterator[Step]:
-        yield from self._on_file(made, "flush", 0)
+    def _flush(self, made: _Made) -> Iterable[Step]:
+        return self._on_file(made, "flush", 0)
 
-    def _on_file(self, made: _Made, word: str, number: int) -> Iterator[Step]:
+    def _on_file(self, made: _Made, word: str, number: int) -> Iterable[Step]:
         descriptor = read_descriptor(made.words[number])
         if descriptor is None or descriptor.path is None:
-            return
+            return ()
         opened, where = made.process.table.get(descriptor.number), self._where(descriptor.path)
         if where is None and (opened is None or not opened.is_judged) or isinstance(where, Place):
-            return
-        when = made.when._replace(actor=opened.actor) if opened is not None and opened.actor is not None else made.when
-        yield OnFile(when, word, made.call.reply(), opened, first_path(where), descriptor.is_deleted)
+            return ()
+        when = made.when
+        if opened is not None and opened.actor is not None and opened.actor != when.actor:
+            when = when._replace(actor=opened.actor)
+        return (OnFile(when, word, made.call.reply(), opened, where, descriptor.is_deleted),)
 
     def _truncate(self, made: _Made) -> Iterator[Step]:
         where = first_path(self._where(made.path(0)))
@@ -235,14 +239,13 @@ class Resolver:
 
     # Names
 
-    def _link(self, made: _Made) -> Iterator[Step]:
+    def _link(self, made: _Made) -> Iterable[Step]:
         is_at = made.call.name == "linkat"
         old = made.path(1, 0) if is_at else made.path(0)
         new = made.path(3, 2) if is_at else made.path(1)
         if old is not None and _OF_DESCRIPTOR.fullmatch(old) or is_at and "AT_EMPTY_PATH" in made.words[4]:
-            yield from self._link_open_file(made, old, new)
-            return
-        yield from self._named(made, "link", old, new)
+            return self._link_open_file(made, old, new)
+        return self._named(made, "link", old, new)
 
     def _link_open_file(self, made: _Made, old: Optional[bytes], new: Optional[bytes]) -> Iterator[Step]:
         """A link to an open file, by its descriptor: it has a name already, or comes from outside."""
@@ -256,44 +259,43 @@ class Resolver:
             return
         yield from self._named(made, "link", b"/", new)
 
-    def _rename(self, made: _Made) -> Iterator[Step]:
+    def _rename(self, made: _Made) -> Iterable[Step]:
         is_at = made.call.name != "rename"
         old = made.path(1, 0) if is_at else made.path(0)
         new = made.path(3, 2) if is_at else made.path(1)
         flags = made.words[4] if made.call.name == "renameat2" else "0"
         if made.is_ok() and ("RENAME_EXCHANGE" in flags or "RENAME_WHITEOUT" in flags):
-            if self._where(old) is not None or self._where(new) is not None:
-                yield Unsaid(made.when, f"a rename with {flags}: what the log says after it may be wrong")
-            return
+            is_judged = self._where(old) is not None or self._where(new) is not None
+            return (Unsaid(made.when, f"a rename with {flags}: what the log says after it may be wrong"),) if is_judged else ()
         # What RENAME_NOREPLACE refuses is what link refuses, and what it does is what rename does.
-        yield from self._named(made, "link" if made.call.reply() == "exists" else "rename", old, new)
+        return self._named(made, "link" if made.call.error == "EEXIST" else "rename", old, new)
 
-    def _named(self, made: _Made, word: str, old: Optional[bytes], new: Optional[bytes]) -> Iterator[Step]:
+    def _named(self, made: _Made, word: str, old: Optional[bytes], new: Optional[bytes]) -> Iterable[Step]:
         where_old, where_new, reply = self._where(old), self._where(new), made.call.reply()
-        if reply == "ok" and any(path is not None and self._is_directory(path) for path in (old, new)):
-            yield Unsaid(made.when, f"a {word} of a judged directory: what the log says after it may be wrong")
-            return
-        paths = first_path(where_old), first_path(where_new)
-        if paths[0] is not None and paths[1] is not None:
-            yield Name(made.when, word, paths[0], paths[1], reply)
-        elif paths[1] is not None:
-            if reply == "ok":
-                yield Unsaid(made.when, "a file that comes from elsewhere: the next lines say it as made, written and flushed here")
-            yield FromOutside(made.when, paths[1], reply, replaces=word == "rename")
-        elif paths[0] is not None and word == "rename":
-            yield Unlink(made.when, paths[0], reply, is_rename=True)
+        if reply == "ok" and (old is not None and self._is_directory(old) or new is not None and self._is_directory(new)):
+            return (Unsaid(made.when, f"a {word} of a judged directory: what the log says after it may be wrong"),)
+        if isinstance(where_old, Path) and isinstance(where_new, Path):
+            return (Name(made.when, word, where_old, where_new, reply),)
+        if isinstance(where_new, Path):
+            text = "a file that comes from elsewhere: the next lines say it as made, written and flushed here"
+            comments = [Unsaid(made.when, text)] if reply == "ok" else []
+            return [*comments, FromOutside(made.when, where_new, reply, replaces=word == "rename")]
+        if isinstance(where_old, Path) and word == "rename":
+            return (Unlink(made.when, where_old, reply, is_rename=True),)
+        return ()
 
-    def _unlink(self, made: _Made) -> Iterator[Step]:
+    def _unlink(self, made: _Made) -> Iterable[Step]:
         is_at = made.call.name == "unlinkat"
         path = made.path(1, 0) if is_at else made.path(0)
         is_directory = made.call.name == "rmdir" or is_at and "AT_REMOVEDIR" in made.words[2]
         where = self._where(path)
         if isinstance(where, Path):
-            if is_directory and made.is_ok():
-                yield Unsaid(made.when, f"{made.call.name} of a directory: the next line says it as a file")
-            yield Unlink(made.when, where, made.call.reply())
-        elif made.is_ok() and path is not None and (where is not None or self._is_directory(path)):
-            yield Unsaid(made.when, f"{made.call.name} of a directory: {path.decode('utf-8', 'replace')}")
+            text = f"{made.call.name} of a directory: the next line says it as a file"
+            comments = [Unsaid(made.when, text)] if is_directory and made.is_ok() else []
+            return [*comments, Unlink(made.when, where, made.call.reply())]
+        if made.is_ok() and path is not None and (where is not None or self._is_directory(path)):
+            return (Unsaid(made.when, f"{made.call.name} of a directory: {path.decode('utf-8', 'replace')}"),)
+        return ()
 
     def _make(self, made: _Made) -> Iterator[Step]:
         name = made.call.name
@@ -311,14 +313,17 @@ class Resolver:
         if "AT_EMPTY_PATH" not in made.call.arguments and where is not None:
             yield Look(made.when, where, made.call.reply())
 
-    def _clone(self, made: _Made) -> Iterator[Step]:
+    def _clone(self, made: _Made) -> Iterable[Step]:
         """A file gets the bytes of another one. Where the file system can't, nothing is changed, and programs copy."""
         if made.is_ok() and "FICLONE" in made.words[1]:
-            yield from self._on_file(made, "write", 0)
+            return self._on_file(made, "write", 0)
+        return ()
 
     def _where(self, path: Optional[bytes]) -> Where:
-        where = None if path is None else self._folders.where(path)
-        return self._there(where) if where is not None and self._folders.absent else where
+        if path is None:
+            return None
+        where = self._folders.where(path)
+        return self._there(where) if self._folders.absent and where is not None else where
 
     def _there(self, where: Union[Path, Place]) -> Where:
         """What a path is, unless its directory is not there yet. A call that is done there shows that it is."""
@@ -336,9 +341,13 @@ class _Made:
 
     def __init__(self, call: Call, process: Process) -> None:
         self.call, self.process = call, process
-        self.when = When(process.actor, call.begin, call.end, call.moment)
         # A reading has a long argument that is no path.
-        self.words: List[str] = split(call.arguments) if not call.name.startswith("getdents") else call.arguments.split(",", 1)
+        self.words: List[str] = split(call.arguments) if call.name not in _READS else call.arguments.split(",", 1)
+
+    @property
+    def when(self) -> When:
+        """Who made it, and when."""
+        return When(self.process.actor, self.call.begin, self.call.end, self.call.moment)
 
     def is_ok(self) -> bool:
         """Whether the call succeeded."""

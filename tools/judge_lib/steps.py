@@ -2,6 +2,7 @@
 
 from __future__ import annotations
 
+from functools import lru_cache
 from typing import Callable, List, NamedTuple, Optional, Tuple, Union
 
 from .arguments import Descriptor
@@ -9,6 +10,9 @@ from .directories import Directories
 from .folders import Place
 from .names import Path, escaped
 from .processes import OpenFile, Turn
+
+# So many words are kept as a log writes them: most paths come several times, one soon after the other.
+_MOST_KEPT = 1024
 
 
 class Line(NamedTuple):
@@ -23,8 +27,9 @@ class Line(NamedTuple):
         """The line as it is written."""
         if self.actor is None:
             return b"# " + self.text.replace(b"\r", b"\\r").replace(b"\n", b"\\n")
-        ticks = b"" if self.ticks is None else b"@%d..%d" % self.ticks
-        return b"%d%b %b %b" % (self.moment, ticks, self.actor.encode(), self.text)
+        if self.ticks is None:
+            return b"%d %b %b" % (self.moment, self.actor.encode(), self.text)
+        return b"%d@%d..%d %b %b" % (self.moment, *self.ticks, self.actor.encode(), self.text)
 
 
 class When(NamedTuple):
@@ -41,11 +46,11 @@ class Step:
 
     # Whether a command that stops after it has gone on by a call.
     is_counted = True
+    # Whether it overlaps another step, so that its lines have ticks.
+    overlaps = False
 
     def __init__(self, when: When) -> None:
         self.when = when
-        # Whether it overlaps another step, so that its lines have ticks.
-        self.overlaps = False
 
     def fits(self, directories: Directories) -> bool:
         """Whether the call may take effect now."""
@@ -57,7 +62,7 @@ class Step:
 
     def line(self, *words: Union[str, bytes, Path]) -> Line:
         """A line of the call."""
-        return Line(self.when.moment, self.when.actor, b" ".join(_word(word) for word in words), self.ticks())
+        return Line(self.when.moment, self.when.actor, b" ".join(map(_word, words)), self.ticks())
 
     def ticks(self) -> Optional[Tuple[int, int]]:
         """Between which lines of the trace the call took effect, where that matters."""
@@ -73,6 +78,7 @@ class Step:
         return Line(self.when.moment, None, f"not said: {text}".encode("utf-8", "surrogateescape"))
 
 
+@lru_cache(_MOST_KEPT)
 def _word(word: Union[str, bytes, Path]) -> bytes:
     if isinstance(word, Path):
         return word.word()

@@ -5,8 +5,6 @@ from __future__ import annotations
 import re
 from typing import Dict, Iterable, Iterator, NamedTuple, Optional, Union
 
-from .arguments import Descriptor, read_descriptor
-
 # The calls that a log may need. A name that this machine's strace doesn't know is passed over by its question mark.
 TRACED = (
     "execve execveat clone clone3 fork vfork chdir fchdir chroot "
@@ -22,12 +20,15 @@ LOOKS = "stat lstat newfstatat statx access faccessat faccessat2"
 # -s 0 prints no bytes that are written; paths are printed whole all the same.
 OPTIONS = ["-q", "-f", "-y", "-v", "-xx", "-s", "0", "-ttt"]
 
+# Most lines: a call that succeeded, and that no other line came between.
+_PLAIN = re.compile(r"(\d+) +(\d+)\.\d+ (\w+)\(([^)]*)\) += (0x[0-9a-f]+|\d+)(?:<[^>]*>)?\n?")
 _RESULT = re.compile(r"0x[0-9a-f]+|-?\d+|\?")
 _RESUMED = re.compile(r"<\.\.\. (\w+) resumed>(.*)", re.DOTALL)
 _BEGUN = re.compile(r"(\w+)\((.*?) *<unfinished \.\.\.>", re.DOTALL)
 _EXITED = re.compile(r"\+\+\+ exited with (\d+) \+\+\+")
 _KILLED = re.compile(r"\+\+\+ killed by (\w+)")
 _ERROR = re.compile(r"\b(E[A-Z0-9]+) ")
+_REPLIES = {"ENOENT": "notfound", "EEXIST": "exists"}
 
 
 class Call(NamedTuple):
@@ -41,7 +42,6 @@ class Call(NamedTuple):
     arguments: str
     result: Optional[int]
     error: Optional[str]
-    opened: Optional[Descriptor]
     is_made_to_fail: bool = False
 
     def is_undone(self) -> bool:
@@ -50,7 +50,7 @@ class Call(NamedTuple):
 
     def reply(self) -> str:
         """The reply as a log says it."""
-        return {None: "ok", "ENOENT": "notfound", "EEXIST": "exists"}.get(self.error, "fault")
+        return "ok" if self.error is None else _REPLIES.get(self.error, "fault")
 
 
 class Begun(NamedTuple):
@@ -120,6 +120,10 @@ class Reader:
     def events(self, line: str) -> Iterable[Event]:
         """What a line tells."""
         self._number += 1
+        plain = _PLAIN.fullmatch(line)
+        if plain is not None:
+            pid, seconds, name, arguments, result = plain.groups()
+            return (Call(int(pid), self._number, self._number, int(seconds), name, arguments, int(result, 0), None),)
         text = line.rstrip("\n")
         pid, _, rest = text.partition(" ")
         moment, _, rest = rest.lstrip(" ").partition(" ")
@@ -155,12 +159,13 @@ class Reader:
         if not bracket or not arguments.endswith(")") or result is None:
             return Unread(self._number, text)
         arguments, after = arguments[:-1], rest[result.end():]
+        if not after and result[0] != "?":
+            return Call(pid, begin, self._number, moment, name, arguments, int(result[0], 0), None)
         error = _ERROR.search(after) if after else None
         if result[0] == "?" and error is None:
             return Begun(pid, begin, self._number, moment, name, arguments)
         value = None if result[0] == "?" else int(result[0], 0)
-        opened = read_descriptor(rest.partition(" ")[0]) if after.startswith("<") else None
-        return Call(pid, begin, self._number, moment, name, arguments, value, error[1] if error else None, opened, "(INJECTED)" in after)
+        return Call(pid, begin, self._number, moment, name, arguments, value, error[1] if error else None, "(INJECTED)" in after)
 
     def _end(self, pid: int, moment: int, text: str) -> Iterator[Event]:
         begun = self._begun.pop(pid, None)
