@@ -17,6 +17,9 @@ from .strace_lines import OPTIONS, TRACED
 _SECONDS_TO_END = 5
 _SECONDS_OF_A_RETRY = 30
 _SECONDS_TO_LOOK = 0.01
+_ZONE = "TZ"
+# So many characters of the trace are read at once.
+_BLOCK = 1 << 18
 
 
 def strace() -> str:
@@ -30,6 +33,12 @@ def strace() -> str:
 def traced_calls(more: str = "") -> str:
     """The calls that are traced, as strace's words. It passes over those that its machine doesn't have."""
     return "trace=" + ",".join("?" + name for name in (TRACED + " " + more).split())
+
+
+def _clock(is_attached: bool) -> List[str]:
+    """The words by which a command doesn't get the zone that strace is given: without one it looks for the system's file of its zone twice
+    at each call, to print seconds that no zone changes."""
+    return [] if is_attached or _ZONE in os.environ else ["-E", _ZONE]
 
 
 class Tracer:
@@ -48,8 +57,9 @@ class Tracer:
         self.why: Optional[str] = None
         with open(trace, "wb"):
             pass
-        self._process = subprocess.Popen([strace(), *how, *OPTIONS, "-e", traced_calls(), *injected, "-o", trace, *after], cwd=base,
-                                         stdout=stdout, start_new_session=self.is_attached)
+        words = [strace(), *how, *_clock(self.is_attached), *OPTIONS, "-e", traced_calls(), *injected, "-o", trace, *after]
+        self._process = subprocess.Popen(words, cwd=base, stdout=stdout, start_new_session=self.is_attached,
+                                         env={_ZONE: "UTC0", **os.environ})
         self._seconds = seconds
         self._former = {number: signal.signal(number, self._stop) for number in (signal.SIGINT, signal.SIGTERM)}
 
@@ -69,11 +79,10 @@ class Tracer:
             is_running = True
             while is_running:
                 is_running = self._process.poll() is None
-                for line in file:
-                    begun += line
-                    if begun.endswith("\n"):
-                        yield begun
-                        begun = ""
+                while block := file.read(_BLOCK):
+                    lines = (begun + block).split("\n")
+                    begun = lines.pop()
+                    yield from lines
                 if is_running:
                     self._wait()
         if begun:
