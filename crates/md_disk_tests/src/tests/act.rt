@@ -7,19 +7,19 @@ use std::alloc::{AllocError, Global};
 
 /// What an errand is for, by the letters of flags, a folder, and the fresh name of a copy.
 #[derive(Clone, Copy)]
-pub(super) enum Wish {
-    Seen(&'static str),
-    Flag(&'static str, &'static str),
+pub(super) enum Wish<'t> {
+    Seen(&'t str),
+    Flag(&'t str, &'t str),
     Move(u32),
-    Copy(u32, &'static str),
+    Copy(u32, &'t str),
     Expunge,
 }
 
 /// An answer that is wanted, that of flags by their letters.
 #[derive(Clone, Copy)]
-pub(super) enum Wanted {
+pub(super) enum Wanted<'t> {
     Delivered,
-    Flags(&'static str),
+    Flags(&'t str),
     Moved,
     Copied,
     Expunged,
@@ -31,24 +31,24 @@ pub(super) enum Wanted {
 }
 
 #[derive(Clone, Copy)]
-pub(super) enum Job {
+pub(super) enum Job<'t> {
     /// The message of a unique name is delivered into the first folder.
-    Deliver(&'static str),
+    Deliver(&'t str),
     /// An errand on the message of a unique name in a folder, of which so many tries are made.
-    Errand(u32, &'static str, u64, Wish),
+    Errand(u32, &'t str, u64, Wish<'t>),
     /// A clean of the first folder.
     Clean,
 }
 
 /// A job with the answer that is wanted, or a look into a directory.
 #[derive(Clone, Copy)]
-pub(super) enum Act {
-    Job(Job, Wanted),
+pub(super) enum Act<'t> {
+    Job(Job<'t>, Wanted<'t>),
     /// A directory shows the message of a unique name under this whole name, or not at all where that is empty.
-    Shows(u32, Place, &'static str, &'static str),
+    Shows(u32, Place, &'t str, &'t str),
 }
 
-fn purpose_of(alloc: Global, wish: Wish) -> Result<Purpose, AllocError> {
+fn purpose_of(alloc: Global, wish: Wish<'_>) -> Result<Purpose, AllocError> {
     Ok(match wish {
         Wish::Seen(letters) => Purpose::Seen(flags(letters)),
         Wish::Flag(add, remove) => Purpose::Flag {
@@ -65,7 +65,7 @@ fn purpose_of(alloc: Global, wish: Wish) -> Result<Purpose, AllocError> {
 }
 
 /// The answer that is wanted.
-pub(super) fn answer_of(wanted: Wanted) -> Answer {
+pub(super) fn answer_of(wanted: Wanted<'_>) -> Answer {
     match wanted {
         Wanted::Delivered => Answer::Delivered,
         Wanted::Flags(letters) => Answer::Flags(flags(letters)),
@@ -97,7 +97,7 @@ pub(super) fn ran<S: System>(
     folder: u32,
     unique: &str,
     tries: u64,
-    wish: Wish,
+    wish: Wish<'_>,
 ) -> Result<Answer, CoreError> {
     let unique = copied(alloc, unique)?;
     let purpose = purpose_of(alloc, wish)?;
@@ -127,7 +127,7 @@ fn shows<S: System>(
 fn answered<S: System>(
     alloc: Global,
     system: &mut Logged<S>,
-    job: Job,
+    job: Job<'_>,
 ) -> Result<Answer, CoreError> {
     match job {
         Job::Deliver(unique) => delivered(alloc, system, unique),
@@ -142,13 +142,17 @@ fn answered<S: System>(
 pub(super) fn is_answered<S: System>(
     alloc: Global,
     system: &mut Logged<S>,
-    job: Job,
-    wanted: Wanted,
+    job: Job<'_>,
+    wanted: Wanted<'_>,
 ) -> Result<bool, CoreError> {
     Ok(answered(alloc, system, job)? == answer_of(wanted))
 }
 
-fn is_done<S: System>(alloc: Global, system: &mut Logged<S>, act: Act) -> Result<bool, CoreError> {
+fn is_done<S: System>(
+    alloc: Global,
+    system: &mut Logged<S>,
+    act: Act<'_>,
+) -> Result<bool, CoreError> {
     match act {
         Act::Job(job, wanted) => is_answered(alloc, system, job, wanted),
         Act::Shows(folder, place, unique, name) => {
@@ -161,7 +165,7 @@ fn is_done<S: System>(alloc: Global, system: &mut Logged<S>, act: Act) -> Result
 pub(super) fn are_done<S: System>(
     alloc: Global,
     system: &mut Logged<S>,
-    acts: &[Act],
+    acts: &[Act<'_>],
 ) -> Result<bool, CoreError> {
     for act in acts {
         if !is_done(alloc, system, *act)? {

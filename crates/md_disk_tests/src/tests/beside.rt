@@ -1,29 +1,29 @@
 //! What is done beside the library in the folder of the maildirs, or found there.
 use super::BODY;
+use super::counting::Counted;
 use super::scene::{Stage, within};
 use md_disk::{is_maildir, make_maildir};
 use md_jobs::CoreError;
 use std::fs::{Files, OpenOptions};
 use std::io::Write;
-use std::time::Clock;
 
 /// By the path in that folder.
 #[derive(Clone, Copy)]
-pub(super) enum Beside {
+pub(super) enum Beside<'t> {
     /// A file is made.
-    Put(&'static str),
+    Put(&'t str),
     /// A directory is made.
-    Make(&'static str),
+    Make(&'t str),
     /// A directory is taken away.
-    Remove(&'static str),
+    Remove(&'t str),
     /// The path is there.
-    Has(&'static str),
+    Has(&'t str),
     /// It is not there.
-    Lacks(&'static str),
+    Lacks(&'t str),
     /// It is a maildir.
-    Maildir(&'static str),
+    Maildir(&'t str),
     /// It is none, and is not made one.
-    Refused(&'static str),
+    Refused(&'t str),
 }
 
 fn is_put<R: Files>(files: &R, path: &str) -> bool {
@@ -36,10 +36,7 @@ fn is_put<R: Files>(files: &R, path: &str) -> bool {
 }
 
 /// Makes a file at a path in the folder.
-pub(super) fn put<R: Files + Clock>(
-    stage: &Stage<'_, '_, R>,
-    name: &str,
-) -> Result<bool, CoreError> {
+pub(super) fn put<H: Counted>(stage: &Stage<'_, H>, name: &str) -> Result<bool, CoreError> {
     let path = within(stage.alloc, stage.root, name)?;
     Ok(is_put(stage.host, path.as_str()))
 }
@@ -48,16 +45,16 @@ fn is_there<R: Files>(files: &R, path: &str) -> bool {
     files.symlink_metadata(path).is_ok()
 }
 
-fn is_box<R: Files + Clock>(stage: &Stage<'_, '_, R>, path: &str) -> bool {
+fn is_box<H: Counted>(stage: &Stage<'_, H>, path: &str) -> bool {
     matches!(is_maildir(stage.alloc, stage.host, path), Ok(true))
 }
 
-fn is_no_box<R: Files + Clock>(stage: &Stage<'_, '_, R>, path: &str) -> bool {
+fn is_no_box<H: Counted>(stage: &Stage<'_, H>, path: &str) -> bool {
     matches!(is_maildir(stage.alloc, stage.host, path), Ok(false))
         && make_maildir(stage.alloc, stage.host, path).is_err()
 }
 
-fn name_in(beside: Beside) -> &'static str {
+fn name_in<'t>(beside: Beside<'t>) -> &'t str {
     match beside {
         Beside::Put(name)
         | Beside::Make(name)
@@ -69,7 +66,7 @@ fn name_in(beside: Beside) -> &'static str {
     }
 }
 
-fn is_so_at<R: Files + Clock>(stage: &Stage<'_, '_, R>, beside: Beside, path: &str) -> bool {
+fn is_so_at<H: Counted>(stage: &Stage<'_, H>, beside: Beside<'_>, path: &str) -> bool {
     match beside {
         Beside::Put(_) => is_put(stage.host, path),
         Beside::Make(_) => stage.host.create_dir(path).is_ok(),
@@ -82,9 +79,9 @@ fn is_so_at<R: Files + Clock>(stage: &Stage<'_, '_, R>, beside: Beside, path: &s
 }
 
 /// Whether it is done, or so.
-pub(super) fn is_so<R: Files + Clock>(
-    stage: &Stage<'_, '_, R>,
-    beside: Beside,
+pub(super) fn is_so<H: Counted>(
+    stage: &Stage<'_, H>,
+    beside: Beside<'_>,
 ) -> Result<bool, CoreError> {
     let path = within(stage.alloc, stage.root, name_in(beside))?;
     Ok(is_so_at(stage, beside, path.as_str()))

@@ -12,7 +12,7 @@ use md_dirs::Place::Cur;
 use md_disk::Cause;
 use std::io::ErrorKind;
 
-static CAUSES: [Step; 24] = [
+static CAUSES: [Step<'static>; 24] = [
     Keep(Hint(Cur, "u:2,S")),
     Keep(NoCause),
     // A delivery under a name that is no text.

@@ -13,10 +13,10 @@ use std::fs::Files;
 use std::time::Clock;
 
 /// A flaw by its folder, place, name and kind.
-pub(super) type Found = (u32, Place, &'static str, FlawKind);
+pub(super) type Found<'t> = (u32, Place, &'t str, FlawKind);
 
 /// What is found.
-pub(super) static FOUND: [Found; 9] = [
+pub(super) static FOUND: [Found<'static>; 9] = [
     (0, New, "f", FlawKind::InOtherFolders),
     (0, New, "g:2,S", FlawKind::InfoInNew),
     (0, New, "h", FlawKind::TwiceInFolder),
@@ -29,7 +29,7 @@ pub(super) static FOUND: [Found; 9] = [
 ];
 
 // Nothing, and then what is put into the maildirs, besides a directory.
-static FLAWS: [Step; 14] = [
+static FLAWS: [Step<'static>; 14] = [
     Look(NoFlaws),
     Beside(Put("inbox/cur/a:2,FS")),
     Beside(Put("inbox/cur/b")),
@@ -46,7 +46,7 @@ static FLAWS: [Step; 14] = [
     Look(Flaws),
 ];
 
-fn is_found(flaw: &Flaw, found: &Found) -> bool {
+fn is_found(flaw: &Flaw, found: &Found<'_>) -> bool {
     flaw.folder == found.0
         && flaw.place == found.1
         && flaw.name.as_slice() == found.2.as_bytes()
@@ -57,7 +57,7 @@ fn is_found(flaw: &Flaw, found: &Found) -> bool {
 pub(super) fn are_found<R: Files + Clock>(
     alloc: Global,
     disk: &Disk<'_, R>,
-    wanted: &[Found],
+    wanted: &[Found<'_>],
 ) -> Result<bool, CoreError> {
     let (reply, flaws) = check_folders(alloc, disk)?;
     Ok(

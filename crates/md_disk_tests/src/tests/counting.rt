@@ -5,6 +5,11 @@ use std::fs::{Files, Metadata, OpenOptions};
 use std::io;
 use std::time::{Clock, Duration};
 
+/// A system that says how many directories were opened to be read, since it was asked last.
+pub(super) trait Counted: Files + Clock {
+    fn take_readings(&self) -> u64;
+}
+
 /// The files and the clock of another system. It counts the directories that are opened to be read.
 #[derive(Drop)]
 pub(super) struct Counting<'a, R: Files + Clock> {
@@ -23,9 +28,10 @@ impl<'a, R: Files + Clock> Counting<'a, R> {
             readings: Cell::new(0),
         }
     }
+}
 
-    /// How many directories were opened to be read, since this was asked last.
-    pub(super) fn take_readings(&self) -> u64 {
+impl<'a, R: Files + Clock> Counted for Counting<'a, R> {
+    fn take_readings(&self) -> u64 {
         let readings = self.readings.get();
         self.readings.set(0);
         readings

@@ -20,37 +20,37 @@ type Failing = InMemory<FailAt<PlainDirs>>;
 #[derive(Clone, Copy)]
 struct Faulty {
     at: u64,
-    acts: &'static [Act],
-    later: &'static [Act],
+    acts: &'static [Act<'static>],
+    later: &'static [Act<'static>],
 }
 
 // What a delivery is answered where its call at a number fails, and whether it leaves a name in tmp and in new: a create, two appends, a link
 // and an unlink are made. After a fault the name in tmp is taken away.
-static FAULT: [Act; 3] = [
+static FAULT: [Act<'static>; 3] = [
     Job(Deliver("u"), Fault),
     Shows(0, Tmp, "u", ""),
     Shows(0, New, "u", ""),
 ];
 
-static LEFT: [Act; 3] = [
+static LEFT: [Act<'static>; 3] = [
     Job(Deliver("u"), Delivered),
     Shows(0, Tmp, "u", "u"),
     Shows(0, New, "u", "u"),
 ];
 
-static DONE: [Act; 3] = [
+static DONE: [Act<'static>; 3] = [
     Job(Deliver("u"), Delivered),
     Shows(0, Tmp, "u", ""),
     Shows(0, New, "u", "u"),
 ];
 
 // What a delivery leaves in tmp is taken by a clean 36 hours later.
-static NOTHING: [Act; 2] = [Job(Clean, Cleaned(0)), Shows(0, Tmp, "u", "")];
+static NOTHING: [Act<'static>; 2] = [Job(Clean, Cleaned(0)), Shows(0, Tmp, "u", "")];
 
-static TAKEN: [Act; 2] = [Job(Clean, Cleaned(1)), Shows(0, Tmp, "u", "")];
+static TAKEN: [Act<'static>; 2] = [Job(Clean, Cleaned(1)), Shows(0, Tmp, "u", "")];
 
 // An errand whose reading or rename fails, the sixth or seventh call, changes nothing; and the next is done.
-static SEEN: [Act; 5] = [
+static SEEN: [Act<'static>; 5] = [
     Job(Deliver("u"), Delivered),
     Job(Errand(0, "u", 1, Seen("S")), Fault),
     Shows(0, New, "u", "u"),

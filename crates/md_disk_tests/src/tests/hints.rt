@@ -11,7 +11,7 @@ use md_dirs::Place::{Cur, New};
 use md_jobs::DirReply;
 
 // Of two names of one message the hint's is acted on. Without a hint a reading shows both, which is a fault.
-static ACTED_ON: [Step; 6] = [
+static ACTED_ON: [Step<'static>; 6] = [
     Beside(Put("inbox/cur/u:2,")),
     Beside(Put("inbox/cur/u:2,F")),
     Keep(Hint(Cur, "u:2,F")),
@@ -21,7 +21,7 @@ static ACTED_ON: [Step; 6] = [
 ];
 
 // A hint whose name is gone is looked for again, and one that shows the flags already is read again.
-static READ_AGAIN: [Step; 6] = [
+static READ_AGAIN: [Step<'static>; 6] = [
     Beside(Put("inbox/cur/u:2,")),
     Keep(Hint(Cur, "u:2,R")),
     Job(Errand(0, "u", 2, Flag("T", "")), Flags("T")),
@@ -31,7 +31,7 @@ static READ_AGAIN: [Step; 6] = [
 ];
 
 // By a hint in cur a Move takes that name, though new shows the message too: new is not read.
-static MOVED: [Step; 8] = [
+static MOVED: [Step<'static>; 8] = [
     Beside(Put("inbox/new/u")),
     Beside(Put("inbox/cur/u:2,S")),
     Keep(Hint(Cur, "u:2,S")),
@@ -43,7 +43,7 @@ static MOVED: [Step; 8] = [
 ];
 
 // One reading of new and cur serves two errands. What both read is gone at a third, which looks for itself.
-static AHEAD: [Step; 8] = [
+static AHEAD: [Step<'static>; 8] = [
     Beside(Put("inbox/new/u")),
     Keep(Ahead(0, DirReply::Ok)),
     Keep(Hint(New, "u")),
@@ -56,7 +56,7 @@ static AHEAD: [Step; 8] = [
 
 #[test]
 fn errands_by_hints(rt: HostRuntime) {
-    let scenes: [&[Step]; 4] = [&ACTED_ON, &READ_AGAIN, &MOVED, &AHEAD];
+    let scenes: [&[Step<'static>]; 4] = [&ACTED_ON, &READ_AGAIN, &MOVED, &AHEAD];
     for steps in scenes {
         play(&rt, rt.alloc(), false, steps);
     }

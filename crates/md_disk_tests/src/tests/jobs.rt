@@ -12,7 +12,7 @@ use md_dirs::Place::{Cur, New};
 use md_disk::InMemory;
 
 /// A message goes through all jobs, from empty folders on.
-pub(super) static JOBS: [Act; 19] = [
+pub(super) static JOBS: [Act<'static>; 19] = [
     // It is delivered, is seen, and goes to the second folder.
     Job(Deliver("u"), Delivered),
     Shows(0, New, "u", "u"),

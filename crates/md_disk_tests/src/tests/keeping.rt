@@ -1,17 +1,16 @@
 //! What a disk is told and keeps.
 use super::copied;
-use super::counting::Counting;
+use super::counting::Counted;
 use super::scene::Stage;
 use md_dirs::Place;
 use md_disk::{Cause, Disk};
 use md_jobs::{CoreError, DirReply};
-use std::fs::Files;
-use std::time::Clock;
+use std::alloc::Global;
 
 #[derive(Clone, Copy)]
-pub(super) enum Kept {
+pub(super) enum Kept<'t> {
     /// A name is a hint in a directory of the first folder.
-    Hint(Place, &'static str),
+    Hint(Place, &'t str),
     /// A folder is read ahead, with this reply.
     Ahead(u32, DirReply),
     /// What was read ahead is outdated.
@@ -28,24 +27,48 @@ pub(super) enum Kept {
     Flushed,
 }
 
+fn hint<H: Counted>(
+    alloc: Global,
+    disk: &mut Disk<'_, H>,
+    place: Place,
+    name: &str,
+) -> Result<bool, CoreError> {
+    let name = copied(alloc, name)?;
+    disk.hint(0, place, name);
+    Ok(true)
+}
+
+fn is_between(count: u64, least: u64, most: u64) -> bool {
+    least <= count && count <= most
+}
+
+// Whether it is so.
+fn is_so<H: Counted>(host: &H, disk: &Disk<'_, H>, kept: Kept<'_>) -> bool {
+    match kept {
+        Kept::Because(cause) => disk.cause() == Some(cause),
+        Kept::NoCause => disk.cause().is_none(),
+        Kept::Read(least, most) => is_between(host.take_readings(), least, most),
+        _ => !disk.is_unflushed(),
+    }
+}
+
 /// Whether it is done, or so.
-pub(super) fn is_kept<'h, 'r, R: Files + Clock>(
-    stage: &Stage<'h, 'r, R>,
-    disk: &mut Disk<'h, Counting<'r, R>>,
-    kept: Kept,
+pub(super) fn is_kept<'h, H: Counted>(
+    stage: &Stage<'h, H>,
+    disk: &mut Disk<'h, H>,
+    kept: Kept<'_>,
 ) -> Result<bool, CoreError> {
     match kept {
-        Kept::Hint(place, name) => disk.hint(0, place, copied(stage.alloc, name)?),
-        Kept::Ahead(folder, reply) => return Ok(disk.read_ahead(stage.alloc, folder)? == reply),
-        Kept::Outdate => disk.outdate(),
-        Kept::OnlyHints(only) => disk.only_hints(only),
-        Kept::Because(cause) => return Ok(disk.cause() == Some(cause)),
-        Kept::NoCause => return Ok(disk.cause().is_none()),
-        Kept::Read(least, most) => {
-            let readings = stage.host.take_readings();
-            return Ok(least <= readings && readings <= most);
+        Kept::Hint(place, name) => hint(stage.alloc, disk, place, name),
+        Kept::Ahead(folder, reply) => Ok(disk.read_ahead(stage.alloc, folder)? == reply),
+        Kept::Outdate => {
+            disk.outdate();
+            Ok(true)
         }
-        Kept::Flushed => return Ok(!disk.is_unflushed()),
+        Kept::OnlyHints(only) => {
+            disk.only_hints(only);
+            Ok(true)
+        }
+        _ => Ok(is_so(stage.host, disk, kept)),
     }
-    Ok(true)
 }

@@ -17,7 +17,7 @@ use std::io::Read;
 use std::time::Clock;
 
 // A message of new, one of cur by a hint that is out of date, none, and a directory in the place of one.
-static MESSAGES: [Step; 11] = [
+static MESSAGES: [Step<'static>; 11] = [
     Job(Deliver("u"), Delivered),
     Beside(Put("inbox/cur/v:2,S")),
     Keep(Hint(Cur, "v:2,F")),

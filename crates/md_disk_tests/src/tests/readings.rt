@@ -5,7 +5,7 @@ use super::act::Wish::{Expunge, Flag};
 use super::act::{answer_of, ran};
 use super::beside::Beside::{Has, Put};
 use super::beside::put;
-use super::counting::Counting;
+use super::counting::Counted;
 use super::keeping::Kept::{Ahead, Because, Hint, OnlyHints, Outdate, Read};
 use super::scene::{Stage, play};
 use super::step::Look::{Many, ManyFlagged};
@@ -14,8 +14,6 @@ use super::step::Step::{Beside, Job, Keep, Look};
 use md_dirs::Place::{Cur, New};
 use md_disk::{Cause, Disk};
 use md_jobs::{CoreError, DirReply};
-use std::fs::Files;
-use std::time::Clock;
 
 // So many messages are flagged, of which every second one has the flag.
 const MANY: u64 = 500;
@@ -24,7 +22,7 @@ const MANY: u64 = 500;
 const READINGS: u64 = 100;
 
 // One reading tells many errands what they act on, what they keep, and that there is no such message. It tells a message once.
-static MANY_SERVED: [Step; 11] = [
+static MANY_SERVED: [Step<'static>; 11] = [
     Look(Many),
     Keep(Ahead(0, DirReply::Ok)),
     Keep(Read(0, 2 * READINGS)),
@@ -39,7 +37,7 @@ static MANY_SERVED: [Step; 11] = [
 ];
 
 // Two names that rest are a fault without another reading. What is outdated tells no more than what is acted on.
-static OUTDATED: [Step; 13] = [
+static OUTDATED: [Step<'static>; 13] = [
     Beside(Put("inbox/cur/u:2,")),
     Beside(Put("inbox/cur/u:2,F")),
     Beside(Put("inbox/cur/v:2,S")),
@@ -56,7 +54,7 @@ static OUTDATED: [Step; 13] = [
 ];
 
 // Where no directory rests, an errand is told what it acts on, and for anything else it reads for itself.
-static RESTLESS: [Step; 9] = [
+static RESTLESS: [Step<'static>; 9] = [
     Beside(Put("inbox/cur/u:2,")),
     Beside(Put("inbox/cur/v:2,S")),
     Keep(Ahead(0, DirReply::Ok)),
@@ -69,7 +67,7 @@ static RESTLESS: [Step; 9] = [
 ];
 
 // By hints alone no directory is read: not without a hint, not by one that is out of date, and not by one that is not acted on.
-static HINTS_ALONE: [Step; 14] = [
+static HINTS_ALONE: [Step<'static>; 14] = [
     Beside(Put("inbox/cur/u:2,F")),
     Keep(OnlyHints(true)),
     Job(Errand(0, "u", 1, Flag("S", "")), Fault),
@@ -87,7 +85,7 @@ static HINTS_ALONE: [Step; 14] = [
 ];
 
 /// Whether many messages are put into cur.
-pub(super) fn are_many<R: Files + Clock>(stage: &Stage<'_, '_, R>) -> Result<bool, CoreError> {
+pub(super) fn are_many<H: Counted>(stage: &Stage<'_, H>) -> Result<bool, CoreError> {
     for number in 0..MANY {
         let letters = if number % 2 == 0 { "" } else { "S" };
         let name = format!(in stage.alloc; "inbox/cur/m{number}:2,{letters}")?;
@@ -99,9 +97,9 @@ pub(super) fn are_many<R: Files + Clock>(stage: &Stage<'_, '_, R>) -> Result<boo
 }
 
 /// Whether each of the many gets the flag.
-pub(super) fn are_flagged<'h, 'r, R: Files + Clock>(
-    stage: &Stage<'h, 'r, R>,
-    disk: &mut Disk<'h, Counting<'r, R>>,
+pub(super) fn are_flagged<'h, H: Counted>(
+    stage: &Stage<'h, H>,
+    disk: &mut Disk<'h, H>,
 ) -> Result<bool, CoreError> {
     for number in 0..MANY {
         let unique = format!(in stage.alloc; "m{number}")?;
@@ -115,7 +113,7 @@ pub(super) fn are_flagged<'h, 'r, R: Files + Clock>(
 
 #[test]
 fn readings_that_serve_many(rt: HostRuntime) {
-    let scenes: [&[Step]; 3] = [&MANY_SERVED, &OUTDATED, &HINTS_ALONE];
+    let scenes: [&[Step<'static>]; 3] = [&MANY_SERVED, &OUTDATED, &HINTS_ALONE];
     for steps in scenes {
         play(&rt, rt.alloc(), false, steps);
     }

@@ -13,7 +13,7 @@ use std::alloc::Global;
 use std::fs::Files;
 use std::time::Clock;
 
-static REAL: [Step; 5] = [
+static REAL: [Step<'static>; 5] = [
     AllJobs,
     Look(Listed),
     Look(NoFolder(7)),

@@ -1,6 +1,6 @@
 //! Two maildirs on a disk for a scene.
 use super::are_right;
-use super::counting::Counting;
+use super::counting::{Counted, Counting};
 use super::step::{Step, are_taken};
 use md_disk::{Disk, Folders, Namer, make_maildir};
 use md_jobs::CoreError;
@@ -11,9 +11,9 @@ use std::time::Clock;
 
 /// Where a scene is played: on a host, whose readings are counted, in a folder.
 #[derive(Drop)]
-pub(super) struct Stage<'h, 'r, R: Files + Clock> {
+pub(super) struct Stage<'h, H: Counted> {
     pub(super) alloc: Global,
-    pub(super) host: &'h Counting<'r, R>,
+    pub(super) host: &'h H,
     pub(super) root: &'h str,
 }
 
@@ -54,7 +54,7 @@ fn make_boxes<R: Files + Clock>(
     Ok(folders)
 }
 
-fn plays_in<R: Files + Clock>(stage: &Stage<'_, '_, R>, steps: &[Step]) -> Result<bool, CoreError> {
+fn plays_in<H: Counted>(stage: &Stage<'_, H>, steps: &[Step<'_>]) -> Result<bool, CoreError> {
     let folders = make_boxes(stage.alloc, stage.host, stage.root)?;
     let mut disk = Disk::new(stage.host, folders, true);
     are_taken(stage, &mut disk, steps)
@@ -64,7 +64,7 @@ fn plays<R: Files + Clock>(
     alloc: Global,
     rt: &R,
     is_early: bool,
-    steps: &[Step],
+    steps: &[Step<'_>],
 ) -> Result<bool, CoreError> {
     let root = fresh_path(alloc, rt)?;
     let host = Counting::new(rt, is_early);
@@ -83,7 +83,7 @@ pub(super) fn play<R: Files + Clock + Abort>(
     rt: &R,
     alloc: Global,
     is_early: bool,
-    steps: &[Step],
+    steps: &[Step<'_>],
 ) {
     are_right(
         rt,

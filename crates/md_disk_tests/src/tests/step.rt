@@ -2,7 +2,7 @@
 use super::act::{Job, Wanted, are_done, is_answered};
 use super::beside::{Beside, is_so};
 use super::checks::{FOUND, are_found};
-use super::counting::Counting;
+use super::counting::Counted;
 use super::jobs::JOBS;
 use super::keeping::{Kept, is_kept};
 use super::messages::{is_read, is_told, is_unread};
@@ -11,27 +11,25 @@ use super::real::{is_listed, is_no_folder};
 use super::scene::Stage;
 use md_disk::Disk;
 use md_jobs::{CoreError, DirReply};
-use std::fs::Files;
-use std::time::Clock;
 
 #[derive(Clone, Copy)]
-pub(super) enum Step {
+pub(super) enum Step<'t> {
     /// A job with the answer that is wanted.
-    Job(Job, Wanted),
+    Job(Job<'t>, Wanted<'t>),
     /// A message goes through all jobs.
     AllJobs,
-    Beside(Beside),
-    Keep(Kept),
-    Look(Look),
+    Beside(Beside<'t>),
+    Keep(Kept<'t>),
+    Look(Look<'t>),
 }
 
 /// What the library shows beside jobs.
 #[derive(Clone, Copy)]
-pub(super) enum Look {
+pub(super) enum Look<'t> {
     /// The message of a unique name is read whole.
-    Shown(&'static str),
+    Shown(&'t str),
     /// It is not opened, with this reply.
-    Unread(&'static str, DirReply),
+    Unread(&'t str, DirReply),
     /// What is told of the first message of a listing.
     Told,
     /// A check of both maildirs finds nothing, or what was put there for it.
@@ -46,10 +44,10 @@ pub(super) enum Look {
     ManyFlagged,
 }
 
-fn is_seen<'h, 'r, R: Files + Clock>(
-    stage: &Stage<'h, 'r, R>,
-    disk: &mut Disk<'h, Counting<'r, R>>,
-    look: Look,
+fn is_seen<'h, H: Counted>(
+    stage: &Stage<'h, H>,
+    disk: &mut Disk<'h, H>,
+    look: Look<'_>,
 ) -> Result<bool, CoreError> {
     match look {
         Look::Shown(unique) => is_read(stage.alloc, disk, unique),
@@ -64,10 +62,10 @@ fn is_seen<'h, 'r, R: Files + Clock>(
     }
 }
 
-fn is_taken<'h, 'r, R: Files + Clock>(
-    stage: &Stage<'h, 'r, R>,
-    disk: &mut Disk<'h, Counting<'r, R>>,
-    step: Step,
+fn is_taken<'h, H: Counted>(
+    stage: &Stage<'h, H>,
+    disk: &mut Disk<'h, H>,
+    step: Step<'_>,
 ) -> Result<bool, CoreError> {
     match step {
         Step::Job(job, wanted) => is_answered(stage.alloc, disk, job, wanted),
@@ -79,10 +77,10 @@ fn is_taken<'h, 'r, R: Files + Clock>(
 }
 
 /// Whether all steps come to what is wanted, in their order.
-pub(super) fn are_taken<'h, 'r, R: Files + Clock>(
-    stage: &Stage<'h, 'r, R>,
-    disk: &mut Disk<'h, Counting<'r, R>>,
-    steps: &[Step],
+pub(super) fn are_taken<'h, H: Counted>(
+    stage: &Stage<'h, H>,
+    disk: &mut Disk<'h, H>,
+    steps: &[Step<'_>],
 ) -> Result<bool, CoreError> {
     for step in steps {
         if !is_taken(stage, disk, *step)? {
