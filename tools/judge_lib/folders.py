@@ -49,9 +49,9 @@ class Folders:
                 self._places[directory] = Place(folder.name, place)
                 if folder.is_to_be_made:
                     self.absent.add(self._places[directory])
-        # The places, all directories that they are in, and whether one of them is in another.
+        # The places and all directories that they are in, and whether one of them is in another.
         self._above = {above for directory in self._places for above in _with_all_above(directory)}
-        self._is_nested = any(above in self._places for directory in self._places for above in list(_with_all_above(directory))[1:])
+        self.is_nested = any(above in self._places for directory in self._places for above in list(_with_all_above(directory))[1:])
 
     def _where(self, path: bytes) -> Union[Path, Place, None]:
         parent, _, name = path.rpartition(b"/")
@@ -72,10 +72,7 @@ class Folders:
         return self._places.get(os.path.join(parent, name)) or self._places.get(self._real(path))
 
     def holds(self, path: bytes) -> bool:
-        """Whether a judged directory is at a path or below it. A name in a place holds none, unless places are nested."""
-        named, _, name = path.rpartition(b"/")
-        if named in self._named and name not in _NO_NAMES and not self._is_nested:
-            return False
+        """Whether a judged directory is at a path or below it."""
         return self._real(path) in self._above
 
 

@@ -100,7 +100,8 @@ class Making:
     def _settle(self) -> None:
         for line in self._directories.told:
             self._tell(line)
-        self._claims.settle(self._directories)
+        if self._has_claims:
+            self._claims.settle(self._directories)
         self._directories.settle()
 
     def _ended(self, actor: str, event: Ended) -> Iterator[Step]:

@@ -3,6 +3,7 @@
 from __future__ import annotations
 
 import re
+from functools import lru_cache
 from typing import FrozenSet, NamedTuple, Optional
 
 from maildir_lib.language import escape
@@ -21,11 +22,16 @@ class Path(NamedTuple):
 
     def word(self) -> bytes:
         """The path as a log writes it."""
-        return b"/".join((escaped(self.folder), self.place.encode(), escaped(self.name)))
+        return _place_word(self.folder, self.place) + escaped(self.name)
 
     def is_message(self) -> bool:
         """Whether the path makes its file a message."""
         return self.place != "tmp" and not self.name.startswith(b".") and unique_of(self.name) != b""
+
+
+@lru_cache
+def _place_word(folder: bytes, place: str) -> bytes:
+    return b"%b/%b/" % (escaped(folder), place.encode())
 
 
 def escaped(name: bytes) -> bytes:

@@ -69,7 +69,7 @@ class Process:
         else:
             if at is not None and at.path is not None:
                 self.directory = at.path
-            base = self.directory
+            base = self._directory["path"]
         if path[:1] == b"/":
             return path
         if base is None or base[:1] != b"/":

@@ -272,7 +272,9 @@ class Resolver:
 
     def _named(self, made: _Made, word: str, old: Optional[bytes], new: Optional[bytes]) -> Iterable[Step]:
         where_old, where_new, reply = self._where(old), self._where(new), made.call.reply()
-        if reply == "ok" and (old is not None and self._is_directory(old) or new is not None and self._is_directory(new)):
+        if isinstance(where_old, Path) and isinstance(where_new, Path) and not self._folders.is_nested:
+            return (Name(made.when, word, where_old, where_new, reply),)
+        if reply == "ok" and any(path is not None and self._is_directory(path) for path in (old, new)):
             return (Unsaid(made.when, f"a {word} of a judged directory: what the log says after it may be wrong"),)
         if isinstance(where_old, Path) and isinstance(where_new, Path):
             return (Name(made.when, word, where_old, where_new, reply),)

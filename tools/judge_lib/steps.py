@@ -62,7 +62,7 @@ class Step:
 
     def line(self, *words: Union[str, bytes, Path]) -> Line:
         """A line of the call."""
-        return Line(self.when.moment, self.when.actor, b" ".join(map(_word, words)), self.ticks())
+        return Line(self.when.moment, self.when.actor, b" ".join(map(_word, words)), self.ticks() if self.overlaps else None)
 
     def ticks(self) -> Optional[Tuple[int, int]]:
         """Between which lines of the trace the call took effect, where that matters."""

@@ -5,6 +5,7 @@ import subprocess
 import sys
 import tempfile
 import unittest
+from unittest import mock
 
 from judge_support import BOX, TOOLS, beginning, log_of, opened, quoted, recorded, steps_of, trace
 
@@ -253,12 +254,39 @@ class WholeOrNot(unittest.TestCase):
             for number in range(many):
                 path = f"box/tmp/{number}"
                 for _ in making.feed(trace(f"1 openat(AT_FDCWD, {quoted(path)}, O_WRONLY|O_CREAT, 0600) = {opened(3, '/srv/mail/' + path)}",
-                                           f"1 close({opened(3, '/srv/mail/' + path)}) = 0", f"1 unlink({quoted(path)}) = 0")):
+                                           f"1 close({opened(3, '/srv/mail/' + path)}) = 0", f"1 {rename(path, f'box/new/{number}')}) = 0",
+                                           f"1 rename({quoted(f'far/{number}')}, {quoted(f'far/{number}.')}) = 0",
+                                           f"1 unlink({quoted(f'box/new/{number}')}) = 0")):
                     pass
-            self.assertEqual(len(lines), 2 * many)
-            kept = [making._directories, making._taking, making._processes, making._resolver, making._claims]
+            self.assertEqual(len(lines), 3 * many)
+            kept = [making._directories, making._taking, making._processes, making._resolver, making._claims, making._beginning.folders]
             return sum(len(value) for each in kept for value in vars(each).values() if hasattr(value, "__len__"))
         self.assertEqual(made(200), made(2000))
+
+
+class Cost(unittest.TestCase):
+    """What a line costs, counted, since a test of its time would fail beside other work."""
+
+    MOST_CALLS_A_LINE = 100
+
+    @staticmethod
+    def delivery(number):
+        tmp, new, cur = (f"box/{place}/{number}.mail.example.org" for place in ("tmp", "new", "cur"))
+        file = opened(3, f"/srv/mail/{tmp}")
+        return [f"1 openat(AT_FDCWD<{quoted('/srv/mail')[1:-1]}>, {quoted(tmp)}, O_WRONLY|O_CREAT|O_EXCL, 0600) = {file}", f"1 write({file}, \"\"..., 5) = 5",
+                f"1 fsync({file}) = 0", f"1 close({file}) = 0", f"1 link({quoted(tmp)}, {quoted(new)}) = 0", f"1 unlink({quoted(tmp)}) = 0",
+                f"1 {rename(new, cur + ':2,')}) = 0", f"1 {rename(cur + ':2,', cur + ':2,S')}) = 0"]
+
+    def test_calls_of_functions(self):
+        """Each line of a delivery calls so many functions, Python's own too."""
+        lines, counts = trace(*(line for number in range(250) for line in self.delivery(number))), []
+        sys.setprofile(lambda _frame, event, _argument: counts.append(1) if event in ("call", "c_call") else None)
+        try:
+            log = log_of(lines)
+        finally:
+            sys.setprofile(None)
+        self.assertEqual(len(log.lines), len(lines) * 7 // 8)
+        self.assertLess(len(counts) / len(lines), self.MOST_CALLS_A_LINE)
 
 
 class Tree(unittest.TestCase):
@@ -302,6 +330,22 @@ class Tree(unittest.TestCase):
         self.assertEqual((without.returncode, without.stdout), (2, ""))
         self.assertIn("strace is not installed: it is the package strace", without.stderr)
         self.assertEqual(self.run_tool().returncode, 2)
+
+    def test_the_zone_that_strace_is_given(self):
+        """strace has a zone, so that it looks for no file of one at each call. The command has what it had."""
+        programs = os.path.join(os.fsdecode(self.base), "programs")
+        os.mkdir(programs)
+        with open(os.path.join(programs, "strace"), "w", encoding="utf-8") as file:
+            file.write('#!/bin/sh\n[ "$1" = --version ] || echo "${TZ-none}" "$@" >called\n')
+        os.chmod(os.path.join(programs, "strace"), 0o755)
+        for zone, wanted in ((None, ("UTC0", True)), ("Asia/Tokyo", ("Asia/Tokyo", False))):
+            with mock.patch.dict(os.environ, {} if zone is None else {"TZ": zone}):
+                if zone is None:
+                    os.environ.pop("TZ", None)
+                self.assertIn("strace ran nothing", self.run_tool("--folder", "box", "true", path=programs).stderr)
+            with open(os.path.join(self.base, b"called"), encoding="utf-8") as file:
+                words = file.read().split()
+            self.assertEqual((words[0], " -E TZ " in " ".join(words)), wanted)
 
 
 if __name__ == "__main__":
