@@ -65,7 +65,7 @@ lines-then (one ∷ texts) m l n text is =
     ∙ lines-then texts cut.0 l (suc n) text cut.2 ∙ ap (λ k. at_line k (with_text l k text)) here
 
 -- after the lines of a log comes one that is added to it, or that is wrong
-log-then : (head : List ℕ) (texts : List (List ℕ)) (l : Log) (text : List ℕ) → log_by (head ∷ texts) ≡ Ok l
+pub log-then : (head : List ℕ) (texts : List (List ℕ)) (l : Log) (text : List ℕ) → log_by (head ∷ texts) ≡ Ok l
     → log_by (head ∷ (texts ++ text ∷ [])) ≡ at_line (2 + length texts) (with_text l (2 + length texts) text)
 log-then head texts l text is = by (bytes_eq head (codes "maildir_log 1")) is
   where

@@ -3,42 +3,11 @@ use Rattle.std.proofs.Common.{ℕ, suc, ◌≡◌, ◌<◌, ◌≤◌, ◌+◌, 
 use Rattle.std.specs.Prelude.{if◌then◌else◌, codes}
 use Rattle.std.specs.Str.{bytes_eq}
 use Rattle.std.proofs.lemmas.List.{length_push}
-use Rattle.md_log.specs.declared.error.LineFault.{LineFault}
 use Rattle.md_log.specs.declared.error.LineFault.TheVariants.{NoLog}
-use Rattle.md_log.specs.declared.error.LogFault.{LogFault}
-use Rattle.md_judge.specs.Logs.{Log, empty_log, log_by, with_lines, with_text, at_line, and_then}
-use Rattle.md_judge.proofs.Whole.{lines-cut, lines-end}
+use Rattle.md_judge.specs.Logs.{Log, empty_log, log_by, with_lines, with_text, at_line}
+use Rattle.md_judge.proofs.Taken.{log-then}
 use Rattle.md_owed.specs.declared.session.Session.{Session}
 use Rattle.md_owed.specs.Sessions.{HasRead, HasTaken, Reads}
-
-then-end : (n : ℕ) (r : Result Log LogFault) → and_then r (λ o. with_lines o n []) ≡ r
-unfolding with_lines
-then-end n (Ok l) = refl
-then-end n (Err e) = refl
-
-lines-then : (texts : List (List ℕ)) (m l : Log) (n : ℕ) (text : List ℕ) → with_lines m n texts ≡ Ok l
-    → with_lines m n (texts ++ text ∷ []) ≡ at_line (n + length texts) (with_text l (n + length texts) text)
-unfolding with_lines
-lines-then [] m l n text is =
-    let here : n ≡ n + 0 = omega arith in
-    then-end (suc n) (at_line n (with_text m n text)) ∙ ap (λ k. at_line k (with_text m k text)) here
-    ∙ ap (λ (o : Log). at_line (n + 0) (with_text o (n + 0) text)) (lines-end m l n is)
-lines-then (one ∷ texts) m l n text is =
-    let cut = lines-cut m l n one texts is in
-    let here : suc n + length texts ≡ n + suc (length texts) = omega arith in
-    ap (λ (r : Result Log LineFault). and_then (at_line n r) (λ o. with_lines o (suc n) (texts ++ text ∷ []))) cut.1
-    ∙ lines-then texts cut.0 l (suc n) text cut.2 ∙ ap (λ k. at_line k (with_text l k text)) here
-
--- after the lines of a log comes one more
-log-then : (head : List ℕ) (texts : List (List ℕ)) (l : Log) (text : List ℕ) → log_by (head ∷ texts) ≡ Ok l
-    → log_by (head ∷ (texts ++ text ∷ [])) ≡ at_line (2 + length texts) (with_text l (2 + length texts) text)
-log-then head texts l text is = by (bytes_eq head (codes "maildir_log 1")) is
-  where
-    by : (b : Bool) → (if b then with_lines empty_log 2 texts else Err (record { line = 1; fault = NoLog })) ≡ Ok l
-        → (if b then with_lines empty_log 2 (texts ++ text ∷ []) else Err (record { line = 1; fault = NoLog }))
-        ≡ at_line (2 + length texts) (with_text l (2 + length texts) text)
-    by true is = lines-then texts empty_log l 2 text is
-    by false is = absurd (cc is)
 
 -- the head alone is an empty log
 head-alone : (text : List ℕ) → bytes_eq text (codes "maildir_log 1") ≡ true → log_by (text ∷ []) ≡ Ok empty_log
