@@ -12,3 +12,4 @@ pub mod Beginning
 pub mod Telling
 pub mod Taking
 pub mod Heading
+pub mod Refusing

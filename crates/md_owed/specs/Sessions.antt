@@ -1,6 +1,8 @@
 -- What a session has taken in, and what it has found.
-use Rattle.std.specs.Prelude.{ℕ, suc, ◌≡◌, ◌≢◌, ◌↔◌, ◌⊎◌, ◌++◌, ◌∷◌, [], List, Some, Result, Ok, fold, take, length, slice_get}
+use Rattle.std.specs.Prelude.{ℕ, suc, ◌≡◌, ◌≢◌, ◌↔◌, ◌⊎◌, ◌++◌, ◌∷◌, [], List, Some, None, Result, Ok, Err, fold, take, length, slice_get}
 use Rattle.md_log.specs.declared.error.LineFault.{LineFault}
+use Rattle.md_log.specs.declared.error.LineFault.TheVariants.{NoMemory}
+use Rattle.md_log.specs.declared.error.LogFault.{LogFault}
 use Rattle.md_log.specs.declared.line.Line.{Line}
 use Rattle.md_log.specs.declared.line.Line.TheVariants as line
 use Rattle.md_log.specs.declared.line.Step.{Step}
@@ -9,6 +11,9 @@ use Rattle.md_monitor.specs.Finds.{BreaksOwed}
 use Rattle.md_judge.specs.Logs.{Log, Numbered, empty_log, has_begun, log_by}
 use Rattle.md_judge.specs.Verdict.{HasNoTicks}
 use Rattle.md_owed.specs.declared.clause.OwedClause.{OwedClause}
+use Rattle.md_owed.specs.declared.fault.Fault.{Fault}
+use Rattle.md_owed.specs.declared.fault.Why.{Why}
+use Rattle.md_owed.specs.declared.fault.Why.TheVariants.{Wrong, Overlap}
 use Rattle.md_owed.specs.declared.session.Finding.{Finding}
 use Rattle.md_owed.specs.declared.session.Session.{Session}
 use Rattle.md_owed.specs.Clauses.{meant}
@@ -49,6 +54,26 @@ pub record HasTaken (texts : List (List ℕ)) (s : Session) : Type 0 where
   pub lines : s.lines ≡ length texts
   pub none : texts ≡ [] → HasRead empty_log s
   pub read : texts ≢ [] → (l : Log) × (log_by texts ≡ Ok l) × HasRead l s
+
+-- ---- refusals
+
+-- Why a line is refused: it is wrong, and this is its fault; or it is a step that has ticks. But memory may be refused.
+abbrev pub IsWhy : Why → Result Log LineFault → Type 0
+IsWhy (Wrong fault) read = fault ≢ NoMemory → read ≡ Err fault
+IsWhy Overlap read = (l : Log) × (read ≡ Ok l) × (HasNoTicks l → ⊥)
+
+-- the same of the lines of a log, of which the last is refused
+abbrev pub IsRefusedBy : ℕ → Why → Result Log LogFault → Type 0
+IsRefusedBy line (Wrong fault) log = fault ≢ NoMemory → log ≡ Err (record { line = line; fault = fault })
+IsRefusedBy line Overlap log = (l : Log) × (log ≡ Ok l) × (HasNoTicks l → ⊥)
+
+abbrev pub IsRefused : Fault → Result Log LogFault → Type 0
+IsRefused f log = IsRefusedBy f.line f.why log
+
+-- why a step is refused
+abbrev pub IsStepRefused : Why → Step → Type 0
+IsStepRefused (Wrong fault) x = fault ≡ NoMemory
+IsStepRefused Overlap x = x.ticks ≢ None
 
 -- ---- how it goes on
 

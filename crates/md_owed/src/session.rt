@@ -1,10 +1,12 @@
 //! A log whose lines come one by one, and what its steps break of what is owed.
-ghost use Rattle.std.specs.Prelude.{◌≡◌, ◌≢◌, ◌+◌, ◌<◌, ◌≤◌, ◌↔◌, ◌++◌, ◌∷◌, [], ℕ, List, Ok, true, OnOk, IfOk, codes};
+ghost use Rattle.std.specs.Prelude.{◌≡◌, ◌≢◌, ◌+◌, ◌<◌, ◌≤◌, ◌↔◌, ◌++◌, ◌∷◌, [], ℕ, List, Ok, Err, true, false, OnOk, IfOk, IfErr, codes};
 ghost use Rattle.std.specs.Str.{bytes_eq};
-ghost use Rattle.md_judge.specs.Logs.{Log, log_by, with_line, with_text};
+ghost use Rattle.md_log.specs.declared.error.LineFault.TheVariants.{NoMemory};
+ghost use Rattle.md_judge.specs.Logs.{Log, log_by, at_line, with_line, with_text};
 ghost use Rattle.md_owed.specs.declared.clause.OwedClause.{OwedClause};
+ghost use Rattle.md_owed.specs.declared.fault.Why.TheVariants.{Wrong};
 ghost use Rattle.md_owed.specs.Clauses.{IsBroken};
-ghost use Rattle.md_owed.specs.Sessions.{HasTaken, HasRead, Reads, IsAmong, IsFinding, IsHead, AddsFinding, AddsWhere, with_step};
+ghost use Rattle.md_owed.specs.Sessions.{HasTaken, HasRead, Reads, IsAmong, IsFinding, IsHead, IsRefused, IsWhy, IsStepRefused, AddsFinding, AddsWhere, with_step};
 
 use crate::clause::{OWED, OwedClause};
 use crate::fault::{Fault, Why};
@@ -53,7 +55,8 @@ impl Session {
 
     /// Takes in the next line, without its end. The first is the head. After a refusal the session is not to be used.
     pub fn line(&mut self, text: &[u8]) -> Result<(), Fault>
-        ensures { (texts : List (List ℕ)) → HasTaken texts self.old → OnOk result (HasTaken (texts ++ text.now ∷ []) self.new) }
+        ensures taken { (texts : List (List ℕ)) → HasTaken texts self.old → OnOk result (HasTaken (texts ++ text.now ∷ []) self.new) }
+        ensures refused { (texts : List (List ℕ)) → HasTaken texts self.old → IfErr result (λ f. IsRefused f (log_by (texts ++ text.now ∷ []))) }
     {
         let line = next_line(self.lines)?;
         self.take_line(line, text)?;
@@ -63,7 +66,8 @@ impl Session {
 
     /// The log is over. A log without a line is none.
     pub fn end(&self) -> Result<(), Fault>
-        ensures { (texts : List (List ℕ)) → HasTaken texts self.now → OnOk result (texts ≢ []) }
+        ensures over { (texts : List (List ℕ)) → HasTaken texts self.now → OnOk result (texts ≢ []) }
+        ensures refused { (texts : List (List ℕ)) → HasTaken texts self.now → IfErr result (λ f. IsRefused f (log_by texts)) }
     {
         if self.lines == 0 {
             return Err(fault_at(1, LineFault::NoLog));
@@ -83,6 +87,8 @@ impl Session {
     fn take_line(&mut self, line: u64, text: &[u8]) -> Result<(), Fault>
         ensures next { 1 < line → (l : Log) → HasRead l self.old → OnOk result (Reads (with_text l line text.now) self.new) }
         ensures first { line ≤ 1 → OnOk result ((bytes_eq text.now (codes "maildir_log 1") ≡ true) × (self.new ≡ self.old)) }
+        ensures next_refused { 1 < line → (l : Log) → HasRead l self.old → IfErr result (λ f. IsRefused f (at_line line (with_text l line text.now))) }
+        ensures first_refused { line ≤ 1 → IfErr result (λ f. IsRefused f (log_by (text.now ∷ []))) }
     {
         if line > 1 {
             return match self.take(line, text) {
@@ -97,8 +103,8 @@ impl Session {
     }
 
     fn take(&mut self, number: u64, text: &[u8]) -> Result<(), Why>
-        ensures { (l : Log) → HasRead l self.old
-            → OnOk result (Reads (with_text l number text.now) self.new) }
+        ensures reads { (l : Log) → HasRead l self.old → OnOk result (Reads (with_text l number text.now) self.new) }
+        ensures refused { (l : Log) → HasRead l self.old → IfErr result (λ why. IsWhy why (with_text l number text.now)) }
     {
         if is_passed_over(text) {
             return Ok(());
@@ -112,12 +118,13 @@ impl Session {
         }
     }
 
+    /// A line of the beginning, which comes before the first step.
     fn take_head(&mut self, line: Line) -> Result<(), LineFault>
-        ensures { (l : Log) (number : ℕ) → HasRead l self.old → IsHead line → OnOk result (Reads (with_line l number line) self.new) }
+        ensures reads { (l : Log) (number : ℕ) → HasRead l self.old → self.old.has_begun ≡ false → IsHead line
+            → OnOk result (Reads (with_line l number line) self.new) }
+        ensures refused { (l : Log) (number : ℕ) → HasRead l self.old → self.old.has_begun ≡ false
+            → IfErr result (λ fault. fault ≢ NoMemory → with_line l number line ≡ Err fault) }
     {
-        if self.has_begun {
-            return Err(LineFault::TooLate);
-        }
         match line {
             Line::Folder { name } => name_folder(&mut self.folders, name.as_slice()),
             Line::File { path, stamp } => self.watch.put_file(&path, stamp),
@@ -128,7 +135,8 @@ impl Session {
     }
 
     fn take_step(&mut self, number: u64, step: &Step, text: &[u8]) -> Result<(), Why>
-        ensures { (l : Log) → HasRead l self.old → OnOk result (HasRead (with_step l number step.now) self.new) }
+        ensures reads { (l : Log) → HasRead l self.old → OnOk result (HasRead (with_step l number step.now) self.new) }
+        ensures refused { IfErr result (λ why. IsStepRefused why step.now) }
     {
         if step.ticks.is_some() {
             return Err(Why::Overlap);
@@ -185,7 +193,8 @@ fn call_in(text: &[u8]) -> &[u8] {
 
 /// The number of the next line.
 fn next_line(line: u64) -> Result<u64, Fault>
-    ensures { IfOk result (λ next. next ≡ line + 1) }
+    ensures next { IfOk result (λ next. next ≡ line + 1) }
+    ensures refused { IfErr result (λ f. f.why ≡ Wrong NoMemory) }
 {
     match line.checked_add(1) {
         Some(next) => Ok(next),
@@ -193,7 +202,9 @@ fn next_line(line: u64) -> Result<u64, Fault>
     }
 }
 
-fn fault_at(line: u64, fault: LineFault) -> Fault {
+fn fault_at(line: u64, fault: LineFault) -> Fault
+    ensures { result ≡ record { line = line; why = Wrong fault } }
+{
     Fault {
         line,
         why: Why::Wrong(fault),

@@ -1,5 +1,6 @@
 //! What a history of directories tells so far, and what its steps break of what is owed.
-ghost use Rattle.std.specs.Prelude.{◌≡◌, OnOk, IfOk};
+ghost use Rattle.std.specs.Prelude.{◌≡◌, ◌≢◌, Err, OnOk, IfOk, IfErr};
+ghost use Rattle.md_log.specs.declared.error.LineFault.TheVariants.{NoMemory};
 ghost use Rattle.md_law.specs.History.{History, next};
 ghost use Rattle.md_judge.specs.Logs.{Log, empty_log, with_file_line, with_also_line};
 ghost use Rattle.md_owed.specs.Changes.{turn_of, adding};
@@ -104,7 +105,9 @@ impl Watch {
 
     /// At the beginning a file is there, which was last made or written to at the moment `stamp`. After a refusal the watch is not to be used.
     pub fn put_file(&mut self, path: &Path, stamp: u64) -> Result<(), LineFault>
-        ensures { (l : Log) → Holds (beginning l) self.old → OnOk result (Begins (with_file_line l path.now stamp) self.new) }
+        ensures begins { (l : Log) → Holds (beginning l) self.old → OnOk result (Begins (with_file_line l path.now stamp) self.new) }
+        ensures refused { (l : Log) → Holds (beginning l) self.old
+            → IfErr result (λ fault. fault ≢ NoMemory → with_file_line l path.now stamp ≡ Err fault) }
     {
         if self.paths.file_at(path).is_some() {
             return Err(LineFault::SamePath);
@@ -118,7 +121,9 @@ impl Watch {
 
     /// At the beginning a file has a further path. After a refusal the watch is not to be used.
     pub fn put_name(&mut self, path: &Path, old: &Path) -> Result<(), LineFault>
-        ensures { (l : Log) → Holds (beginning l) self.old → OnOk result (Begins (with_also_line l path.now old.now) self.new) }
+        ensures begins { (l : Log) → Holds (beginning l) self.old → OnOk result (Begins (with_also_line l path.now old.now) self.new) }
+        ensures refused { (l : Log) → Holds (beginning l) self.old
+            → IfErr result (λ fault. fault ≢ NoMemory → with_also_line l path.now old.now ≡ Err fault) }
     {
         if self.paths.file_at(path).is_some() {
             return Err(LineFault::SamePath);

@@ -32,8 +32,8 @@ loop-clause-preserved c =
           c.note_broken.new.self c.loop-clause-test.true before.found after;
     }
 
-pub returns : goal.returns
-returns c = λ l read.
+pub returns-clause-reads : goal.returns-clause-reads
+returns-clause-reads c = λ l read.
     let s = c.args.self.now in
     let x = c.args.step.now in
     let z : Numbered = record { number = c.args.number; step = x } in
