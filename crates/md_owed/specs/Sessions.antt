@@ -62,11 +62,13 @@ abbrev pub IsWhy : Why → Result Log LineFault → Type 0
 IsWhy (Wrong fault) read = fault ≢ NoMemory → read ≡ Err fault
 IsWhy Overlap read = (l : Log) × (read ≡ Ok l) × (HasNoTicks l → ⊥)
 
--- the same of the lines of a log, of which the last is refused
+-- the same of a line of this number, and the lines of a log up to it
 abbrev pub IsRefusedBy : ℕ → Why → Result Log LogFault → Type 0
 IsRefusedBy line (Wrong fault) log = fault ≢ NoMemory → log ≡ Err (record { line = line; fault = fault })
 IsRefusedBy line Overlap log = (l : Log) × (log ≡ Ok l) × (HasNoTicks l → ⊥)
 
+-- The lines of a log, of which the last is refused so: it is the first wrong one, and this is its fault; or it is a step that has ticks. But
+-- memory may be refused.
 abbrev pub IsRefused : Fault → Result Log LogFault → Type 0
 IsRefused f log = IsRefusedBy f.line f.why log
 
