@@ -67,8 +67,8 @@ abbrev pub IsRefusedBy : ℕ → Why → Result Log LogFault → Type 0
 IsRefusedBy line (Wrong fault) log = fault ≢ NoMemory → log ≡ Err (record { line = line; fault = fault })
 IsRefusedBy line Overlap log = (l : Log) × (log ≡ Ok l) × (HasNoTicks l → ⊥)
 
--- The lines of a log, of which the last is refused so: it is the first wrong one, and this is its fault; or it is a step that has ticks. But
--- memory may be refused.
+-- The lines of a log, of which the last is refused so: it is the first wrong one, and this is its fault; or it is a step that has ticks.
+-- But memory may be refused.
 abbrev pub IsRefused : Fault → Result Log LogFault → Type 0
 IsRefused f log = IsRefusedBy f.line f.why log
 
