@@ -94,6 +94,13 @@ class JudgeTest(unittest.TestCase):
             self.assertEqual((line, text, f"line {line}: {text}"), (error.line, error.text, str(error)))
             self.assertIsInstance(error, ValueError)
 
+    def test_many_calls_at_once(self) -> None:
+        """72 calls are in flight at any time, and the lines are in order."""
+        lines = ["maildir_log 1", "folder i"]
+        for number in range(20_000):
+            lines.append(f"1@{2 * number}..{2 * number + 144} p{number} create i/tmp/u{number} ok")
+        self.assertEqual([], deolmutt.judge(lines))
+
     def test_what_is_no_log_at_all(self) -> None:
         for wrong in (7, None, [7], [None], [["maildir_log 1"]]):
             with self.subTest(wrong), self.assertRaises(TypeError):

@@ -6,7 +6,7 @@ from typing import NamedTuple
 
 from judge_lib.names import PLACES
 
-from .histories import REPLIES, Answer, At, Between, Call, History, Holds, List, Said, State, is_by, is_call, is_up_to, since
+from .histories import Answer, At, Between, Call, History, Holds, List, Said, State, is_by, is_call, is_up_to, since
 from .messages import is_message_at, is_of, is_there
 from .readings import shown_by
 
@@ -43,7 +43,9 @@ def lately(holds: Holds, c: Claim, h: History) -> bool:
 def acts_by(call: Call, c: Claim, reply: str) -> bool:
     if isinstance(call, At) and call.deed == "unlink":
         return is_of(call.path, c.folder, c.unique) and call.reply == reply
-    return isinstance(call, Between) and is_of(call.old, c.folder, c.unique) and call.reply == reply
+    if not isinstance(call, Between) or call.reply != reply:
+        return False
+    return is_of(call.old, c.folder, c.unique) or is_of(call.new, c.folder, c.unique) and call.reply == "ok"
 
 
 def acts_on(h: History, c: Claim, reply: str) -> bool:
@@ -51,7 +53,8 @@ def acts_on(h: History, c: Claim, reply: str) -> bool:
 
 
 def looks(h: History, c: Claim) -> bool:
-    return any(is_call(h, List(c.folder, place, reply, shown)) for place in PLACES for reply in REPLIES for shown in shown_by(h))
+    places = [place for place in PLACES if place != "tmp"]
+    return any(is_call(h, List(c.folder, place, reply, shown)) for place in places for reply in ("ok", "more") for shown in shown_by(h))
 
 
 def adds_message(h: History, c: Claim) -> bool:

@@ -116,9 +116,14 @@ def used_again(h: History) -> bool:
     )
 
 
+def comes_from_new(h: History) -> bool:
+    return isinstance(h.call, Between) and is_message(h.call.old) and h.call.old.place == "new"
+
+
 def moved_back(h: History) -> bool:
     return any(
-        names(h, p, file) and is_message(p) and p.place == "new" and was_in_cur(h.before, file) for p, file in h.at.names.items()
+        names(h, p, file) and is_message(p) and p.place == "new" and was_in_cur(h.before, file) and not comes_from_new(h)
+        for p, file in h.at.names.items()
     )
 
 

@@ -39,7 +39,7 @@ def _beginning(lines: list[list[bytes]]) -> History:
             stamps.append(int(words[1]))
         if word == b"also":
             names[_path(words[0])] = names[_path(words[1])]
-    return History(State(names, tuple(stamps)), max(stamps, default=0))
+    return History(State(names, tuple(stamps)), 0)
 
 
 def _call(word: bytes, *words: bytes) -> Call:

@@ -192,10 +192,14 @@ def is_used_again(j: Judged) -> bool:
     return adds_message(j, test)
 
 
+def is_from_new(call: Call) -> bool:
+    return isinstance(call, Between) and is_message(call.old) and call.old.place == "new"
+
+
 def is_moved_back(j: Judged) -> bool:
     if j.named is None or not is_message(j.named[0]) or j.named[0].place != "new":
         return False
-    return j.named[1] < len(j.kept.files) and j.kept.files[j.named[1]].was_cur
+    return j.named[1] < len(j.kept.files) and j.kept.files[j.named[1]].was_cur and not is_from_new(j.call)
 
 
 def is_cleaned_early(j: Judged) -> bool:
@@ -219,10 +223,6 @@ def may_write(j: Judged, test: Callable[[int], bool]) -> bool:
 
 def owes_named_by_another(j: Judged) -> bool:
     return j.named is not None and not is_seen(j.s, j.named[1]) and not is_maker(j, j.named[1])
-
-
-def owes_moved_back(j: Judged) -> bool:
-    return is_moved_back(j) and not (isinstance(j.call, Between) and is_message(j.call.old) and j.call.old.place == "new")
 
 
 def owes_in_two_folders(j: Judged) -> bool:
@@ -261,5 +261,5 @@ OWED: dict[str, Callable[[Judged], bool]] = {
     "Mixed": lambda j: may_write(j, lambda file: not is_maker(j, file)),
     "NamedByAnother": owes_named_by_another, "CleanedEarly": is_cleaned_early,
     "Rewritten": lambda j: may_write(j, lambda file: j.kept.files[file].was_seen),
-    "MovedBack": owes_moved_back, "UsedAgain": owes_used_again, "MadeAgain": owes_made_again, "WrittenLate": owes_written_late,
+    "MovedBack": is_moved_back, "UsedAgain": owes_used_again, "MadeAgain": owes_made_again, "WrittenLate": owes_written_late,
 }  # fmt: skip

@@ -1,4 +1,4 @@
-"""What each program owes the others: md_law's Owed, with the two clauses of the law that are owed as they are."""
+"""What each program owes the others: md_law's Owed, with the three clauses of the law that are owed as they are."""
 
 from __future__ import annotations
 
@@ -7,9 +7,9 @@ from typing import Optional
 
 from judge_lib.names import Path, unique_of
 
-from .clauses import actor_of, cleaned_early, two_names
-from .histories import REPLIES, Between, History, file_at, file_by, once
-from .messages import adds, files_named, is_maker, is_message, is_message_at, is_seen, names, was_in_cur, writes
+from .clauses import actor_of, cleaned_early, moved_back, two_names
+from .histories import REPLIES, History, file_at, file_by, once
+from .messages import adds, files_named, is_maker, is_message, is_message_at, is_seen, names, writes
 
 
 def may_write(h: History, file: int) -> bool:
@@ -31,14 +31,6 @@ def named(h: History) -> Iterator[tuple[Path, int]]:
 
 def named_by_another(h: History) -> bool:
     return any(not is_seen(h.before.at, file) and not is_maker(h, actor_of(h), file) for _, file in named(h))
-
-
-def comes_from_new(h: History) -> bool:
-    return isinstance(h.call, Between) and is_message(h.call.old) and h.call.old.place == "new"
-
-
-def moved_back(h: History) -> bool:
-    return any(is_message(p) and p.place == "new" and was_in_cur(h.before, file) and not comes_from_new(h) for p, file in named(h))
 
 
 def in_two_folders(h: History) -> bool:

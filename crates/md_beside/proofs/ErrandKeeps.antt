@@ -12,7 +12,7 @@ use Rattle.md_core.proofs.Answers.Turns.OneMessage.{IsOver, TriesOn, Trying}
 use Rattle.md_core.proofs.Machines.Errand.Table.Calls.{sought, tries_in}
 use Rattle.md_log.specs.declared.clause.Clause.{Clause}
 use Rattle.md_law.specs.Law.{Breaks}
-use Rattle.md_law.specs.Owed.{MovedBack}
+use Rattle.md_law.specs.Clauses.{MovedBack}
 use Rattle.md_beside.specs.Story.{Story, Step, ours, step_at, state, history, standing, standing_from}
 use Rattle.md_beside.specs.Beside.{IsStory, Owes, Says}
 use Rattle.md_beside.specs.Jobs.{LooksInBoth, AreForward, AreUsedOnce, MayBreak, KeepsPromise}

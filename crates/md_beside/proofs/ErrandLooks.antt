@@ -18,7 +18,7 @@ use Rattle.md_core.proofs.Answers.Turns.OneMessage.{HasLooked}
 use Rattle.md_core.proofs.Mailbox.Shown.{mailbox-shows, shows-mailbox}
 use Rattle.md_core.proofs.Machines.Errand.Marked.{such-there}
 use Rattle.md_law.specs.Messages.{IsMessageAt}
-use Rattle.md_law.specs.Owed.{MovedBack}
+use Rattle.md_law.specs.Clauses.{MovedBack}
 use Rattle.md_beside.specs.Story.{Story, Step, ours, step_at, state}
 use Rattle.md_beside.specs.Beside.{IsStory, IsStepOf, IsInSpan}
 use Rattle.md_beside.proofs.Histories.{next_at}

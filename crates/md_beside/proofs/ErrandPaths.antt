@@ -44,7 +44,7 @@ use Rattle.md_law.specs.History.{IsCall}
 use Rattle.md_law.specs.Messages.{IsTrashed}
 use Rattle.md_beside.specs.Story.{Story, Step, Did, asked, step_at, after_did, state, call_seen, reply_seen, step_seen}
 use Rattle.md_beside.specs.Beside.{IsStory, reply_due}
-use Rattle.md_beside.specs.Jobs.{IsMove, LooksInBoth}
+use Rattle.md_beside.specs.Jobs.{IsMove}
 use Rattle.md_beside.proofs.Fresh.{NeverUsed}
 use Rattle.md_beside.proofs.Histories.{next_at, state-more}
 use Rattle.md_beside.proofs.OwnSteps.{named-others, named-itself}
@@ -110,7 +110,7 @@ module _ (t : Story) (story : IsStory t) (k : ℕ) (x : Step) (is : step_at t k 
     -- a message gets another path of its name
     moves : (o n : Path) (f : ℕ) → Moves (state t k) (state t (suc k)) o n f → file_at (state t k) o ≡ Some f → is_message o ≡ true →
         is_message n ≡ true → unique_of o.name ≡ unique_of n.name → (o.folder ≡ n.folder) ⊎ IsMove c →
-        (n.place ≡ Cur) ⊎ (LooksInBoth c × IsFromNew t k x o) → Rearranges t k x c
+        (n.place ≡ Cur) ⊎ IsFromNew t k x o → Rearranges t k x c
     moves o n f m there mo mn same folder place = record {
       comes = λ p j now differ. by_path p n
           (λ isn. record {
@@ -122,7 +122,7 @@ module _ (t : Story) (story : IsStory t) (k : ℕ) (x : Step) (is : step_at t k 
               same ∙ ap (λ (q : Path). unique_of q.name) (sym isn),
               subst (λ (q : Path). (o.folder ≡ q.folder) ⊎ IsMove c) (sym isn) folder,
             );
-            place = subst (λ (q : Path). (q.place ≡ Cur) ⊎ (LooksInBoth c × IsFromNew t k x o)) (sym isn) place;
+            place = subst (λ (q : Path). (q.place ≡ Cur) ⊎ IsFromNew t k x o) (sym isn) place;
           })
           (λ notn. by_path p o
           (λ iso. let gone = m.gone (λ one. notn (iso ∙ one)) in
@@ -146,7 +146,7 @@ module _ (t : Story) (story : IsStory t) (k : ℕ) (x : Step) (is : step_at t k 
     -- a message gets a path of a name that the call makes
     copies : (o n : Path) (f : ℕ) → a ≡ link o n → x.reply ≡ reply.Ok → file_at (state t k) o ≡ Some f → file_at (state t k) n ≡ None →
         is_message o ≡ true → is_message n ≡ true → MakesMessage c (unique_of n.name) → NeverUsed t k (unique_of n.name) →
-        (n.place ≡ Cur) ⊎ (LooksInBoth c × IsFromNew t k x o) → Rearranges t k x c
+        (n.place ≡ Cur) ⊎ IsFromNew t k x o → Rearranges t k x c
     copies o n f made ok there free mo mn makes never place =
         let after = leaves (link o n) reply.Ok (did ∙ ap asked made) ok in
         let others : (q : Path) → q ≢ n → file_at (state t (suc k)) q ≡ file_at (state t k) q =
@@ -165,7 +165,7 @@ module _ (t : Story) (story : IsStory t) (k : ℕ) (x : Step) (is : step_at t k 
                   subst (λ (q : Path). MakesMessage c (unique_of q.name)) (sym isn) makes,
                   subst (λ (q : Path). NeverUsed t k (unique_of q.name)) (sym isn) never,
                 );
-                place = subst (λ (q : Path). (q.place ≡ Cur) ⊎ (LooksInBoth c × IsFromNew t k x o)) (sym isn) place;
+                place = subst (λ (q : Path). (q.place ≡ Cur) ⊎ IsFromNew t k x o) (sym isn) place;
               })
               (λ notn. absurd (differ (sym (others p notn) ∙ now)));
           goes = λ p j was none message. by_path p n
@@ -252,11 +252,11 @@ module _ (t : Story) (story : IsStory t) (k : ℕ) (x : Step) (is : step_at t k 
         called a is = ap (λ (d : Did). call_seen (state t k) d (reply_seen x.reply)) (did ∙ ap asked is)
 
         -- a message of new keeps to new by its link or rename
-        keeps-place : LooksInBoth c → (n : Path) (naming : Naming) → n.place ≡ place → first p ≡ New →
+        keeps-place : (n : Path) (naming : Naming) → n.place ≡ place → first p ≡ New →
             call_seen (state t k) x.did (reply_seen x.reply) ≡ told.Between naming o n (reply_seen x.reply) →
-            (n.place ≡ Cur) ⊎ (LooksInBoth c × IsFromNew t k x o)
-        keeps-place both n naming same new call = elim fits.stage.at [
-          | inl is ↦ inr (both, from-new o n naming call (is ∙ new))
+            (n.place ≡ Cur) ⊎ IsFromNew t k x o
+        keeps-place n naming same new call = elim fits.stage.at [
+          | inl is ↦ inr (from-new o n naming call (is ∙ new))
           | inr is ↦ inl (same ∙ is.1)
         ]
 
@@ -275,7 +275,7 @@ module _ (t : Story) (story : IsStory t) (k : ℕ) (x : Step) (is : step_at t k 
 
           -- a message is renamed to a path of its name
           renames : (n : Path) → made folder u place row p ≡ rename o n → is_message n ≡ true → unique_of row.name ≡ unique_of n.name →
-              (folder ≡ n.folder) ⊎ IsMove c → (n.place ≡ Cur) ⊎ (LooksInBoth c × IsFromNew t k x o) → Rearranges t k x c
+              (folder ≡ n.folder) ⊎ IsMove c → (n.place ≡ Cur) ⊎ IsFromNew t k x o → Rearranges t k x c
           renames n is_rename mn same =
               moves (made folder u place row p) did plain o n there.0
               (subst (λ (s : State). Moves (state t k) s o n there.0) (sym (leaves (rename o n) reply.Ok (did ∙ ap asked is_rename) ok))
@@ -298,7 +298,7 @@ module _ (t : Story) (story : IsStory t) (k : ℕ) (x : Step) (is : step_at t k 
       done (Move to) fits did ok =
           let n : Path = path_of to place row.name in
           renames (Move to) fits did ok n refl (message (Move to) fits did) refl (inr (subst IsMove (sym fits.of) tt))
-          (keeps-place (Move to) fits did (subst LooksInBoth (sym fits.of) tt) n naming.Rename refl refl
+          (keeps-place (Move to) fits did n naming.Rename refl refl
           (called (Move to) fits did (rename o n) refl))
       done (Copy to fresh) fits did ok =
           let name = copy-named (state t k) c folder u to fresh place row tries fits in
@@ -307,7 +307,7 @@ module _ (t : Story) (story : IsStory t) (k : ℕ) (x : Step) (is : step_at t k 
           copies (link o n) did tt o n (there (Copy to fresh) fits did ok).0 refl ok (there (Copy to fresh) fits did ok).1
           (unused (state t k) c folder u to fresh place row tries fits) (message (Copy to fresh) fits did)
           (and_from _ _ (ap not (not-tmp (Copy to fresh) place fits.stage.at)) name.message) makes (never (unique_of n.name) makes)
-          (keeps-place (Copy to fresh) fits did (subst LooksInBoth (sym fits.of) tt) n naming.Link refl refl
+          (keeps-place (Copy to fresh) fits did n naming.Link refl refl
           (called (Copy to fresh) fits did (link o n) refl))
       done Expunge fits did ok =
           let trashed = acts-trashed (flags_of (info_in row.name)) fits.stage.acts in

@@ -42,10 +42,9 @@ pub record KeepsPaths (t : Story) (k : ℕ) (x : Step) (own : List ℕ → Type 
   pub unmade : owed.MadeAgain (next_at t k x) → ⊥
   pub one_file : owed.UsedAgain (next_at t k x) → ⊥
   pub unnamed : owed.NamedByAnother (next_at t k x) → ⊥
-  pub not_back : owed.MovedBack (next_at t k x) → ⊥
+  pub not_back : MovedBack (next_at t k x) → ⊥
   pub there : Gone (next_at t k x) → ⊥
   pub unused : (may clause.UsedAgain → ⊥) → UsedAgain (next_at t k x) → ⊥
-  pub in_place : (may clause.MovedBack → ⊥) → MovedBack (next_at t k x) → ⊥
   pub not_early : (may clause.CleanedEarly → ⊥) → CleanedEarly (next_at t k x) → ⊥
   pub brings : (v : List ℕ) → (own v → ⊥) → BringsAbout t k v → ⊥
 
@@ -72,14 +71,9 @@ widens t k x own own' may may' its wide keeps = record {
   not_back = keeps.not_back;
   there = keeps.there;
   unused = λ not. keeps.unused (λ m. not (wide clause.UsedAgain m));
-  in_place = λ not. keeps.in_place (λ m. not (wide clause.MovedBack m));
   not_early = λ not. keeps.not_early (λ m. not (wide clause.CleanedEarly m));
   brings = λ v not. keeps.brings v (λ o. not (its v o));
 }
-
--- what breaks no clause of messages that were in cur does what is owed
-back-by : (h : History) → (MovedBack h → ⊥) → owed.MovedBack h → ⊥
-back-by h not back = not (back.0, back.1, back.2, back.3, back.4, back.5)
 
 -- what was so once of one thing was so of what follows from it
 pub once-map : (P Q : History → Type 0) → ((m : History) → P m → Q m) → (h : History) → Once P h → Once Q h
@@ -266,10 +260,9 @@ module _ (t : Story) (story : IsStory t) (k : ℕ) (x : Step) (is : step_at t k 
         unmade = made-none;
         one_file = used-none;
         unnamed = names-made;
-        not_back = back-by h names-none;
+        not_back = names-none;
         there = takes-none;
         unused = λ _. adds-none;
-        in_place = λ _. names-none;
         not_early = λ _. cleans-own;
         brings = brings-none;
       }
@@ -345,10 +338,9 @@ module _ (t : Story) (story : IsStory t) (k : ℕ) (x : Step) (is : step_at t k 
         unmade = links-none;
         one_file = links-new;
         unnamed = names-linked;
-        not_back = back-by h names-new;
+        not_back = names-new;
         there = takes-no_message;
         unused = λ _. adds-new;
-        in_place = λ _. names-new;
         not_early = λ _. cleans-none;
         brings = brings-its_own;
       }
@@ -380,7 +372,7 @@ module _ (t : Story) (story : IsStory t) (k : ℕ) (x : Step) (is : step_at t k 
       keeps-clause clause.TwoNames not broken = no_two_names one broken
       keeps-clause clause.Gone not broken = keeps.there broken
       keeps-clause clause.UsedAgain not broken = keeps.unused not broken
-      keeps-clause clause.MovedBack not broken = keeps.in_place not broken
+      keeps-clause clause.MovedBack not broken = keeps.not_back broken
       keeps-clause clause.CleanedEarly not broken = keeps.not_early not broken
       keeps-clause clause.Unlisted not broken = rest.listed not broken
       keeps-clause clause.GaveUp not broken = gives-up-nothing t k x broken

@@ -23,7 +23,7 @@ use Rattle.md_law.specs.Messages.{IsSeen, IsThere, IsTrashed, IsMessageAt}
 use Rattle.md_law.specs.Owed as owed
 use Rattle.md_beside.specs.Story.{Story, Step, step_at, state, history}
 use Rattle.md_beside.specs.Beside.{IsStory, IsClean, BringsAbout}
-use Rattle.md_beside.specs.Jobs.{IsMove, LooksInBoth, AreUsedOnce, MayBreak}
+use Rattle.md_beside.specs.Jobs.{IsMove, AreUsedOnce, MayBreak}
 use Rattle.md_beside.proofs.Histories.{next_at, path-history, path-next}
 use Rattle.md_beside.proofs.Fresh.{NeverUsed}
 use Rattle.md_beside.proofs.KeepsPaths.{KeepsPaths, once-map, once-now, whole-by}
@@ -51,7 +51,7 @@ pub record Comes (t : Story) (k : ℕ) (x : Step) (c : Call) (p : Path) (n : ℕ
   pub message : is_message p ≡ true
   pub unique : ((unique_of from.name ≡ unique_of p.name) × ((from.folder ≡ p.folder) ⊎ IsMove c))
       ⊎ (MakesMessage c (unique_of p.name) × NeverUsed t k (unique_of p.name))
-  pub place : (p.place ≡ Cur) ⊎ (LooksInBoth c × IsFromNew t k x from)
+  pub place : (p.place ≡ Cur) ⊎ IsFromNew t k x from
 
 -- a message that leaves a path is trashed and unlinked, or its file is a message of the name elsewhere
 abbrev pub Goes : Story → ℕ → Step → Path → ℕ → Type 0
@@ -173,16 +173,10 @@ module _ (t : Story) (story : IsStory t) (k : ℕ) (x : Step) (is : step_at t k 
       from : Comes t k x c p n
       from = named p n names
 
-  back-none : (LooksInBoth c → ⊥) → MovedBack h → ⊥
-  back-none not (p, n, names, message, in_new, was) = elim (named p n names).place [
-    | inl in_cur ↦ (let clash = sym in_cur ∙ in_new in cc)
-    | inr both ↦ not both.0
-  ]
-
-  moved-none : owed.MovedBack h → ⊥
+  moved-none : MovedBack h → ⊥
   moved-none (p, n, names, message, in_new, was, otherwise) = elim (named p n names).place [
     | inl in_cur ↦ (let clash = sym in_cur ∙ in_new in cc)
-    | inr (both, (from_new, naming, new, r, call)) ↦
+    | inr (from_new, naming, new, r, call) ↦
         otherwise naming (named p n names).from new r call (named p n names).was_message from_new
   ]
 
@@ -210,7 +204,6 @@ module _ (t : Story) (story : IsStory t) (k : ℕ) (x : Step) (is : step_at t k 
     not_back = moved-none;
     there = gone-none;
     unused = λ not. again-none not files;
-    in_place = back-none;
     not_early = cleans-none;
     brings = brings-none;
   }

@@ -18,7 +18,7 @@ use Rattle.md_log.specs.declared.line.Naming.TheVariants as naming
 use Rattle.md_log.specs.declared.line.Reply.{Reply}
 use Rattle.md_law.specs.History.{at, IsCall}
 use Rattle.md_law.specs.Messages.{IsMessageAt}
-use Rattle.md_law.specs.Owed.{MovedBack}
+use Rattle.md_law.specs.Clauses.{MovedBack}
 use Rattle.md_beside.specs.Story.{Story, Step, Did, asked, wrote, flushed, step_at, after_did, after_write, state, history, call_seen, reply_seen}
 use Rattle.md_beside.specs.Beside.{IsStory}
 use Rattle.md_beside.proofs.Histories.{next_at, state-more, path-history, path-next}

@@ -83,7 +83,7 @@ pub record Owes (h : History) : Type 0 where
   -- to copies, whose messages share a file
   pub unwritten : owed.Rewritten h → ⊥
   -- to moves and copies, which look in new and then in cur
-  pub not_back : owed.MovedBack h → ⊥
+  pub not_back : law.MovedBack h → ⊥
   -- to moves, which use no name again then
   pub unused : owed.UsedAgain h → ⊥
   -- to cleans

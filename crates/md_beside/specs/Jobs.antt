@@ -70,7 +70,7 @@ pub record AreSparing (t : Story) : Type 0 where
 
 -- the others name no message in new that was read, unless it comes from new
 abbrev pub AreForward : Story → Type 0
-AreForward = Others (λ h. owed.MovedBack h → ⊥)
+AreForward = Others (λ h. law.MovedBack h → ⊥)
 
 -- the others use no unique name again
 abbrev pub AreUsedOnce : Story → Type 0
@@ -78,13 +78,12 @@ AreUsedOnce = Others (λ h. owed.UsedAgain h → ⊥)
 
 -- ---- the law
 
--- Which clauses a step of a job may break. A delivery doesn't flush what it delivers. A Move and a Copy leave a message in new that is
--- there, also where a copy of it was read; and as they look in new before cur, they may miss a message that goes from cur to new. A Move
--- may bring a message to a folder that had another of its name, where the others use names again. A clean may take a young file away that
--- has the name of an old one, or was written to since it was listed, where others make names again or write late, or clocks are apart.
+-- Which clauses a step of a job may break. A delivery doesn't flush what it delivers. A Move and a Copy look in new before cur, and so may
+-- miss a message that goes from cur to new. A Move may bring a message to a folder that had another of its name, where the others use names
+-- again. A clean may take a young file away that has the name of an old one, or was written to since it was listed, where others make names
+-- again or write late, or clocks are apart.
 abbrev pub MayBreak : Story → Call → Clause → Type 0
 MayBreak t c clause.NotFlushed = IsDelivery c
-MayBreak t c clause.MovedBack = LooksInBoth c
 MayBreak t c clause.Unlisted = LooksInBoth c
 MayBreak t c clause.UsedAgain = IsMove c × (AreUsedOnce t → ⊥)
 MayBreak t c clause.CleanedEarly = IsClean c × (AreTimely t → ⊥)

@@ -105,11 +105,11 @@ impl FileFacts {
         self.seen == 0 && self.is_unflushed
     }
 
-    /// Whether a path of a message in this place moves it back from cur to new.
-    pub fn is_back(&self, place: Place) -> bool
-        ensures { IsTrue result ↔ ((place ≡ Place.New) × (self.now.was_cur ≡ true)) }
+    /// Whether a path of a message in this place moves it back from cur to new, by a link or rename of a message in new or otherwise.
+    pub fn is_back(&self, place: Place, from_new: bool) -> bool
+        ensures { IsTrue result ↔ ((place ≡ Place.New) × (self.now.was_cur ≡ true) × (from_new ≢ true)) }
     {
-        place == Place::New && self.was_cur
+        place == Place::New && self.was_cur && !from_new
     }
 
     /// Whether another actor made it, or none.

@@ -1,5 +1,5 @@
 -- The message on which a call acts, as it is kept, is the one of the log.
-use Rattle.std.proofs.Common.{ℕ, ◌≡◌, ◌/◌, ◌%◌, Bool, true, false, cond, ◌&&◌, not, nat_eq, List, Option, Some, None, slice_get, refl, sym, ap, subst, ◌∙◌, arith}
+use Rattle.std.proofs.Common.{ℕ, ◌≡◌, ◌/◌, ◌%◌, ◌⊎◌, inl, inr, Bool, true, false, cond, ◌&&◌, not, nat_eq, List, Option, Some, None, slice_get, refl, sym, ap, subst, ◌∙◌, arith}
 use Rattle.std.specs.Prelude.{unwrap_or}
 use Rattle.std.specs.Option.{option_map}
 use Rattle.std.proofs.lemmas.Bool.{eq-eqb, false≢true}
@@ -13,16 +13,57 @@ use Rattle.md_log.specs.declared.line.Call.{Call}
 use Rattle.md_log.specs.declared.line.Call.TheVariants as call
 use Rattle.md_log.specs.declared.line.Deed.TheVariants as deed
 use Rattle.md_log.specs.declared.line.Reply.{Reply}
+use Rattle.md_log.specs.declared.line.Reply.TheVariants as reply
 use Rattle.md_clauses.specs.declared.changes.Spot.{Spot}
 use Rattle.md_judge.specs.declared.judge.known.Act.{Act}
 use Rattle.md_judge.specs.declared.judge.tables.Names.{Names}
-use Rattle.md_judge.specs.Actors.{reply_to_name, acted_at, acted}
-use Rattle.md_judge.specs.Acts.{NamesFirst}
+use Rattle.md_judge.specs.Actors.{reply_to_name, reply_if_done, reply_to_target, acted_at, acted_by, IsActed, ActsByPath}
+use Rattle.md_judge.specs.Acts.{IsSpotAt, NamesPaths}
 use Rattle.md_judge.specs.Files.{unique_from, unique_by, unique_in}
 use Rattle.md_judge.specs.Names.{StandFor}
 use Rattle.md_judge.specs.Recalled.{IsSpotOf}
 use Rattle.md_law.specs.Messages.{is_tmp, is_message, IsOf}
 use Rattle.md_judge.specs.Told.{ActsOn}
+use Rattle.md_judge.proofs.Reopened.{one-number}
+
+-- ---- whether a call acts on a message, and its reply
+
+pub acted-or-not : (o : Option ((ℕ × ℕ) × Reply)) (k : ℕ × ℕ) → ((r : Reply) × IsActed o k r) ⊎ ((r : Reply) → IsActed o k r → ⊥)
+acted-or-not None k = inr (λ r is. cc is)
+acted-or-not (Some it) k = elim (one-number it.0.0 k.0) [
+  | inr away ↦ inr (λ r is. away (ap (λ (o : Option ((ℕ × ℕ) × Reply)). (unwrap_or o it).0.0) is))
+  | inl f ↦ elim (one-number it.0.1 k.1) [
+    | inr away ↦ inr (λ r is. away (ap (λ (o : Option ((ℕ × ℕ) × Reply)). (unwrap_or o it).0.1) is))
+    | inl u ↦ inl (it.1, λ i. Some ((f i, u i), it.1))
+  ]
+]
+
+-- the reply of a call that acts by a path
+reply-of : (names : Names) (o : Option Spot) (q : Option Reply) (k : ℕ × ℕ) (e : Reply) → IsActed (acted_by names o q) k e → q ≡ Some e
+reply-of names None q k e is = absurd (cc is)
+reply-of names (Some s) None k e is = absurd (cc is)
+reply-of names (Some s) (Some r) k e is = by (unique_in names s) is
+  where
+    reply_in : Option ((ℕ × ℕ) × Reply) → Option Reply
+    reply_in None = None
+    reply_in (Some on) = Some on.1
+
+    by : (u : Option ℕ) → option_map {U = (ℕ × ℕ) × Reply} (λ n. ((s.folder, n), r)) u ≡ Some (k, e)
+        → ◌≡◌ {A = Option Reply} (Some r) (Some e)
+    by None is = absurd (cc is)
+    by (Some n) is = ap (λ (v : Option ((ℕ × ℕ) × Reply)). reply_in v) is
+
+one-answer : (c : Call) (r e : Reply) → reply_to_name c ≡ Some r → reply_to_target c ≡ Some e → r ≡ e
+one-answer (call.Between n p q reply.Ok) r e first second = let one : r ≡ reply.Ok = cc in let other : e ≡ reply.Ok = cc in one ∙ sym other
+one-answer (call.Between n p q x) r e first second = absurd (cc second)
+one-answer c r e first second = absurd (cc second)
+
+-- by both of its paths a call is answered alike
+pub both-answers : (names : Names) (act : Act) (c : Call) (k m : ℕ × ℕ) (r e : Reply)
+    → IsActed (acted_by names act.spot (reply_to_name c)) k r
+    → IsActed (acted_by names act.target (reply_to_target c)) m e → r ≡ e
+both-answers names act c k m r e first second = one-answer c r e (reply-of names act.spot (reply_to_name c) k r first)
+    (reply-of names act.target (reply_to_target c) m e second)
 
 -- ---- the number of a path's unique name
 
@@ -102,50 +143,96 @@ module _ (names : Names) where
       ap (λ (f : ℕ). Some ((f, u), r)) (of.folder ∙ mine.1) ∙ ap (λ (q : Reply). Some ((folder, u), q)) reply,
     )
 
-  module _ (spot : Option Spot) where
+  module _ (act : Act) where
+    -- what is said of a call of the act, and what a call of it says
     abbrev Names-it : Call → Type 0
-    Names-it c = (k : ℕ × ℕ) (r : Reply) → acted names spot c ≡ Some (k, r)
+    Names-it c = (k : ℕ × ℕ) (r : Reply) → ActsByPath names act c k r
         → (unique : List ℕ) × (slice_get names.uniques k.1 ≡ Some unique) × ActsOn c k.0 unique r
 
     abbrev It-names : Call → Type 0
     It-names c = (folder : ℕ) (unique : List ℕ) (e : Reply) → ActsOn c folder unique e
-        → (u : ℕ) × (slice_get names.uniques u ≡ Some unique) × (acted names spot c ≡ Some ((folder, u), e))
+        → (u : ℕ) × (slice_get names.uniques u ≡ Some unique) × ActsByPath names act c (folder, u) e
 
-    none-names : (c : Call) → reply_to_name c ≡ None → (o : Option Spot) → acted names o c ≡ None
-    none-names c none None = refl
-    none-names c none (Some s) = ap (acted_at names s) none
+    -- a call that acts by no path
+    none-by : (o : Option Spot) (r : Option Reply) → r ≡ None → acted_by names o r ≡ None
+    none-by None r none = refl
+    none-by (Some s) r none = ap (acted_at names s) none
 
-    no-names : (c : Call) → reply_to_name c ≡ None → Names-it c
-    no-names c none k r on = absurd (let no : None ≡ Some (k, r) = sym (none-names c none spot) ∙ on in cc no)
+    no-names : (c : Call) → reply_to_name c ≡ None → reply_to_target c ≡ None → Names-it c
+    no-names c first second k r on = elim on [
+      | inl is ↦ absurd (let no : None ≡ Some (k, r) = sym (none-by act.spot (reply_to_name c) first) ∙ is in cc no)
+      | inr is ↦ absurd (let no : None ≡ Some (k, r) = sym (none-by act.target (reply_to_target c) second) ∙ is in cc no)
+    ]
 
-    at-of : (c : Call) (p : Path) (s : Spot) (r : Reply) → reply_to_name c ≡ Some r → spot ≡ Some s
-        → acted names spot c ≡ option_map (On s r) (unique_in names s)
-    at-of c p s r replied at = ap (λ o. acted names o c) at ∙ ap (acted_at names s) replied
+    -- a call that acts by a path of a spot, where it is answered so
+    by-of : (s : Spot) (o : Option Spot) (r : Reply) (q : Option Reply) → q ≡ Some r → o ≡ Some s
+        → acted_by names o q ≡ option_map (On s r) (unique_in names s)
+    by-of s o r q replied at = ap (λ v. acted_by names v q) at ∙ ap (acted_at names s) replied
 
-    pub acts-on : (act : Act) → act.spot ≡ spot → (c : Call) → NamesFirst names c act → Names-it c
-    acts-on act same (call.At deed.Create p r) first = no-names (call.At deed.Create p r) refl
-    acts-on act same (call.At deed.Write p r) first = no-names (call.At deed.Write p r) refl
-    acts-on act same (call.At deed.Flush p r) first = no-names (call.At deed.Flush p r) refl
-    acts-on act same (call.At deed.Unlink p r) first = λ k e on.
-        let it = names-it p first.0 first.2 r (unique_in names first.0) (path-unique p first.0 first.2) k e
-        (sym (at-of (call.At deed.Unlink p r) p first.0 r refl (sym same ∙ first.1)) ∙ on) in
-        (it.0, it.1, (it.2, it.3))
-    acts-on act same (call.Between n p q r) first = λ k e on.
-        let it = names-it p first.0 first.2 r (unique_in names first.0) (path-unique p first.0 first.2) k e
-        (sym (at-of (call.Between n p q r) p first.0 r refl (sym same ∙ first.1)) ∙ on) in
-        (it.0, it.1, (it.2, it.3))
-    acts-on act same (call.List f place r shown) first = no-names (call.List f place r shown) refl
-    acts-on act same (call.Answer said f unique) first = no-names (call.Answer said f unique) refl
+    -- a link or rename acts by its second path only where it is done
+    done-reply : (r : Reply) (k : ℕ × ℕ) (e : Reply) (s : Spot) (o : Option Spot) → o ≡ Some s
+        → acted_by names o (reply_if_done r) ≡ Some (k, e) → r ≡ reply.Ok
+    done-reply reply.Ok k e s o at is = refl
+    done-reply r k e s o at is = absurd (let no : None ≡ Some (k, e) = sym (none-by o None refl) ∙ is in cc no)
 
-    pub on-acts : (act : Act) → act.spot ≡ spot → (c : Call) → NamesFirst names c act → It-names c
-    on-acts act same (call.At deed.Create p r) first = λ f w e on. absurd on
-    on-acts act same (call.At deed.Write p r) first = λ f w e on. absurd on
-    on-acts act same (call.At deed.Flush p r) first = λ f w e on. absurd on
-    on-acts act same (call.At deed.Unlink p r) first = λ f w e on.
-        let it = it-names p first.0 first.2 r (unique_in names first.0) (path-unique p first.0 first.2) f w e on.0 on.1 in
-        (it.0, it.1, at-of (call.At deed.Unlink p r) p first.0 r refl (sym same ∙ first.1) ∙ it.2)
-    on-acts act same (call.Between n p q r) first = λ f w e on.
-        let it = it-names p first.0 first.2 r (unique_in names first.0) (path-unique p first.0 first.2) f w e on.0 on.1 in
-        (it.0, it.1, at-of (call.Between n p q r) p first.0 r refl (sym same ∙ first.1) ∙ it.2)
-    on-acts act same (call.List f place r shown) first = λ g w e on. absurd on
-    on-acts act same (call.Answer said f unique) first = λ g w e on. absurd on
+    of-first : (p : Path) (r : Reply) (c : Call) → reply_to_name c ≡ Some r → IsSpotAt names p act.spot → (k : ℕ × ℕ) (e : Reply)
+        → IsActed (acted_by names act.spot (reply_to_name c)) k e
+        → (unique : List ℕ) × (slice_get names.uniques k.1 ≡ Some unique) × IsOf p k.0 unique × (r ≡ e)
+    of-first p r c replied at k e is = names-it p at.0 at.2 r (unique_in names at.0) (path-unique p at.0 at.2) k e
+        (sym (by-of at.0 act.spot r (reply_to_name c) replied at.1) ∙ is)
+
+    first-of : (p : Path) (r : Reply) (c : Call) → reply_to_name c ≡ Some r → IsSpotAt names p act.spot → (folder : ℕ) (unique : List ℕ)
+        (e : Reply) → IsOf p folder unique → r ≡ e
+        → (u : ℕ) × (slice_get names.uniques u ≡ Some unique) × IsActed (acted_by names act.spot (reply_to_name c)) (folder, u) e
+    first-of p r c replied at folder unique e of same =
+        let it = it-names p at.0 at.2 r (unique_in names at.0) (path-unique p at.0 at.2) folder unique e of same in
+        (it.0, it.1, by-of at.0 act.spot r (reply_to_name c) replied at.1 ∙ it.2)
+
+    -- the message on which a call acts, as it is kept, is one on which it acts in the log
+    pub acts-on : (c : Call) → NamesPaths names c act → Names-it c
+    acts-on (call.At deed.Create p r) named = no-names (call.At deed.Create p r) refl refl
+    acts-on (call.At deed.Write p r) named = no-names (call.At deed.Write p r) refl refl
+    acts-on (call.At deed.Flush p r) named = no-names (call.At deed.Flush p r) refl refl
+    acts-on (call.At deed.Unlink p r) named = λ k e on. elim on [
+      | inl is ↦ let it = of-first p r (call.At deed.Unlink p r) refl named.0 k e is in (it.0, it.1, (it.2, it.3))
+      | inr is ↦ absurd (let no : None ≡ Some (k, e) = sym (none-by act.target None refl) ∙ is in cc no)
+    ]
+    acts-on (call.Between n p q r) named = λ k e on. elim on [
+      | inl is ↦ let it = of-first p r (call.Between n p q r) refl named.0 k e is in (it.0, it.1, (inl it.2, it.3))
+      | inr is ↦
+          let at = named.1 in
+          let done = done-reply r k e at.0 act.target at.1 is in
+          let it = names-it q at.0 at.2 r (unique_in names at.0) (path-unique q at.0 at.2) k e
+          (sym (by-of at.0 act.target r (reply_if_done r) (ap reply_if_done done ∙ ap Some (sym done)) at.1) ∙ is) in
+          (it.0, it.1, (inr (it.2, done), it.3))
+    ]
+    acts-on (call.List f place r shown) named = no-names (call.List f place r shown) refl refl
+    acts-on (call.Answer said f unique) named = no-names (call.Answer said f unique) refl refl
+
+    -- and the other way round
+    pub on-acts : (c : Call) → NamesPaths names c act → It-names c
+    on-acts (call.At deed.Create p r) named = λ f w e on. absurd on
+    on-acts (call.At deed.Write p r) named = λ f w e on. absurd on
+    on-acts (call.At deed.Flush p r) named = λ f w e on. absurd on
+    on-acts (call.At deed.Unlink p r) named = λ f w e on.
+        let it = first-of p r (call.At deed.Unlink p r) refl named.0 f w e on.0 on.1 in (it.0, it.1, inl it.2)
+    on-acts (call.Between n p q r) named = λ f w e on. elim on.0 [
+      | inl of ↦ let it = first-of p r (call.Between n p q r) refl named.0 f w e of on.1 in (it.0, it.1, inl it.2)
+      | inr of ↦
+          let at = named.1 in
+          let it = it-names q at.0 at.2 r (unique_in names at.0) (path-unique q at.0 at.2) f w e of.0 on.1 in
+          (it.0, it.1, inr (by-of at.0 act.target r (reply_if_done r) (ap reply_if_done of.1 ∙ ap Some (sym of.1)) at.1 ∙ it.2))
+    ]
+    on-acts (call.List f place r shown) named = λ g w e on. absurd on
+    on-acts (call.Answer said f unique) named = λ g w e on. absurd on
+
+    -- ---- whether a call acts on a message
+
+    pub acts-or-not : (c : Call) (k : ℕ × ℕ) → ((r : Reply) × ActsByPath names act c k r) ⊎ ((r : Reply) → ActsByPath names act c k r → ⊥)
+    acts-or-not c k = elim (acted-or-not (acted_by names act.spot (reply_to_name c)) k) [
+      | inl is ↦ inl (is.0, inl is.1)
+      | inr not ↦ elim (acted-or-not (acted_by names act.target (reply_to_target c)) k) [
+        | inl is ↦ inl (is.0, inr is.1)
+        | inr none ↦ inr (λ r on. elim on [ inl is ↦ not r is | inr is ↦ none r is ])
+      ]
+    ]

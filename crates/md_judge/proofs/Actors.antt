@@ -1,12 +1,15 @@
 -- What is kept of actors is what a log tells, step by step, as actors and messages get numbers.
-use Rattle.std.proofs.Common.{ℕ, suc, ◌≡◌, ◌↔◌, ◌<◌, ◌≤◌, ◌⊎◌, inl, inr, List, [], ◌++◌, ◌∷◌, Option, Some, None, Bool, true, false, slice_get, length, refl, sym, ap, subst, ◌∙◌, arith}
+use Rattle.std.proofs.Common.{ℕ, suc, ◌≡◌, ◌↔◌, ◌<◌, ◌≤◌, ◌⊎◌, inl, inr, List, [], ◌++◌, ◌∷◌, Option, Some, None, Bool, true, false, not, slice_get, length, refl, sym, ap, subst, ◌∙◌, arith}
 use Rattle.std.specs.Prelude.{unwrap_or, if◌then◌else◌}
-use Rattle.std.proofs.lemmas.Bool.{cases_lt, false≢true}
+use Rattle.std.proofs.lemmas.Bool.{cases_lt, false≢true, and_parts, and_from}
 use Rattle.std.proofs.lemmas.Option.{slice_get_within, slice_get_cases}
 use Rattle.md_dirs.specs.declared.paths.Place.{Place}
+use Rattle.md_dirs.specs.declared.paths.Place.TheVariants.{Tmp, New, Cur}
 use Rattle.md_log.specs.declared.line.Call.{Call}
 use Rattle.md_log.specs.declared.line.Call.TheVariants as call
+use Rattle.md_log.specs.declared.line.Deed.TheVariants as deed
 use Rattle.md_log.specs.declared.line.Reply.{Reply}
+use Rattle.md_log.specs.declared.line.Reply.TheVariants as reply
 use Rattle.md_log.specs.declared.line.Said.{Said}
 use Rattle.md_log.specs.declared.line.Step.{Step}
 use Rattle.md_clauses.specs.declared.about.About.{About}
@@ -14,12 +17,13 @@ use Rattle.md_judge.specs.declared.judge.about.Actors.{Actors}
 use Rattle.std.specs.BTreeMap.{get, is_at, IsEmpty}
 use Rattle.std.specs.Map.{lookup}
 use Rattle.md_judge.specs.Listings.{message_cmp}
-use Rattle.md_judge.specs.Actors.{begun_by, done_by, moved_by, move_cmp, no_about, looked_of, looked_by, IsOther, SameAct, Tells, NotesAct, NotesLook, NotesMoves, HasTold, RecallsBegun, RecallsDone, LookedAt, MovedAt, MayStand, AreActing, IsUntold, HasUntold, UnlinksMessage, RecallsDeeds, MarksDeeds}
+use Rattle.md_judge.specs.Actors.{begun_by, done_by, moved_by, move_cmp, no_about, looked_of, looked_by, is_look, shows_names, IsOther, SameAct, Tells, NotesActs, NotesLook, NotesMoves, HasTold, RecallsBegun, RecallsDone, LookedAt, MovedAt, MayStand, AreActing, IsUntold, HasUntold, UnlinksMessage, RecallsDeeds, MarksDeeds}
 use Rattle.md_judge.specs.Claims.{IsLastLine}
 use Rattle.md_judge.specs.Law.{AddsMessage, ChangesMessage}
 use Rattle.md_judge.specs.Logs.{Log, Numbered}
 use Rattle.md_judge.specs.Open.{Listings}
-use Rattle.md_law.specs.Messages.{IsThere}
+use Rattle.md_law.specs.Messages.{is_tmp, IsThere}
+use Rattle.md_law.specs.Readings.{ShowsNames}
 use Rattle.md_judge.specs.Told.{at, IsStep, IsAnswer, ActsOn, Looks}
 use Rattle.md_judge.specs.Words.{AreApart, KeepWords}
 use Rattle.md_judge.proofs.Longer.{same-step}
@@ -289,9 +293,31 @@ no-looks (call.Between n p q r) none folder looks = looks
 no-looks (call.List f place r shown) none folder looks = none f place r shown refl
 no-looks (call.Answer said f unique) none folder looks = looks
 
--- what is one is answered so
-one-reply : (a b : (ℕ × ℕ) × Reply) → Some a ≡ Some b → a.1 ≡ b.1
-one-reply a b both = ap (λ (o : Option ((ℕ × ℕ) × Reply)). (unwrap_or o a).1) both
+-- a part of a reading looks at its folder where it is a look
+pub looks-in : (read folder : ℕ) (place : Place) (r : Reply) (shown : List (List ℕ))
+    → Looks (call.List read place r shown) folder ↔ ((is_look place r ≡ true) × (read ≡ folder))
+looks-in read folder place r shown = (
+  λ (same, outside, shows). (and_from (not (is_tmp place)) (shows_names r) (ap not outside) ((shows-is r).1 shows), same),
+  λ (look, same).
+      let both = and_parts (not (is_tmp place)) (shows_names r) look in
+      (same, outside-is place both.0, (shows-is r).0 both.1),
+)
+  where
+    outside-is : (p : Place) → not (is_tmp p) ≡ true → is_tmp p ≡ false
+    outside-is Tmp t = absurd (cc t)
+    outside-is New t = refl
+    outside-is Cur t = refl
+
+    shows-is : (e : Reply) → (shows_names e ≡ true) ↔ ShowsNames e
+    shows-is reply.Ok = (λ t. inl refl, λ s. refl)
+    shows-is reply.More = (λ t. inr refl, λ s. refl)
+    shows-is e = (λ t. absurd (cc), λ s. elim s [ inl is ↦ absurd (cc is) | inr is ↦ absurd (cc is) ])
+
+-- a call that acts on a message is answered one way
+one-reply : (c : Call) (folder : ℕ) (unique : List ℕ) (r e : Reply) → ActsOn c folder unique r → ActsOn c folder unique e → r ≡ e
+one-reply (call.At deed.Unlink p q) folder unique r e one other = sym one.1 ∙ other.1
+one-reply (call.Between n p o q) folder unique r e one other = sym one.1 ∙ other.1
+one-reply c folder unique r e one other = absurd one
 
 -- ---- a step
 
@@ -445,11 +471,13 @@ module _ (line : ℕ → ℕ) (actors uniques : List (List ℕ)) (l : Log) (i : 
 
   -- ---- a call on paths
 
-  module _ (none : NoAnswer) (on : Option ((ℕ × ℕ) × Reply))
-      -- the call acts on this message, or on none
-      (acts : (k : ℕ × ℕ) (r : Reply) → on ≡ Some (k, r) → (unique : List ℕ) × (slice_get uniques k.1 ≡ Some unique) × ActsOn x.call k.0 unique r)
-      (all : (folder : ℕ) (unique : List ℕ) (e : Reply) → ActsOn x.call folder unique e → (u : ℕ) × (slice_get uniques u ≡ Some unique) × (on ≡ Some ((folder, u), e)))
-      (unread : (folder : ℕ) → Looks x.call folder → ⊥) (apart' : AreApart uniques) (notes : NotesAct me now on begun new)
+  module _ (none : NoAnswer) (on : ℕ × ℕ → Reply → Type 0)
+      -- the call acts on these messages, and on no other
+      (acts : (k : ℕ × ℕ) (r : Reply) → on k r → (unique : List ℕ) × (slice_get uniques k.1 ≡ Some unique) × ActsOn x.call k.0 unique r)
+      (all : (folder : ℕ) (unique : List ℕ) (e : Reply) → ActsOn x.call folder unique e
+      → (u : ℕ) × (slice_get uniques u ≡ Some unique) × on (folder, u) e)
+      (either : (k : ℕ × ℕ) → ((r : Reply) × on k r) ⊎ ((r : Reply) → on k r → ⊥))
+      (unread : (folder : ℕ) → Looks x.call folder → ⊥) (apart' : AreApart uniques) (notes : NotesActs me now on begun new)
       -- with it these messages go
       (goes : ℕ × ℕ → ℕ → Type 0) (decided : (k : ℕ × ℕ) (to : ℕ) → goes k to ⊎ (goes k to → ⊥)) (moves : NotesMoves me now goes begun new)
       (goes-as : (folder u : ℕ) (unique : List ℕ) → MayStand uniques u unique → (to : ℕ)
@@ -459,47 +487,33 @@ module _ (line : ℕ → ℕ) (actors uniques : List (List ℕ)) (l : Log) (i : 
     acted-on n actor folder u unique stands stands' = elim (of-others n actor stands) [
       | inr away ↦ done-next n actor folder u unique stands stands' (no-answer none actor folder unique) (λ own _ _. away.1 own)
           (notes.others n (folder, u) (λ same _ _. away.0 same))
-      | inl own ↦ by own.0 own.1 on refl
+      | inl own ↦ elim (either (folder, u)) [ inl (r, on-this) ↦ acted own.0 own.1 r on-this | inr quiet ↦ still quiet ]
     ]
       where
-        quiet : (o : Option ((ℕ × ℕ) × Reply)) → on ≡ o → ((r : Reply) → o ≡ Some ((folder, u), r) → ⊥)
-            → RecallsDone line l (suc i) actor folder unique (done_by new n (folder, u))
-        quiet o on-is apart'' = done-next n actor folder u unique stands stands' (no-answer none actor folder unique)
+        still : ((r : Reply) → on (folder, u) r → ⊥) → RecallsDone line l (suc i) actor folder unique (done_by new n (folder, u))
+        still quiet = done-next n actor folder u unique stands stands' (no-answer none actor folder unique)
             (λ _ e on-this.
             let had = all folder unique e on-this in
             elim (one-word uniques apart' had.0 unique had.1 u unique stands') [
-              | inl same ↦ apart'' e (sym on-is ∙ had.2 ∙ ap (λ (v : ℕ). Some ((folder, v), e)) (sym same.0))
+              | inl same ↦ quiet e (subst (λ (v : ℕ). on (folder, v) e) (sym same.0) had.2)
               | inr away ↦ away.1 refl
             ])
-            (notes.others n (folder, u) (λ _ r is-on. apart'' r (sym on-is ∙ is-on)))
+            (notes.others n (folder, u) (λ _ r is-on. quiet r is-on))
 
-        by : n ≡ me → x.actor ≡ actor → (o : Option ((ℕ × ℕ) × Reply)) → on ≡ o
+        acted : n ≡ me → x.actor ≡ actor → (r : Reply) → on (folder, u) r
             → RecallsDone line l (suc i) actor folder unique (done_by new n (folder, u))
-        by same own None on-is = quiet None on-is (λ r e. cc e)
-        by same own (Some it) on-is = elim (one-number it.0.0 folder) [
-          | inr away ↦ quiet (Some it) on-is (λ r e. away (ap (λ (o : Option ((ℕ × ℕ) × Reply)). (unwrap_or o it).0.0) e))
-          | inl f ↦ elim (one-number it.0.1 u) [
-            | inr away ↦ quiet (Some it) on-is (λ r e. away (ap (λ (o : Option ((ℕ × ℕ) × Reply)). (unwrap_or o it).0.1) e))
-            | inl v ↦
-                let r = it.1 in
-                let on-this : on ≡ Some ((folder, u), r) = on-is ∙ ap (λ (g : ℕ). Some ((g, it.0.1), r)) f ∙ ap (λ (w : ℕ). Some ((folder, w), r)) v in
-                let act = acts (folder, u) r on-this in
-                let unique-is : act.0 ≡ unique = elim (one-word uniques apart' u act.0 act.1 u unique stands') [
-                  | inl both ↦ both.1
-                  | inr away ↦ absurd (away.0 refl)
-                ] in
-                let on-it : ActsOn x.call folder unique r = subst (λ (w : List ℕ). ActsOn x.call folder w r) unique-is act.2 in
-                let noted = notes.here (folder, u) r on-this in
-                subst (λ (a : ℕ). RecallsDone line l (suc i) actor folder unique (done_by new a (folder, u))) (sym same)
-                (done-acts line l i x is actor folder unique own (no-answer none actor folder unique) r on-it
-                (λ e also.
-                let had = all folder unique e also in
-                let both : Some ((folder, u), r) ≡ Some ((folder, had.0), e) = sym on-this ∙ had.2 in
-                let one : r ≡ e = one-reply ((folder, u), r) ((folder, had.0), e) both in
-                one)
-                (done_by new me (folder, u)) (noted.0 ∙ here) noted.1)
-          ]
-        ]
+        acted same own r on-this =
+            let act = acts (folder, u) r on-this in
+            let unique-is : act.0 ≡ unique = elim (one-word uniques apart' u act.0 act.1 u unique stands') [
+              | inl both ↦ both.1
+              | inr away ↦ absurd (away.0 refl)
+            ] in
+            let on-it : ActsOn x.call folder unique r = subst (λ (w : List ℕ). ActsOn x.call folder w r) unique-is act.2 in
+            let noted = notes.here (folder, u) r on-this in
+            subst (λ (a : ℕ). RecallsDone line l (suc i) actor folder unique (done_by new a (folder, u))) (sym same)
+            (done-acts line l i x is actor folder unique own (no-answer none actor folder unique) r on-it
+            (λ e also. one-reply x.call folder unique r e on-it also)
+            (done_by new me (folder, u)) (noted.0 ∙ here) noted.1)
 
     pub acting-called : m' ≡ m → (A C U : ℕ × ℕ → Type 0) → MarksDeeds me A C U begun new
         → ((folder u : ℕ) (unique : List ℕ) → MayStand uniques u unique
@@ -519,9 +533,9 @@ module _ (line : ℕ → ℕ) (actors uniques : List (List ℕ)) (l : Log) (i : 
   -- ---- a reading
 
   pub acting-read : NoAnswer → at l (suc i) ≡ at l i → ((folder : ℕ) (unique : List ℕ) (e : Reply) → ActsOn x.call folder unique e → ⊥)
-      → new ≡ begun → (read : ℕ) → ((folder : ℕ) → Looks x.call folder ↔ (read ≡ folder)) → NotesLook me read now m m'
-      → AreActing line actors uniques l (suc i) new m'
-  acting-read none rests still same read reads notes = record {
+      → new ≡ begun → (read : ℕ) (look : Bool) → ((folder : ℕ) → Looks x.call folder ↔ ((look ≡ true) × (read ≡ folder)))
+      → NotesLook me read now look m m' → AreActing line actors uniques l (suc i) new m'
+  acting-read none rests still same read look reads notes = record {
     moves = move-still rests (ap (λ (w : Actors). w.moved) same);
     begun = begun-next none (λ a k. ap (λ (w : Actors). begun_by w a k) same);
     done = λ n actor folder u unique stands stands'. done-next n actor folder u unique stands stands' (no-answer none actor folder unique)
@@ -532,22 +546,30 @@ module _ (line : ℕ → ℕ) (actors uniques : List (List ℕ)) (l : Log) (i : 
     deeds = λ n actor folder u unique stands stands'. deeds-still rests n actor folder u unique stands stands'
         (no-answer none actor folder unique) (ap (λ (w : Actors). done_by w n (folder, u)) same);
     looks = λ n actor folder stands. elim (of-others n actor stands) [
-      | inr away ↦ unseen n actor folder stands (λ own _. away.1 own) (λ same _. away.0 same)
+      | inr away ↦ unseen n actor folder stands (λ own _. away.1 own) (λ _ same _. away.0 same)
       | inl own ↦ elim (one-number read folder) [
-        | inr away ↦ unseen n actor folder stands (λ _ looks. away ((reads folder).0 looks)) (λ _ f. away (sym f))
-        | inl f ↦
-            subst (λ (o : Option ℕ). IsLastLine line (LookedAt l (suc i) actor folder) o)
-            (sym (ap (λ (a : ℕ). looked_by m' a folder) own.0 ∙ ap (looked_by m' me) (sym f) ∙ notes.here ∙ ap Some here))
-            (looks-here line l i x is actor folder [] own.1 ((reads folder).1 f))
+        | inr away ↦ unseen n actor folder stands (λ _ does. away ((reads folder).0 does).1) (λ _ _ f. away (sym f))
+        | inl f ↦ looked n actor folder stands own f look refl
       ]
     ];
   }
     where
       unseen : (n : ℕ) (actor : List ℕ) (folder : ℕ) → MayStand actors n actor → (x.actor ≡ actor → Looks x.call folder → ⊥)
-          → (n ≡ me → folder ≡ read → ⊥) → IsLastLine line (LookedAt l (suc i) actor folder) (looked_by m' n folder)
+          → (look ≡ true → n ≡ me → folder ≡ read → ⊥) → IsLastLine line (LookedAt l (suc i) actor folder) (looked_by m' n folder)
       unseen n actor folder stands unread away =
           subst (λ (o : Option ℕ). IsLastLine line (LookedAt l (suc i) actor folder) o) (sym (notes.others n folder away))
           (looks-on line l i x is actor folder [] unread (looked_by m n folder) (are.looks n actor folder stands))
+
+      -- the actor's own reading of the folder, which is a look or not
+      looked : (n : ℕ) (actor : List ℕ) (folder : ℕ) → MayStand actors n actor → (n ≡ me) × (x.actor ≡ actor) → read ≡ folder → (b : Bool)
+          → look ≡ b → IsLastLine line (LookedAt l (suc i) actor folder) (looked_by m' n folder)
+      looked n actor folder stands own f true look-is =
+          subst (λ (o : Option ℕ). IsLastLine line (LookedAt l (suc i) actor folder) o)
+          (sym (ap (λ (a : ℕ). looked_by m' a folder) own.0 ∙ ap (looked_by m' me) (sym f) ∙ notes.here look-is ∙ ap Some here))
+          (looks-here line l i x is actor folder [] own.1 ((reads folder).1 (look-is, f)))
+      looked n actor folder stands own f false look-is =
+          let never : look ≡ true → ⊥ = λ is. false≢true (sym look-is ∙ is) in
+          unseen n actor folder stands (λ _ does. never ((reads folder).0 does).0) (λ is _ _. never is)
 
   -- ---- an answer
 

@@ -1,5 +1,5 @@
 -- What is told of paths at the beginning, before the first line and as lines put folders, files and names there.
-use Rattle.std.proofs.Common.{ℕ, zero, suc, ◌≡◌, ◌<◌, ◌≤◌, ◌+◌, ◌*◌, ◌^◌, inl, inr, Bool, true, false, cond, not, List, [], ◌++◌, ◌∷◌, Option, Some, None, Ok, is_some, length, max, slice_get, refl, sym, ap, subst, ◌∙◌, arith}
+use Rattle.std.proofs.Common.{ℕ, zero, suc, ◌≡◌, ◌<◌, ◌≤◌, ◌+◌, ◌*◌, ◌^◌, inl, inr, Bool, true, false, cond, not, List, [], ◌++◌, ◌∷◌, Option, Some, None, Ok, is_some, length, slice_get, refl, sym, ap, subst, ◌∙◌, arith}
 use Rattle.std.specs.Option.{option_map, option_and_then}
 use Rattle.std.specs.Ordering.{nat_cmp, eq_by_cmp}
 use Rattle.std.specs.Map.{lookup}
@@ -306,7 +306,7 @@ told-at line l i known told path spot of =
 
 -- a log after a line of a file, and after one of a further name
 abbrev with-file : Log → Path → ℕ → Log
-with-file l path stamp = record l { opening = with_new_file path (empty_file stamp) l.opening; clock = max l.clock stamp }
+with-file l path stamp = record l { opening = with_new_file path (empty_file stamp) l.opening }
 
 abbrev with-name : Log → Path → Path → Log
 with-name l path old = record l { opening = with_path path l.opening (file_at l.opening old) }

@@ -262,4 +262,4 @@ steps-folders (x ∷ xs) m = steps-folders xs (after_step m x) ∙ call-folders 
 
 -- no call changes how many there are
 pub folders-stay : (l : Log) (i : ℕ) → (at l i).folders ≡ l.opening.folders
-folders-stay l i = steps-folders (take i l.steps) (record { state = l.opening; now = l.clock })
+folders-stay l i = steps-folders (take i l.steps) (record { state = l.opening; now = 0 })

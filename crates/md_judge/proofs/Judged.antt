@@ -25,10 +25,10 @@ use Rattle.md_judge.specs.Acts.{Does, IsPathOf, Leads}
 use Rattle.md_judge.specs.Filed.{IsSeenBy, IsSeenTimes, IsFiled, HasFiles, AreFiled, IsJudged, BrokenByFiles, Acts, IsMadeBy, Recalls, RecallsLeft, IsAt, IsChange, BrokenAt, BrokenByChange}
 use Rattle.md_clauses.specs.Facts.{made}
 use Rattle.md_clauses.specs.Changes.{named_by}
-use Rattle.md_judge.specs.Files.{facts_at, AtStep, CallStep, ChangeStep}
+use Rattle.md_judge.specs.Files.{facts_at, is_from_new, AtStep, CallStep, ChangeStep}
 use Rattle.md_clauses.specs.Found.{Notes}
 use Rattle.md_judge.specs.Known.{EachPath, EachSpot, files_after}
-use Rattle.md_judge.specs.Law.{Turn, turn}
+use Rattle.md_judge.specs.Law.{Turn, turn, IsFromNew}
 use Rattle.md_judge.specs.Logs.{Log}
 use Rattle.md_judge.specs.Recalled.{IsSpotOf}
 use Rattle.md_law.specs.History.{ask_at, after_call}
@@ -37,6 +37,7 @@ use Rattle.md_judge.specs.Told.{moment, at, IsStep, IsUnflushed, IsCut}
 use Rattle.md_judge.proofs.Acting.{done-none}
 use Rattle.md_judge.proofs.Afters.{at-files, between-files, after-cases, append-paths}
 use Rattle.md_judge.proofs.Counting.{counted-some}
+use Rattle.md_judge.proofs.FromNew.{IsNewNamed, from-new, told-new}
 use Rattle.md_judge.proofs.Filing.{facts-there, next, IsHalf, half-idle, half-at, idle-other, no-unflushed, no-cut, no-cur, unborn}
 use Rattle.md_judge.proofs.Lawful.{change-lawful}
 use Rattle.md_judge.proofs.Lasting.{files-rise, cur-still, cur-next}
@@ -256,13 +257,15 @@ module _ (who : ℕ → List ℕ) (many : ℕ) (l : Log) (i : ℕ) (x : Step) (s
         )
 
     -- and it is what the clauses go by that a change of paths may break
-    pub is-change : IsChange path who many l i x actor now names c mid new
-    is-change = record {
+    pub is-change : (from_new : Bool) → (from_new ≡ true) ↔ IsFromNew (turn l i x)
+        → IsChange path who many l i x actor now names from_new c mid new
+    is-change from_new from = record {
       leads = leads;
       place = place;
       message = λ q n is. says-at (named_by c) q n (named-says path names c.turned c.added spots.1 spots.2) is;
       acts = acts;
       clock = refl;
+      from = from;
       named = λ q n is.
           let names-it = now-names path c s s' leads (path q) n (path-at (named_by c) q n is) in
           let low = file-within s'.files n (there-next (path q) n names-it.0) in
@@ -347,10 +350,14 @@ module _ (path : Spot → Path) (who : ℕ → List ℕ) (many : ℕ) (l : Log) 
     filed-call = filed-next who many l i x judged.step actor judged.acts old are path known.names act.change judged.done.leads judged.done.place
         judged.done.spots mid new between then
 
-    pub change-call : IsChange path who many l i x actor known.clock known.names act.change mid new
-    change-call = subst (λ now. IsChange path who many l i x actor now known.names act.change mid new) (sym judged.clock)
+    pub change-call : (from_new : Bool) → from_new ≡ is_from_new known.names c act.spot
+        → IsChange path who many l i x actor known.clock known.names from_new act.change mid new
+    change-call from_new same = subst (λ now. IsChange path who many l i x actor now known.names from_new act.change mid new) (sym judged.clock)
         (is-change who many l i x judged.step actor judged.acts old are path known.names act.change judged.done.leads judged.done.place
-        judged.done.spots mid new between then)
+        judged.done.spots mid new between then from_new
+        (subst (λ b. (b ≡ true) ↔ IsFromNew (turn l i x)) (sym same)
+        (subst (λ v. (is_from_new known.names c act.spot ≡ true) ↔ IsNewNamed v) (sym judged.call)
+        (from-new known.names c act judged.paths))))
 
 -- ---- a step that calls on no path
 
@@ -361,7 +368,7 @@ module _ (who : ℕ → List ℕ) (many : ℕ) (l : Log) (i : ℕ) (x : Step) (s
   no-change = record { taken = None; added = None; turned = None; is_unlink = false }
 
   abbrev no-act : Act
-  no-act = record { is_wrong = false; wrong_before = None; spot = None; file = None; change = no-change; turned_before = None }
+  no-act = record { is_wrong = false; wrong_before = None; spot = None; file = None; target = None; change = no-change; turned_before = None }
 
   still-done : Does names (turn l i x) no-act
   still-done = done-none names l i x no-act refl same other
@@ -382,9 +389,10 @@ module _ (who : ℕ → List ℕ) (many : ℕ) (l : Log) (i : ℕ) (x : Step) (s
   still-lawful c broken = elim ((files-broken (turn l i x) c).1 broken) [
     | inl at-call ↦ none-at (turn l i x) other c at-call
     | inr changed ↦
+        let from = told-new x.call in
         let is = is-change who many l i x step actor acts files are still-done.0 names no-change still-done.1.leads still-done.1.place (tt, tt, tt) files files
-        still-between still-does in
-        elim ((change-lawful still-done.0 who many l i x actor (moment l (suc i)).now names no-change files files is c).1 changed) [
+        still-between still-does from.0 from.1 in
+        elim ((change-lawful still-done.0 who many l i x actor (moment l (suc i)).now names from.0 no-change files files is c).1 changed) [
           | inl none ↦ none
           | inr left ↦ elim left [ inl none ↦ none | inr none ↦ none ]
         ]

@@ -57,7 +57,7 @@ files-step : (l : Log) (k : ℕ) → length (at l k).files ≤ length (at l (suc
 files-step l k = elim (slice_get_cases l.steps k).1 [
   | inl some ↦ rw (at-next l k some.0 some.2) (call-grows some.0.step.call (after_step (moment l k) some.0).now (at l k))
   | inr past ↦
-      let start : Moment = record { state = l.opening; now = l.clock } in
+      let start : Moment = record { state = l.opening; now = 0 } in
       let end = past.0 in
       let same : at l (suc k) ≡ at l k =
       ap (λ (xs : List Numbered). (fold after_step start xs).state) (take_all (suc k) l.steps (omega (arith, end)) ∙ sym (take_all k l.steps end)) in

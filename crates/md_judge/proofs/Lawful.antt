@@ -115,28 +115,29 @@ module _ (who : ℕ → List ℕ) (many : ℕ) (l : Log) (i : ℕ) (x : Step) (a
 
 -- ---- a change of paths
 
-module _ (path : Spot → Path) (who : ℕ → List ℕ) (many : ℕ) (l : Log) (i : ℕ) (x : Step) (actor now : ℕ) (names : Names) (c : Change)
-    (old new : List Filed) (is : IsChange path who many l i x actor now names c old new) where
+module _ (path : Spot → Path) (who : ℕ → List ℕ) (many : ℕ) (l : Log) (i : ℕ) (x : Step) (actor now : ℕ) (names : Names) (from_new : Bool)
+    (c : Change) (old new : List Filed) (is : IsChange path who many l i x actor now names from_new c old new) where
   -- a path comes to name a file
   module _ (spot : Spot) (n : ℕ) (f : FileFacts) (recalls : Recalls l i n f) where
     named-broken : (place : Place) (k : Clause) → spot.place ≡ place → is_message (path spot) ≡ true
-        → file_at (at l (suc i)) (path spot) ≡ Some n → file_at (at l i) (path spot) ≢ Some n → NamedFinds place (Some f) k → BrokenByChange (turn l i x) k
+        → file_at (at l (suc i)) (path spot) ≡ Some n → file_at (at l i) (path spot) ≢ Some n → NamedFinds from_new place (Some f) k
+        → BrokenByChange (turn l i x) k
     named-broken place clause.SeenBeforeWhole at-place shown there was found =
         (n, ((path spot, there, shown), λ seen. let some = recalls.seen.1 seen in let zero-is = found.0 in omega (arith, some, zero-is)), recalls.is_cut.0 found.1)
     named-broken place clause.NotFlushed at-place shown there was found =
         (n, ((path spot, there, shown), λ seen. let some = recalls.seen.1 seen in let zero-is = found.0 in omega (arith, some, zero-is)), recalls.is_unflushed.0 found.1)
     named-broken New clause.MovedBack at-place shown there was found =
-        (path spot, n, (there, was), shown, is.place spot ∙ at-place, recalls.was_cur.0 found)
+        (path spot, n, (there, was), shown, is.place spot ∙ at-place, recalls.was_cur.0 found.0, λ comes. found.1 (is.from.1 comes))
     named-broken place k at-place shown there was found = absurd found
 
-  name-broken : (k : Clause) (o : Option (Spot × ℕ)) → named_by c ≡ o → NameFinds names old o k → BrokenByChange (turn l i x) k
+  name-broken : (k : Clause) (o : Option (Spot × ℕ)) → named_by c ≡ o → NameFinds names from_new old o k → BrokenByChange (turn l i x) k
   name-broken k None is-named found = absurd found
   name-broken k (Some p) is-named found =
       let kept = is.named p.0 p.1 is-named in
       let of : IsPathOf path (named_by c) (path p.0) p.1 = subst (λ (o : Option (Spot × ℕ)). IsPathOf path o (path p.0) p.1) (sym is-named) (refl, refl) in
       let names-it = now-names path c (at l i) (at l (suc i)) is.leads (path p.0) p.1 of in
       named-broken p.0 p.1 kept.0 kept.2 p.0.place k refl (sym (is.message p.0 p.1 is-named) ∙ found.0) names-it.0 names-it.1
-      (subst (λ (o : Option FileFacts). NamedFinds p.0.place o k) kept.1 found.1)
+      (subst (λ (o : Option FileFacts). NamedFinds from_new p.0.place o k) kept.1 found.1)
 
   left-broken : (spot : Spot) (n : ℕ) (f : FileFacts) (place : Place) (k : Clause) → RecallsLeft who many l i n f → spot.place ≡ place
       → Leaves (turn l i x) (path spot) n → LeftFinds actor now place (Some f) k → BrokenByChange (turn l i x) k
@@ -168,7 +169,7 @@ module _ (path : Spot → Path) (who : ℕ → List ℕ) (many : ℕ) (l : Log) 
   leaves-of : (p : Path) (n : ℕ) → IsPathOf path c.taken p n ⊎ IsPathOf path (turned_by c) p n → Leaves (turn l i x) p n
   leaves-of p n of = now-leaves path c (at l i) (at l (suc i)) is.leads p n of
 
-  change-broken : (k : Clause) → ChangeFinds names actor now c old new k → BrokenByChange (turn l i x) k
+  change-broken : (k : Clause) → ChangeFinds names actor now from_new c old new k → BrokenByChange (turn l i x) k
   change-broken k found = elim found [
     | inl named ↦ name-broken k (named_by c) refl named
     | inr left ↦ elim left [
@@ -183,18 +184,20 @@ module _ (path : Spot → Path) (who : ℕ → List ℕ) (many : ℕ) (l : Log) 
   spot-of p n (Some a) is-named of = (a.0, is-named ∙ ap (λ (m : ℕ). Some (a.0, m)) of.1, of.0)
 
   name-found : (p : Path) (n : ℕ) (k : Clause) → file_at (at l (suc i)) p ≡ Some n → file_at (at l i) p ≢ Some n → is_message p ≡ true
-      → ((spot : Spot) (f : FileFacts) → path spot ≡ p → Recalls l i n f → NamedFinds spot.place (Some f) k) → ChangeFinds names actor now c old new k
+      → ((spot : Spot) (f : FileFacts) → path spot ≡ p → Recalls l i n f → NamedFinds from_new spot.place (Some f) k)
+      → ChangeFinds names actor now from_new c old new k
   name-found p n k there was shown finds =
       let of = names-now path c (at l i) (at l (suc i)) is.leads p n there was in
       let at-spot = spot-of p n (named_by c) refl of in
       let kept = is.named at-spot.0 n at-spot.1 in
       let message : is_message_in names at-spot.0 ≡ true = is.message at-spot.0 n at-spot.1 ∙ ap is_message at-spot.2 ∙ shown in
-      let found : NamedFinds at-spot.0.place (facts_at old n) k =
-      subst (λ (o : Option FileFacts). NamedFinds at-spot.0.place o k) (sym kept.1) (finds at-spot.0 kept.0 at-spot.2 kept.2) in
-      inl (subst (λ (o : Option (Spot × ℕ)). NameFinds names old o k) (sym at-spot.1) (message, found))
+      let found : NamedFinds from_new at-spot.0.place (facts_at old n) k =
+      subst (λ (o : Option FileFacts). NamedFinds from_new at-spot.0.place o k) (sym kept.1) (finds at-spot.0 kept.0 at-spot.2 kept.2) in
+      inl (subst (λ (o : Option (Spot × ℕ)). NameFinds names from_new old o k) (sym at-spot.1) (message, found))
 
   begins-found : (k : Clause) (n : ℕ) → BeginsToBeSeen (turn l i x) n
-      → ((spot : Spot) (f : FileFacts) → f.seen ≡ 0 → Recalls l i n f → NamedFinds spot.place (Some f) k) → ChangeFinds names actor now c old new k
+      → ((spot : Spot) (f : FileFacts) → f.seen ≡ 0 → Recalls l i n f → NamedFinds from_new spot.place (Some f) k)
+      → ChangeFinds names actor now from_new c old new k
   begins-found k n begins finds =
       let seen = begins.0 in
       name-found seen.0 n k seen.1 (λ there. begins.1 (seen.0, there, seen.2)) seen.2
@@ -225,15 +228,15 @@ module _ (path : Spot → Path) (who : ℕ → List ℕ) (many : ℕ) (l : Log) 
       subst (λ (place : Place). LeftFinds actor now place (facts_at new a.1) clause.CleanedEarly) (sym place-is)
       (subst (λ (o : Option FileFacts). LeftFinds actor now Tmp o clause.CleanedEarly) (sym facts-are) found)
 
-  change-found : (k : Clause) → BrokenByChange (turn l i x) k → ChangeFinds names actor now c old new k
+  change-found : (k : Clause) → BrokenByChange (turn l i x) k → ChangeFinds names actor now from_new c old new k
   change-found clause.SeenBeforeWhole broken =
       begins-found clause.SeenBeforeWhole broken.0 broken.1 (λ spot f zero-is recalls. (zero-is, recalls.is_cut.1 broken.2))
   change-found clause.NotFlushed broken =
       begins-found clause.NotFlushed broken.0 broken.1 (λ spot f zero-is recalls. (zero-is, recalls.is_unflushed.1 broken.2))
   change-found clause.MovedBack broken =
       name-found broken.0 broken.1 clause.MovedBack broken.2.0 broken.2.1 broken.3
-      (λ spot f same recalls. subst (λ (place : Place). NamedFinds place (Some f) clause.MovedBack)
-      (sym (sym (is.place spot) ∙ ap (λ (q : Path). q.place) same ∙ broken.4)) (recalls.was_cur.1 broken.5))
+      (λ spot f same recalls. subst (λ (place : Place). NamedFinds from_new place (Some f) clause.MovedBack)
+      (sym (sym (is.place spot) ∙ ap (λ (q : Path). q.place) same ∙ broken.4)) (recalls.was_cur.1 broken.5, λ t. broken.6 (is.from.0 t)))
   change-found clause.CleanedEarly broken =
       let cleans : CleansAt broken.0 broken.1 = (broken.2, broken.3, broken.4, broken.5, broken.6, broken.7, broken.8) in
       elim (leaves-now path c (at l i) (at l (suc i)) is.leads broken.0 broken.1 broken.4.0 broken.4.1) [
@@ -243,5 +246,5 @@ module _ (path : Spot → Path) (who : ℕ → List ℕ) (many : ℕ) (l : Log) 
   change-found k broken = absurd broken
 
   -- what is found at a change of paths by what is kept of files is what the law has
-  pub change-lawful : (k : Clause) → ChangeFinds names actor now c old new k ↔ BrokenByChange (turn l i x) k
+  pub change-lawful : (k : Clause) → ChangeFinds names actor now from_new c old new k ↔ BrokenByChange (turn l i x) k
   change-lawful k = (change-broken k, change-found k)

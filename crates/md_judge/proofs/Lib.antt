@@ -1,6 +1,7 @@
 pub mod Changing
 pub mod Spots
 pub mod Following
+pub mod FromNew
 pub mod Afters
 pub mod Named
 pub mod Notes

@@ -10,11 +10,12 @@ use Rattle.md_log.specs.declared.line.Reply.TheVariants as reply
 use Rattle.md_judge.specs.Listings.{message_cmp}
 use Rattle.md_judge.specs.Open.{Listings}
 use Rattle.md_judge.proofs.Keeping.{tied}
+use Rattle.md_judge.proofs.Acted.{acted-or-not}
 use Rattle.md_judge.proofs.Reopened.{one-number}
 use Rattle.md_clauses.specs.declared.about.About.{About}
 use Rattle.md_judge.specs.declared.judge.about.Actors.{Actors}
 use Rattle.md_judge.specs.declared.judge.about.Lines.{Lines}
-use Rattle.md_judge.specs.Actors.{kept, Puts, IsOther, no_about, done_by, lines_of, is_about, begun_by, looked_of, looked_by, IsAnswered, SameAct, KeepsActs, NotesAct, NotesLook, Tells, PutsAbout}
+use Rattle.md_judge.specs.Actors.{kept, Puts, IsOther, no_about, done_by, lines_of, is_about, begun_by, looked_of, looked_by, IsAnswered, SameAct, KeepsActs, IsActed, NotesActs, NotesLook, Tells, PutsAbout}
 
 -- what is kept of a span, by the line that is kept for the message and the actor's lines
 abbrev pub begun_in : Option ℕ → Lines → ℕ × ℕ → Option ℕ
@@ -103,16 +104,25 @@ module _ (old new : Actors) (actor : ℕ) (key : ℕ × ℕ) (about : Puts actor
 -- ---- what an actor did
 
 -- what is kept of an actor's readings of a folder alone changes
-pub notes-look : (actor folder line : ℕ) (old new : Listings) → looked_by new actor folder ≡ Some line
-    → ((q : ℕ × ℕ) → is_eq (message_cmp (actor, folder) q) ≡ false → get message_cmp new q ≡ get message_cmp old q) → NotesLook actor folder line old new
-notes-look actor folder line old new here others = record {
-  here = here;
-  others = λ a f apart. ap looked_of (others (a, f) (away a f apart (is_eq (message_cmp (actor, folder) (a, f))) refl));
+pub notes-look : (actor folder line : ℕ) (looks : Bool) (old new : Listings)
+    → looked_by new actor folder ≡ (if looks then Some line else looked_by old actor folder)
+    → ((q : ℕ × ℕ) → is_eq (message_cmp (actor, folder) q) ≡ false → get message_cmp new q ≡ get message_cmp old q)
+    → NotesLook actor folder line looks old new
+notes-look actor folder line looks old new last others = record {
+  here = λ is. last ∙ ap (λ (b : Bool). if b then Some line else looked_by old actor folder) is;
+  others = λ a f apart. by a f looks refl apart (is_eq (message_cmp (actor, folder) (a, f))) refl;
 }
   where
-    away : (a f : ℕ) → (a ≡ actor → f ≡ folder → ⊥) → (b : Bool) → is_eq (message_cmp (actor, folder) (a, f)) ≡ b → b ≡ false
-    away a f apart true is = let same = tied actor folder a f is in absurd (apart (sym same.0) (sym same.1))
-    away a f apart false is = refl
+    by : (a f : ℕ) (is : Bool) → looks ≡ is → (looks ≡ true → a ≡ actor → f ≡ folder → ⊥) → (b : Bool)
+        → is_eq (message_cmp (actor, folder) (a, f)) ≡ b → looked_by new a f ≡ looked_by old a f
+    by a f is looks-is apart false away = ap looked_of (others (a, f) away)
+    by a f true looks-is apart true here = let same = tied actor folder a f here in absurd (apart looks-is (sym same.0) (sym same.1))
+    by a f false looks-is apart true here =
+        let same = tied actor folder a f here in
+        let stays : looked_by new actor folder ≡ looked_by old actor folder =
+        last ∙ ap (λ (b : Bool). if b then Some line else looked_by old actor folder) looks-is in
+        subst (λ (g : ℕ). looked_by new a g ≡ looked_by old a g) same.1
+        (subst (λ (n : ℕ). looked_by new n folder ≡ looked_by old n folder) same.0 stays)
 
 -- ---- several changes
 
@@ -145,7 +155,7 @@ changed-same done a b c of noted act refused = (
 
 -- an actor's call on a message is kept
 pub notes-act : (old new : Actors) (actor line : ℕ) (key : ℕ × ℕ) (r : Reply) (about : About) → PutsAbout actor key about old new → about.act ≡ line
-    → ((about.was_refused ≡ true) ↔ (r ≢ reply.Ok)) → NotesAct actor line (Some (key, r)) old new
+    → ((about.was_refused ≡ true) ↔ (r ≢ reply.Ok)) → NotesActs actor line (IsActed (Some (key, r))) old new
 notes-act old new actor line key r about puts at refused = record {
   begun = puts.begun;
   here = λ k e is.
@@ -163,11 +173,12 @@ notes-act old new actor line key r about puts at refused = record {
 }
 
 -- a call on no message
-pub notes-none : (a : Actors) (actor line : ℕ) → NotesAct actor line None a a
+pub notes-none : (a : Actors) (actor line : ℕ) → NotesActs actor line (IsActed None) a a
 notes-none a actor line = record { begun = λ n k. refl; here = λ k r is. absurd (cc is); others = λ n k _. (refl, refl) }
 
 -- what changes no calls comes after a call
-pub notes-then : (a b c : Actors) (actor line : ℕ) (on : Option ((ℕ × ℕ) × Reply)) → NotesAct actor line on a b → KeepsActs b c → NotesAct actor line on a c
+pub notes-then : (a b c : Actors) (actor line : ℕ) (on : ℕ × ℕ → Reply → Type 0) → NotesActs actor line on a b → KeepsActs b c
+    → NotesActs actor line on a c
 notes-then a b c actor line on notes keeps = record {
   begun = λ n k. keeps.begun n k ∙ notes.begun n k;
   here = λ k r is. let was = notes.here k r is in let same = keeps.acts actor k in (
@@ -176,3 +187,32 @@ notes-then a b c actor line on notes keeps = record {
   );
   others = λ n k apart. let was = notes.others n k apart in let same = keeps.acts n k in (same.0 ∙ was.0, same.1 ∙ was.1);
 }
+
+-- a call acts by its first path and by its second, with one reply
+pub notes-both : (a b c : Actors) (actor line : ℕ) (first second : Option ((ℕ × ℕ) × Reply))
+    → ((k m : ℕ × ℕ) (r e : Reply) → IsActed first k r → IsActed second m e → r ≡ e) → NotesActs actor line (IsActed first) a b
+    → NotesActs actor line (IsActed second) b c → NotesActs actor line (λ k r. IsActed first k r ⊎ IsActed second k r) a c
+notes-both a b c actor line first second one notes later = record {
+  begun = λ n k. later.begun n k ∙ notes.begun n k;
+  here = λ k r on. elim on [ inl is ↦ after k r is second refl | inr is ↦ later.here k r is ];
+  others = λ n k apart.
+      let was = notes.others n k (λ same r is. apart same r (inl is)) in
+      let next = later.others n k (λ same r is. apart same r (inr is)) in
+      (next.0 ∙ was.0, next.1 ∙ was.1);
+}
+  where
+    -- the second path may be one of the same message, and is one of another where it is not
+    after : (k : ℕ × ℕ) (r : Reply) → IsActed first k r → (o : Option ((ℕ × ℕ) × Reply)) → second ≡ o
+        → ((done_by c actor k).act ≡ line) × (((done_by c actor k).was_refused ≡ true) ↔ (r ≢ reply.Ok))
+    after k r is o second-is = elim (acted-or-not o k) [
+      | inl (e, acted) ↦
+          let here = second-is ∙ acted in
+          let noted = later.here k e here in
+          (noted.0, subst (λ (q : Reply). ((done_by c actor k).was_refused ≡ true) ↔ (q ≢ reply.Ok)) (sym (one k k r e is here)) noted.1)
+      | inr none ↦
+          let was = notes.here k r is in
+          let stays = later.others actor k (λ _ e acted. none e (sym second-is ∙ acted)) in (
+            stays.0 ∙ was.0,
+            (λ h. was.1.0 (sym stays.1 ∙ h), λ h. stays.1 ∙ was.1.1 h),
+          )
+    ]

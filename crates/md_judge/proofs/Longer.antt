@@ -56,7 +56,7 @@ alike-longer l n i low =
     let same : (j : ℕ) → j ≤ i → take j l.steps ≡ take j (l.steps ++ n ∷ []) = λ j before.
     sym (take-append-le j l.steps (n ∷ []) (omega (arith, low, before))) in
     record {
-      moments = λ j before. ap (fold after_step (record { state = l.opening; now = l.clock })) (same j before);
+      moments = λ j before. ap (fold after_step (record { state = l.opening; now = 0 })) (same j before);
       steps = λ j before. same-step l.steps n j (omega (arith, low, before));
       parts = same;
     }
@@ -345,7 +345,7 @@ breaks-alike clause.NotFlushed t l' a s = (s.0, s.1, unflushed-alike t.log l' t.
 breaks-alike clause.TwoNames t l' a s = s
 breaks-alike clause.Gone t l' a s = s
 breaks-alike clause.UsedAgain t l' a s = again-alike t l' a s
-breaks-alike clause.MovedBack t l' a s = (s.0, s.1, s.2, s.3, s.4, cur-alike t.log l' t.i (now t l' a) s.1 s.5)
+breaks-alike clause.MovedBack t l' a s = (s.0, s.1, s.2, s.3, s.4, cur-alike t.log l' t.i (now t l' a) s.1 s.5, s.6)
 breaks-alike clause.CleanedEarly t l' a s =
     (s.0, s.1, s.2, s.3, s.4, s.5, λ maker. s.6 (maker-alike l' t.log t.i (was t l' a) t.step.actor s.1 maker), s.7, s.8)
 breaks-alike clause.Unlisted t l' a s = (

@@ -117,6 +117,13 @@ right-none P k = (λ h. inl h, λ h. elim h [ inl p ↦ p | inr none ↦ absurd 
 left-none : (P : ℕ × ℕ → Type 0) (k : ℕ × ℕ) → P k ↔ (nothing k ⊎ P k)
 left-none P k = (λ h. inr h, λ h. elim h [ inl none ↦ absurd none | inr p ↦ p ])
 
+-- what is kept stays
+pub deeds-then : (a b c : Actors) → KeepsDeeds a b → KeepsDeeds b c → KeepsDeeds a c
+deeds-then a b c one two n k =
+    let first = one n k in
+    let next = two n k in
+    (next.0 ∙ first.0, next.1 ∙ first.1, next.2 ∙ first.2)
+
 -- what is kept stays before a change
 pub marks-after : (actor : ℕ) (A C U : ℕ × ℕ → Type 0) (first mid last : Actors) → KeepsDeeds first mid → MarksDeeds actor A C U mid last
     → MarksDeeds actor A C U first last

@@ -1,5 +1,5 @@
 -- What is kept of files at the beginning is what a log tells of it, before the first line and as lines put folders, files and names there.
-use Rattle.std.proofs.Common.{ℕ, ◌≡◌, ◌≢◌, ◌≤◌, ◌+◌, ◌↔◌, inl, inr, List, [], ◌++◌, ◌∷◌, Option, Some, None, Ok, Bool, true, false, cond, not, is_some, max, length, refl, sym, ap, subst, ◌∙◌, arith}
+use Rattle.std.proofs.Common.{ℕ, ◌≡◌, ◌≢◌, ◌≤◌, ◌+◌, ◌↔◌, inl, inr, List, [], ◌++◌, ◌∷◌, Option, Some, None, Ok, Bool, true, false, cond, not, is_some, length, refl, sym, ap, subst, ◌∙◌, arith}
 use Rattle.std.specs.FinMap.{get-empty, get-insert}
 use Rattle.std.specs.Ordering.{eq_by_cmp}
 use Rattle.std.proofs.lemmas.List.{length_push}
@@ -235,21 +235,21 @@ module _ (who : ℕ → List ℕ) (many : ℕ) (l l' : Log) (names : Names) (p :
 
 -- a line of a file
 pub file-log : (l l' : Log) (path : Path) (stamp : ℕ) → with_file_line l path stamp ≡ Ok l'
-    → (file_at l.opening path ≡ None) × (l'.opening ≡ with_new_file path (empty_file stamp) l.opening) × (l'.clock ≡ max l.clock stamp)
+    → (file_at l.opening path ≡ None) × (l'.opening ≡ with_new_file path (empty_file stamp) l.opening)
 unfolding with_file_line
 file-log l l' path stamp is = by (file_at l.opening path) refl is
   where
     after : Log
-    after = record l { opening = with_new_file path (empty_file stamp) l.opening; clock = max l.clock stamp }
+    after = record l { opening = with_new_file path (empty_file stamp) l.opening }
 
     by : (o : Option ℕ) → file_at l.opening path ≡ o → (require (not (is_some o)) SamePath >>= (λ _. Ok after)) ≡ Ok l'
-        → (file_at l.opening path ≡ None) × (l'.opening ≡ with_new_file path (empty_file stamp) l.opening) × (l'.clock ≡ max l.clock stamp)
-    by None free is = let same : after ≡ l' = cc in (free, ap (λ (x : Log). x.opening) (sym same), ap (λ (x : Log). x.clock) (sym same))
+        → (file_at l.opening path ≡ None) × (l'.opening ≡ with_new_file path (empty_file stamp) l.opening)
+    by None free is = let same : after ≡ l' = cc in (free, ap (λ (x : Log). x.opening) (sym same))
     by (Some n) there is = absurd (cc)
 
 -- a line of a further name
 pub also-log : (l l' : Log) (path old : Path) → with_also_line l path old ≡ Ok l'
-    → (file_at l.opening path ≡ None) × (l'.opening ≡ with_path path l.opening (file_at l.opening old)) × (l'.clock ≡ l.clock)
+    → (file_at l.opening path ≡ None) × (l'.opening ≡ with_path path l.opening (file_at l.opening old))
 unfolding with_also_line
 also-log l l' path old is = by (file_at l.opening path) refl (is_some (file_at l.opening old)) is
   where
@@ -258,7 +258,7 @@ also-log l l' path old is = by (file_at l.opening path) refl (is_some (file_at l
 
     by : (o : Option ℕ) → file_at l.opening path ≡ o → (b : Bool)
         → (require (not (is_some o)) SamePath >>= (λ _. require b NoSuchPath >>= (λ _. Ok after))) ≡ Ok l'
-        → (file_at l.opening path ≡ None) × (l'.opening ≡ with_path path l.opening (file_at l.opening old)) × (l'.clock ≡ l.clock)
-    by None free true is = let same : after ≡ l' = cc in (free, ap (λ (x : Log). x.opening) (sym same), ap (λ (x : Log). x.clock) (sym same))
+        → (file_at l.opening path ≡ None) × (l'.opening ≡ with_path path l.opening (file_at l.opening old))
+    by None free true is = let same : after ≡ l' = cc in (free, ap (λ (x : Log). x.opening) (sym same))
     by None free false is = absurd (cc)
     by (Some n) there b is = absurd (cc)

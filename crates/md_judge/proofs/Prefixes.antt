@@ -27,7 +27,7 @@ pushed l n = record l { steps = l.steps ++ n ∷ [] }
 -- the moments of the steps before it are what they were
 pub same-moment : (l : Log) (n : Numbered) (i : ℕ) → i ≤ length l.steps → moment (record l { steps = l.steps ++ n ∷ [] }) i ≡ moment l i
 same-moment l n i low =
-    let start : Moment = record { state = l.opening; now = l.clock } in
+    let start : Moment = record { state = l.opening; now = 0 } in
     ap (fold after_step start) (take-append-le i l.steps (n ∷ []) low)
 
 pub same-at : (l : Log) (n : Numbered) (i : ℕ) → i ≤ length l.steps → at (pushed l n) i ≡ at l i

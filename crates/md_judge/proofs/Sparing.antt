@@ -280,15 +280,16 @@ at-more message actor files deed.Create reply.Ok file clause.SeenBeforeWhole fou
 at-more message actor files deed.Write r (Some n) c found = write-more actor r (facts_at files n) c found
 at-more message actor files d r file c found = absurd found
 
-named-more : (place : Place) (f : Option FileFacts) (c : Clause) → NamedFinds place f c → GoesByFiles c
-named-more place (Some f) clause.SeenBeforeWhole found = tt
-named-more place (Some f) clause.NotFlushed found = tt
-named-more New (Some f) clause.MovedBack found = tt
-named-more place f c found = absurd found
+named-more : (from_new : Bool) (place : Place) (f : Option FileFacts) (c : Clause) → NamedFinds from_new place f c → GoesByFiles c
+named-more from_new place (Some f) clause.SeenBeforeWhole found = tt
+named-more from_new place (Some f) clause.NotFlushed found = tt
+named-more from_new New (Some f) clause.MovedBack found = tt
+named-more from_new place f c found = absurd found
 
-name-more : (names : Names) (files : List Filed) (p : Option (Spot × ℕ)) (c : Clause) → NameFinds names files p c → GoesByFiles c
-name-more names files None c found = absurd found
-name-more names files (Some p) c found = named-more p.0.place (facts_at files p.1) c found.1
+name-more : (names : Names) (from_new : Bool) (files : List Filed) (p : Option (Spot × ℕ)) (c : Clause) → NameFinds names from_new files p c
+    → GoesByFiles c
+name-more names from_new files None c found = absurd found
+name-more names from_new files (Some p) c found = named-more from_new p.0.place (facts_at files p.1) c found.1
 
 left-more : (actor now : ℕ) (place : Place) (f : Option FileFacts) (c : Clause) → LeftFinds actor now place f c → GoesByFiles c
 left-more actor now Tmp (Some f) clause.CleanedEarly found = tt
@@ -298,10 +299,10 @@ leave-more : (actor now : ℕ) (files : List Filed) (p : Option (Spot × ℕ)) (
 leave-more actor now files None c found = absurd found
 leave-more actor now files (Some p) c found = left-more actor now p.0.place (facts_at files p.1) c found
 
-pub change-more : (names : Names) (actor now : ℕ) (change : Change) (old new : List Filed) (c : Clause)
-    → ChangeFinds names actor now change old new c → GoesByFiles c
-change-more names actor now change old new c found = elim found [
-  | inl named ↦ name-more names old (named_by change) c named
+pub change-more : (names : Names) (actor now : ℕ) (from_new : Bool) (change : Change) (old new : List Filed) (c : Clause)
+    → ChangeFinds names actor now from_new change old new c → GoesByFiles c
+change-more names actor now from_new change old new c found = elim found [
+  | inl named ↦ name-more names from_new old (named_by change) c named
   | inr left ↦ elim left [
     | inl taken ↦ leave-more actor now new change.taken c taken
     | inr turned ↦ leave-more actor now new (turned_by change) c turned

@@ -19,7 +19,7 @@ use Rattle.md_judge.proofs.Recounted.{longer, gone, file_there}
 -- a step goes on from the moment before it
 pub moment-next : (l : Log) (i : ℕ) (x : Numbered) → slice_get l.steps i ≡ Some x → moment l (suc i) ≡ after_step (moment l i) x
 moment-next l i x is =
-    let start : Moment = record { state = l.opening; now = l.clock } in
+    let start : Moment = record { state = l.opening; now = 0 } in
     let within = slice_get_within l.steps i x is in
     let same = get_or_from_slice_get l.steps i x x is in
     ap (fold after_step start) (take-suc l.steps i x within)

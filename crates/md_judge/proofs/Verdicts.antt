@@ -1,5 +1,5 @@
 -- What a session holds that has read a log so far, as it reads one more line.
-use Rattle.std.proofs.Common.{ℕ, zero, suc, ◌≡◌, ◌<◌, ◌≤◌, ◌+◌, ◌⊎◌, inl, inr, ◌↔◌, true, nat_lt, Bool, false, not, max, is_some, is_none, is_ok, List, [], ◌++◌, ◌∷◌, Option, Some, None, Result, Ok, Err, OnOk, IfOk, length, get_or, slice_get, refl, sym, ap, subst, ◌∙◌, arith}
+use Rattle.std.proofs.Common.{ℕ, zero, suc, ◌≡◌, ◌<◌, ◌≤◌, ◌+◌, ◌⊎◌, inl, inr, ◌↔◌, true, nat_lt, Bool, false, not, is_some, is_none, is_ok, List, [], ◌++◌, ◌∷◌, Option, Some, None, Result, Ok, Err, OnOk, IfOk, length, get_or, slice_get, refl, sym, ap, subst, ◌∙◌, arith}
 use Rattle.std.proofs.lemmas.Result.{IfOk-at_ok}
 use Rattle.std.proofs.lemmas.List.{length_push}
 use Rattle.std.proofs.lemmas.Option.{slice_get_within, slice_get-get_or, get_or_from_slice_get}
@@ -77,12 +77,12 @@ remembers-longer lines l n i j low keeps = record {
 }
 
 -- what it keeps of the beginning it keeps of each log that begins so
-remembers-opening : (lines : ℕ → ℕ) (l l' : Log) (j : Judge) → l'.opening ≡ l.opening → l'.clock ≡ l.clock → Remembers lines l 0 j → Remembers lines l' 0 j
-remembers-opening lines l l' j same clock keeps = record {
+remembers-opening : (lines : ℕ → ℕ) (l l' : Log) (j : Judge) → l'.opening ≡ l.opening → Remembers lines l 0 j → Remembers lines l' 0 j
+remembers-opening lines l l' j same keeps = record {
   told = opening-told lines l l' j.known same keeps.told;
   filed = filed-opening (name_at j.actor_names) (length j.actor_names) l l' j.watch.files.all.items (λ p. ap (λ (s : State). file_at s p) same)
       (ap (λ (s : State). s.files) same) keeps.filed;
-  clock = keeps.clock ∙ sym clock;
+  clock = keeps.clock;
   opens = open-first lines lines j.actor_names j.known.names l l' j.listings keeps.opens;
   mailed = tells-opening j.known.names l l' j.watch.mail (λ p. ap (λ (s : State). file_at s p) same) keeps.mailed;
   timed = times-opening lines j.known.names l l' j.watch.mail same keeps.timed;
@@ -434,12 +434,12 @@ pub file-rest : (l l' : Log) (path : Path) (stamp : ℕ) → with_file_line l pa
 unfolding with_file_line
 file-rest l l' path stamp is = by (is_some (file_at l.opening path)) is
   where
-    by : (b : Bool) → (require (not b) SamePath >>= (λ _. Ok (record l { opening = with_new_file path (empty_file stamp) l.opening; clock = max l.clock stamp }))) ≡ Ok l'
+    by : (b : Bool) → (require (not b) SamePath >>= (λ _. Ok (record l { opening = with_new_file path (empty_file stamp) l.opening }))) ≡ Ok l'
         → KeepsRest l l'
     by true is = absurd (cc)
     by false is =
-        let same : record l { opening = with_new_file path (empty_file stamp) l.opening; clock = max l.clock stamp } ≡ l' = cc in
-        rest-same l (record l { opening = with_new_file path (empty_file stamp) l.opening; clock = max l.clock stamp }) l' (refl, (refl, refl)) same
+        let same : record l { opening = with_new_file path (empty_file stamp) l.opening } ≡ l' = cc in
+        rest-same l (record l { opening = with_new_file path (empty_file stamp) l.opening }) l' (refl, (refl, refl)) same
 
 pub also-rest : (l l' : Log) (path old : Path) → with_also_line l path old ≡ Ok l' → KeepsRest l l'
 unfolding with_also_line
@@ -508,7 +508,7 @@ allow-read number l l' s t c read none same folders begun stretch findings keeps
     let new : Log = record l { allowed = c ∷ l.allowed } in
     subst (λ (m : Log). HasRead (suc number) m t) same
     (head-read number l new s t read none none (folders ∙ read.folders) begun stretch findings read.housed
-    (λ lines low told. keeps lines new 0 (remembers-opening lines l new s.judge refl refl told))
+    (λ lines low told. keeps lines new 0 (remembers-opening lines l new s.judge refl told))
     (more-allowed l s.judge.allowed t.judge.allowed c read.allowed adds))
 
 -- a clause is allowed before the first line
@@ -525,7 +525,7 @@ given-read number given s j c read keeps adds =
       housed = read.housed;
       told = λ lines are.
           let before : AreLinesOf number old lines = record { steps = are.steps; opening = are.opening } in
-          keeps lines new 0 (remembers-opening lines old new s.judge refl refl (read.told lines before));
+          keeps lines new 0 (remembers-opening lines old new s.judge refl (read.told lines before));
       rises = read.rises;
       above = read.above;
       below = read.below;
@@ -555,7 +555,7 @@ module _ (number : ℕ) (l l' : Log) (s t : Session) (read : HasRead number l s)
   -- a folder is added
   pub folder-read : (name : List ℕ) → with_folder s.folders name ≡ Ok t.folders → with_folder_line l name ≡ Ok l'
       → ((lines : ℕ → ℕ) (m m' : Log) → Remembers lines m 0 j → m'.opening ≡ record m.opening { folders = suc m.opening.folders }
-      → m'.clock ≡ m.clock → OnOk r (Remembers lines m' 0 t.judge)) → OnOk r (HasRead (suc number) l' t)
+      → OnOk r (Remembers lines m' 0 t.judge)) → OnOk r (HasRead (suc number) l' t)
   folder-read name has is told = on-ok-by r (HasRead (suc number) l' t) (λ holds.
       let has' : with_folder l.folders name ≡ Ok t.folders = subst (λ (fs : List (List ℕ)). with_folder fs name ≡ Ok t.folders) read.folders has in
       let now : record l { folders = t.folders; opening = record l.opening { folders = length t.folders } } ≡ l' = with-folders l l' name t.folders has' is in
@@ -564,7 +564,7 @@ module _ (number : ℕ) (l l' : Log) (s t : Session) (read : HasRead number l s)
       ap (λ (m : Log). m.opening) (sym now) ∙ ap (λ n. record l.opening { folders = n }) more in
       head-read number l l' s t read none (ap (λ (m : Log). m.steps) (sym now) ∙ none) (ap (λ (m : Log). m.folders) now) begun stretch findings
       (ap (λ (m : Log). m.opening.folders) (sym now) ∙ ap (λ (m : Log). length m.folders) now)
-      (λ lines low was. holds (Remembers lines l' 0 t.judge) (told lines l l' (goes lines l 0 was) opening (ap (λ (m : Log). m.clock) (sym now))))
+      (λ lines low was. holds (Remembers lines l' 0 t.judge) (told lines l l' (goes lines l 0 was) opening))
       (still-allowed (ap (λ (m : Log). m.allowed) (sym now)) (holds (t.judge.allowed ≡ j.allowed) keeps)))
 
   -- a path is put

@@ -1,5 +1,5 @@
 -- What is read of a whole log, line by line.
-use Rattle.std.proofs.Common.{ℕ, suc, ◌≡◌, ◌<◌, ◌≤◌, ◌+◌, length, List, [], ◌∷◌, ◌++◌, Some, Result, Ok, Err, IsOk, slice_get, refl, sym, ap, subst, ◌∙◌, true, false, not, is_some, max, Bool, arith}
+use Rattle.std.proofs.Common.{ℕ, suc, ◌≡◌, ◌<◌, ◌≤◌, ◌+◌, length, List, [], ◌∷◌, ◌++◌, Some, Result, Ok, Err, IsOk, slice_get, refl, sym, ap, subst, ◌∙◌, true, false, not, is_some, Bool, arith}
 use Rattle.std.proofs.lemmas.List.{append-nil, length_push}
 use Rattle.std.specs.Prelude.{if◌then◌else◌, codes}
 use Rattle.std.specs.Str.{bytes_eq}
@@ -109,10 +109,9 @@ given-file given l path stamp = by (require (not (is_some (file_at l.opening pat
         → (r >>= (λ _. Ok (record l {
           allowed = l.allowed ++ given;
           opening = with_new_file path (empty_file stamp) l.opening;
-          clock = max l.clock stamp;
         })))
         ≡ on-log (with_given given)
-        (r >>= (λ _. Ok (record l { opening = with_new_file path (empty_file stamp) l.opening; clock = max l.clock stamp })))
+        (r >>= (λ _. Ok (record l { opening = with_new_file path (empty_file stamp) l.opening })))
     by (Ok x) = refl
     by (Err fault) = refl
 

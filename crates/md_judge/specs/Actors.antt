@@ -12,9 +12,11 @@ use Rattle.md_log.specs.declared.line.Reply.TheVariants as reply
 use Rattle.md_log.specs.declared.line.Said.{Said}
 use Rattle.md_log.specs.declared.line.Step.{Step}
 use Rattle.md_clauses.specs.declared.about.About.{About}
+use Rattle.md_dirs.specs.declared.paths.Place.{Place}
 use Rattle.md_judge.specs.declared.judge.about.Actors.{Actors}
 use Rattle.md_judge.specs.declared.judge.about.Lines.{Lines}
 use Rattle.md_clauses.specs.declared.changes.Spot.{Spot}
+use Rattle.md_judge.specs.declared.judge.known.Act.{Act}
 use Rattle.md_judge.specs.declared.judge.listing.Listing.{Listing}
 use Rattle.md_judge.specs.declared.judge.mail.Mail.{Mail}
 use Rattle.md_judge.specs.declared.judge.pairs.Column.{Column}
@@ -29,7 +31,7 @@ use Rattle.md_judge.specs.Listings.{message_cmp, message_of, present_in, IsIn}
 use Rattle.md_judge.specs.Logs.{Log}
 use Rattle.md_judge.specs.Mailed.{count_of}
 use Rattle.md_judge.specs.Open.{Listings}
-use Rattle.md_law.specs.Messages.{IsThere}
+use Rattle.md_law.specs.Messages.{is_tmp, IsThere}
 use Rattle.md_judge.specs.Told.{at, IsStep, IsAnswer, IsSpan, ActsOn, Looks}
 use Rattle.md_dirs.specs.declared.paths.Path.{Path}
 use Rattle.md_clauses.specs.declared.changes.Change.{Change}
@@ -162,27 +164,45 @@ pub record Tells (actor : ℕ) (key : ℕ × ℕ) (old new : Actors) : Type 0 wh
   pub goes_on : (k : ℕ × ℕ) (n : ℕ) → IsOther actor k actor key → begun_by old actor k ≡ Some n → begun_by new actor k ≡ Some n
   pub stays : (a : ℕ) (k : ℕ × ℕ) → IsOther a k actor key → done_by new a k ≡ done_by old a k
 
--- the reply to a call that acts on a message by a name of it
+-- the reply to a call that acts on a message by a name of it which it names first
 abbrev pub reply_to_name : Call → Option Reply
 reply_to_name (call.At deed.Unlink p r) = Some r
 reply_to_name (call.Between n old new r) = Some r
 reply_to_name c = None
+
+-- the reply to one that acts on a message by a name of it which it names second: a link or rename that is done
+abbrev pub reply_if_done : Reply → Option Reply
+reply_if_done reply.Ok = Some reply.Ok
+reply_if_done r = None
+
+abbrev pub reply_to_target : Call → Option Reply
+reply_to_target (call.Between n old new r) = reply_if_done r
+reply_to_target c = None
 
 -- the message on which a call acts by a name of it, which is at a spot, and the reply
 abbrev pub acted_at : Names → Spot → Option Reply → Option ((ℕ × ℕ) × Reply)
 acted_at names s None = None
 acted_at names s (Some r) = option_map (λ u. ((s.folder, u), r)) (unique_in names s)
 
-abbrev pub acted : Names → Option Spot → Call → Option ((ℕ × ℕ) × Reply)
-acted names None c = None
-acted names (Some s) c = acted_at names s (reply_to_name c)
+abbrev pub acted_by : Names → Option Spot → Option Reply → Option ((ℕ × ℕ) × Reply)
+acted_by names None reply = None
+acted_by names (Some s) reply = acted_at names s reply
 
--- An actor's call at a line acts on this message and is answered so, or on none.
-pub record NotesAct (actor line : ℕ) (on : Option ((ℕ × ℕ) × Reply)) (old new : Actors) : Type 0 where
+-- the message of this key is acted on, and the call is answered so
+abbrev pub IsActed : Option ((ℕ × ℕ) × Reply) → ℕ × ℕ → Reply → Type 0
+IsActed on k r = on ≡ Some (k, r)
+
+-- a call whose paths are at the spots of an act acts on the message, and is answered so: by the path that it names first, or second
+abbrev pub ActsByPath : Names → Act → Call → ℕ × ℕ → Reply → Type 0
+ActsByPath names act c k r =
+    IsActed (acted_by names act.spot (reply_to_name c)) k r ⊎ IsActed (acted_by names act.target (reply_to_target c)) k r
+
+-- An actor's call at a line acts on these messages and is answered so, and on no other.
+pub record NotesActs (actor line : ℕ) (acts : ℕ × ℕ → Reply → Type 0) (old new : Actors) : Type 0 where
   pub begun : (a : ℕ) (k : ℕ × ℕ) → begun_by new a k ≡ begun_by old a k
-  pub here : (k : ℕ × ℕ) (r : Reply) → on ≡ Some (k, r)
+  pub here : (k : ℕ × ℕ) (r : Reply) → acts k r
       → ((done_by new actor k).act ≡ line) × (((done_by new actor k).was_refused ≡ true) ↔ (r ≢ reply.Ok))
-  pub others : (a : ℕ) (k : ℕ × ℕ) → (a ≡ actor → (r : Reply) → on ≡ Some (k, r) → ⊥) → SameAct (done_by old a k) (done_by new a k)
+  pub others : (a : ℕ) (k : ℕ × ℕ) → (a ≡ actor → (r : Reply) → acts k r → ⊥) → SameAct (done_by old a k) (done_by new a k)
 
 -- What is kept of spans and of the calls in them is as it was.
 pub record KeepsActs (old new : Actors) : Type 0 where
@@ -204,10 +224,24 @@ abbrev pub GoesWith : Names → Option (Spot × ℕ) → Mail → ℕ × ℕ →
 GoesWith names None mail k to = ⊥
 GoesWith names (Some taken) mail k to = GoesBy names taken.0 mail k to
 
--- An actor reads a folder at a line.
-pub record NotesLook (actor folder line : ℕ) (old new : Listings) : Type 0 where
-  pub here : looked_by new actor folder ≡ Some line
-  pub others : (a f : ℕ) → (a ≡ actor → f ≡ folder → ⊥) → looked_by new a f ≡ looked_by old a f
+-- a part of a reading that answers so shows names
+abbrev pub shows_names : Reply → Bool
+shows_names reply.Ok = true
+shows_names reply.More = true
+shows_names r = false
+
+-- a part of a reading of this directory of a folder, which answers so, is a look at the folder
+abbrev pub is_look : Place → Reply → Bool
+is_look place r = not (is_tmp place) && shows_names r
+
+-- the line of the last look at the folder, after a part of a reading at a line
+abbrev pub looked_after : Place → Reply → ℕ → Option ℕ → Option ℕ
+looked_after place r line old = if is_look place r then Some line else old
+
+-- An actor reads a directory of a folder at a line, which may be a look at the folder.
+pub record NotesLook (actor folder line : ℕ) (looks : Bool) (old new : Listings) : Type 0 where
+  pub here : looks ≡ true → looked_by new actor folder ≡ Some line
+  pub others : (a f : ℕ) → (looks ≡ true → a ≡ actor → f ≡ folder → ⊥) → looked_by new a f ≡ looked_by old a f
 
 -- ---- what a log tells
 

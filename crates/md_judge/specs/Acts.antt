@@ -98,11 +98,15 @@ pub record IsOfPath (names : Names) (t : Turn) (act : Act) (p : Path) : Type 0 w
   pub of : IsSpotOf names p spot
   pub file : act.file ≡ file_at t.old p
 
--- the act names the path that the call names first
-abbrev pub NamesFirst : Names → Call → Act → Type 0
-NamesFirst names (call.At d p r) act = (s : Spot) × (act.spot ≡ Some s) × IsSpotOf names p s
-NamesFirst names (call.Between n p q r) act = (s : Spot) × (act.spot ≡ Some s) × IsSpotOf names p s
-NamesFirst names c act = Unit {0}
+-- the spot is there, and is that of the path
+abbrev pub IsSpotAt : Names → Path → Option Spot → Type 0
+IsSpotAt names p o = (s : Spot) × (o ≡ Some s) × IsSpotOf names p s
+
+-- the act names the paths that the call names: the first one, and the second one where there is one
+abbrev pub NamesPaths : Names → Call → Act → Type 0
+NamesPaths names (call.At d p r) act = IsSpotAt names p act.spot × (act.target ≡ None)
+NamesPaths names (call.Between n p q r) act = IsSpotAt names p act.spot × IsSpotAt names q act.target
+NamesPaths names c act = Unit {0}
 
 -- a path that a call on one path takes is unlinked
 abbrev pub UnlinksPath : Option (Spot × ℕ) → Bool → Deed → Reply → Type 0

@@ -12,9 +12,9 @@ use Rattle.md_clauses.specs.declared.facts.FileFacts.{FileFacts}
 use Rattle.md_judge.specs.declared.judge.files.Filed.{Filed}
 use Rattle.md_judge.specs.declared.judge.known.Known.{Known}
 use Rattle.md_judge.specs.declared.judge.known.Act.{Act}
-use Rattle.md_judge.specs.Acts.{IsDone, Leads}
+use Rattle.md_judge.specs.Acts.{IsDone, Leads, NamesPaths}
 use Rattle.md_judge.specs.Files.{facts_at, is_message_in}
-use Rattle.md_judge.specs.Law.{Turn, turn, SeenBeforeWhole, Mixed, NotFlushed, MovedBack, CleanedEarly, MakesMessage, WritesSeen, ShowsCut}
+use Rattle.md_judge.specs.Law.{Turn, turn, SeenBeforeWhole, Mixed, NotFlushed, IsFromNew, MovedBack, CleanedEarly, MakesMessage, WritesSeen, ShowsCut}
 use Rattle.md_judge.specs.Listings.{IsIn}
 use Rattle.md_judge.specs.Logs.{Log}
 use Rattle.md_law.specs.Messages.{is_message, IsSeen}
@@ -72,14 +72,16 @@ pub record IsAt (who : ℕ → List ℕ) (many : ℕ) (l : Log) (i : ℕ) (x : S
   pub acts : Acts who many actor x
   pub kept : (n : ℕ) → file ≡ Some n → (f : FileFacts) × (facts_at files n ≡ Some f) × RecallsMaker who many l i n f
 
--- A step changes paths so, at a moment, and what is kept of the files that gain or lose a path is what the log tells.
+-- A step changes paths so, at a moment, by a link or rename of a message in new or otherwise, and what is kept of the files that gain or
+-- lose a path is what the log tells.
 pub record IsChange (path : Spot → Path) (who : ℕ → List ℕ) (many : ℕ) (l : Log) (i : ℕ) (x : Step) (actor now : ℕ) (names : Names)
-    (c : Change) (old new : List Filed) : Type 0 where
+    (from_new : Bool) (c : Change) (old new : List Filed) : Type 0 where
   pub leads : Leads path c (at l i) (at l (suc i))
   pub place : (q : Spot) → (path q).place ≡ q.place
   pub message : (q : Spot) (n : ℕ) → named_by c ≡ Some (q, n) → is_message_in names q ≡ is_message (path q)
   pub acts : Acts who many actor x
   pub clock : now ≡ (moment l (suc i)).now
+  pub from : (from_new ≡ true) ↔ IsFromNew (turn l i x)
   pub named : (q : Spot) (n : ℕ) → named_by c ≡ Some (q, n) → (f : FileFacts) × (facts_at old n ≡ Some f) × Recalls l i n f
   pub left : (p : Path) (n : ℕ) → file_at (at l i) p ≡ Some n → file_at (at l (suc i)) p ≢ Some n
       → (f : FileFacts) × (facts_at new n ≡ Some f) × RecallsLeft who many l i n f
@@ -138,13 +140,15 @@ pub record AreFiled (who : ℕ → List ℕ) (many : ℕ) (l : Log) (i : ℕ) (f
 abbrev pub name_at : List (List ℕ) → ℕ → List ℕ
 name_at names a = unwrap_or (slice_get names a) []
 
--- A step of a log is judged: its call and its actor are these, the clock is that after it, and it did to paths what the act says.
+-- A step of a log is judged: its call and its actor are these, the clock is that after it, and the act names its paths and says what it did
+-- to paths.
 pub record IsJudged (path : Spot → Path) (who : ℕ → List ℕ) (many : ℕ) (l : Log) (i : ℕ) (x : Step) (actor : ℕ) (c : Call) (known : Known)
     (act : Act) : Type 0 where
   pub step : IsStep l i x
   pub call : x.call ≡ c
   pub acts : Acts who many actor x
   pub clock : known.clock ≡ (moment l (suc i)).now
+  pub paths : NamesPaths known.names c act
   pub done : IsDone path known.names (turn l i x) act
 
 -- the step breaks a clause that goes by what was done to files

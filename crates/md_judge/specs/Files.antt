@@ -1,5 +1,5 @@
 -- What the judge keeps of files: how a step changes it, and which clauses the judge finds by it.
-use Rattle.std.specs.Prelude.{ℕ, ◌≡◌, ◌≢◌, ◌<◌, ◌+◌, ◌-◌, ◌/◌, ◌%◌, ◌==◌, ◌⊎◌, List, Option, Some, None, Bool, true, false, length, slice_get, is_some, unwrap_or, if◌then◌else◌}
+use Rattle.std.specs.Prelude.{ℕ, ◌≡◌, ◌≢◌, ◌<◌, ◌+◌, ◌-◌, ◌/◌, ◌%◌, ◌==◌, ◌&&◌, ◌⊎◌, List, Option, Some, None, Bool, true, false, length, slice_get, is_some, unwrap_or, if◌then◌else◌}
 use Rattle.std.specs.Option.{option_map}
 use Rattle.md_dirs.specs.declared.paths.Place.{Place}
 use Rattle.md_dirs.specs.declared.paths.Place.TheVariants.{Tmp, New, Cur}
@@ -52,6 +52,11 @@ abbrev pub is_cur : Place → Bool
 is_cur Tmp = false
 is_cur New = false
 is_cur Cur = true
+
+abbrev pub is_new : Place → Bool
+is_new Tmp = false
+is_new New = true
+is_new Cur = false
 
 -- a file that a path comes to name, and one that it names no longer: only a message's path counts
 abbrev pub named : Names → Spot → FileFacts → FileFacts
@@ -116,16 +121,22 @@ AtFinds is_message actor files deed.Create reply.Ok file clause.SeenBeforeWhole 
 AtFinds is_message actor files deed.Write r (Some n) c = WriteFinds actor r (facts_at files n) c
 AtFinds is_message actor files d r file c = ⊥
 
--- where a message's path comes to name a file
-abbrev pub NamedFinds : Place → Option FileFacts → Clause → Type 0
-NamedFinds place (Some f) clause.SeenBeforeWhole = (f.seen ≡ 0) × (f.is_cut ≡ true)
-NamedFinds place (Some f) clause.NotFlushed = (f.seen ≡ 0) × (f.is_unflushed ≡ true)
-NamedFinds New (Some f) clause.MovedBack = f.was_cur ≡ true
-NamedFinds place f c = ⊥
+-- a call links or renames a message in new, by the spot of the path that it names first
+abbrev pub is_from_new : Names → Call → Option Spot → Bool
+is_from_new names (call.Between n old new r) (Some s) = is_new s.place && is_message_in names s
+is_from_new names c spot = false
 
-abbrev pub NameFinds : Names → List Filed → Option (Spot × ℕ) → Clause → Type 0
-NameFinds names files None c = ⊥
-NameFinds names files (Some p) c = (is_message_in names p.0 ≡ true) × NamedFinds p.0.place (facts_at files p.1) c
+-- where a message's path comes to name a file, by a link or rename of a message in new or otherwise
+abbrev pub NamedFinds : Bool → Place → Option FileFacts → Clause → Type 0
+NamedFinds from_new place (Some f) clause.SeenBeforeWhole = (f.seen ≡ 0) × (f.is_cut ≡ true)
+NamedFinds from_new place (Some f) clause.NotFlushed = (f.seen ≡ 0) × (f.is_unflushed ≡ true)
+NamedFinds from_new New (Some f) clause.MovedBack = (f.was_cur ≡ true) × (from_new ≢ true)
+NamedFinds from_new place f c = ⊥
+
+abbrev pub NameFinds : Names → Bool → List Filed → Option (Spot × ℕ) → Clause → Type 0
+NameFinds names from_new files None c = ⊥
+NameFinds names from_new files (Some p) c =
+    (is_message_in names p.0 ≡ true) × NamedFinds from_new p.0.place (facts_at files p.1) c
 
 -- where a path of tmp has left a file, by an actor at a moment
 abbrev pub LeftFinds : ℕ → ℕ → Place → Option FileFacts → Clause → Type 0
@@ -137,6 +148,6 @@ LeaveFinds actor now files None c = ⊥
 LeaveFinds actor now files (Some p) c = LeftFinds actor now p.0.place (facts_at files p.1) c
 
 -- at a change of paths, by what was kept of files before it and is kept after it
-abbrev pub ChangeFinds : Names → ℕ → ℕ → Change → List Filed → List Filed → Clause → Type 0
-ChangeFinds names actor now c old new k =
-    NameFinds names old (named_by c) k ⊎ LeaveFinds actor now new c.taken k ⊎ LeaveFinds actor now new (turned_by c) k
+abbrev pub ChangeFinds : Names → ℕ → ℕ → Bool → Change → List Filed → List Filed → Clause → Type 0
+ChangeFinds names actor now from_new c old new k =
+    NameFinds names from_new old (named_by c) k ⊎ LeaveFinds actor now new c.taken k ⊎ LeaveFinds actor now new (turned_by c) k

@@ -16,6 +16,7 @@ use Rattle.md_log.specs.declared.clause.Clause.TheVariants as clause
 use Rattle.md_log.specs.declared.line.Reply.{Reply}
 use Rattle.md_log.specs.declared.line.Reply.TheVariants as reply
 use Rattle.md_log.specs.declared.line.Deed.TheVariants as deed
+use Rattle.md_log.specs.declared.line.Naming.{Naming}
 use Rattle.md_log.specs.declared.line.Said.{Said}
 use Rattle.md_log.specs.declared.line.Said.TheVariants as said
 use Rattle.md_log.specs.declared.line.Call.{Call}
@@ -159,9 +160,16 @@ UsedAgain t = (p : Path) × (file : ℕ) × Adds t p file × (is_message p ≡ t
     × ((j : ℕ) × (j < t.i) × IsThere (at t.log j) p.folder (unique_of p.name))
     × ((j : ℕ) (q : Path) → j < t.i → IsMessageAt (at t.log j) p.folder (unique_of p.name) q file → ⊥)
 
--- maildir(5), new has what no reader has seen: a file that was a message in cur is named in new.
+-- the step is a link or rename of a message in new
+abbrev pub IsFromNew : Turn → Type 0
+IsFromNew t = (n : Naming) × (old new : Path) × (r : Reply) × (t.step.call ≡ call.Between n old new r) × (is_message old ≡ true)
+    × (old.place ≡ New)
+
+-- maildir(5), new has what no reader has seen: a path in new comes to name a file that once was a message in cur, otherwise than by a link
+-- or rename of a message in new. (An unread message may be moved and copied, though a copy of it was read.)
 abbrev pub MovedBack : Turn → Type 0
 MovedBack t = (p : Path) × (file : ℕ) × Names t p file × (is_message p ≡ true) × (p.place ≡ New) × WasInCur t.log t.i file
+    × (IsFromNew t → ⊥)
 
 -- the step makes a path no longer name a file that it named before
 abbrev pub Leaves : Turn → Path → ℕ → Type 0

@@ -1,5 +1,5 @@
 -- A log, read: what there is at its beginning, and its steps.
-use Rattle.std.specs.Prelude.{ℕ, suc, Bool, true, not, ◌==◌, List, [], ◌∷◌, ◌++◌, length, max, nat_lt, Result, Ok, Err, is_some, if◌then◌else◌, codes}
+use Rattle.std.specs.Prelude.{ℕ, suc, Bool, not, List, [], ◌∷◌, ◌++◌, length, nat_lt, Result, Ok, Err, is_some, if◌then◌else◌, codes}
 use Rattle.std.specs.Str.{bytes_eq}
 use Rattle.md_dirs.specs.State.{State, bare, file_at}
 use Rattle.md_dirs.specs.Calls.{with_new_file, with_path, empty_file}
@@ -28,14 +28,13 @@ pub record Log : Type 0 where
   pub folders : List (List ℕ)
   -- the clauses that are not judged
   pub allowed : List Clause
-  -- the directories at the beginning, and the greatest stamp in them
+  -- the directories at the beginning
   pub opening : State
-  pub clock : ℕ
   pub steps : List Numbered
 
 -- a log of no line
 abbrev pub empty_log : Log
-empty_log = record { folders = []; allowed = []; opening = bare 0; clock = 0; steps = [] }
+empty_log = record { folders = []; allowed = []; opening = bare 0; steps = [] }
 
 -- a log with one more folder: no line before names it, and there are not too many
 unfoldable pub with_folder_line : Log → List ℕ → Result Log LineFault
@@ -47,7 +46,7 @@ with_folder_line l name = do
 unfoldable pub with_file_line : Log → Path → ℕ → Result Log LineFault
 with_file_line l path stamp = do
   _ ← require (not (is_some (file_at l.opening path))) SamePath
-  Ok (record l { opening = with_new_file path (empty_file stamp) l.opening; clock = max l.clock stamp })
+  Ok (record l { opening = with_new_file path (empty_file stamp) l.opening })
 
 -- a log with a further name of a file: no line before puts a file at the path, and one does at the old path
 unfoldable pub with_also_line : Log → Path → Path → Result Log LineFault

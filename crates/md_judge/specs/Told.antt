@@ -1,6 +1,6 @@
 -- What a log tells: the directories at each moment, by the definitions of the directory calls, and what was done to each file.
 -- Moments are numbered from 0: moment 0 is the beginning, and the step of a number goes from the moment of that number to the next.
-use Rattle.std.specs.Prelude.{ℕ, suc, ◌≡◌, ◌≢◌, ◌<◌, ◌≤◌, List, Some, true, take, slice_get, max, if◌then◌else◌, length, fold}
+use Rattle.std.specs.Prelude.{ℕ, suc, ◌≡◌, ◌≢◌, ◌<◌, ◌≤◌, ◌⊎◌, List, Some, true, false, take, slice_get, max, if◌then◌else◌, length, fold}
 use Rattle.std.specs.Str.{bytes_eq}
 use Rattle.md_dirs.specs.State.{State, file_at}
 use Rattle.md_dirs.specs.declared.paths.Path.{Path}
@@ -15,17 +15,17 @@ use Rattle.md_log.specs.declared.line.Call.{Call}
 use Rattle.md_log.specs.declared.line.Call.TheVariants as call
 use Rattle.md_log.specs.declared.line.Step.{Step}
 use Rattle.md_law.specs.History.{Moment, after_call}
-use Rattle.md_law.specs.Messages.{is_message, IsOf}
-use Rattle.md_law.specs.Readings.{Read, nothing_read, with_call}
+use Rattle.md_law.specs.Messages.{is_tmp, is_message, IsOf}
+use Rattle.md_law.specs.Readings.{Read, nothing_read, with_call, ShowsNames}
 use Rattle.md_judge.specs.Logs.{Log, Numbered}
 
--- the clock is the greatest moment or stamp so far
+-- the clock is the greatest moment so far. No stamp of the beginning sets it, since one of a clock that is ahead would hold it still
 abbrev pub after_step : Moment → Numbered → Moment
 after_step m x = let now = max m.now x.step.moment in record { state = after_call x.step.call now m.state; now = now }
 
 -- what there is at a moment
 abbrev pub moment : Log → ℕ → Moment
-moment l i = fold after_step (record { state = l.opening; now = l.clock }) (take i l.steps)
+moment l i = fold after_step (record { state = l.opening; now = 0 }) (take i l.steps)
 
 -- the directories at a moment
 abbrev pub at : Log → ℕ → State
@@ -117,13 +117,13 @@ pub record IsSpan (l : Log) (first last : ℕ) (actor : List ℕ) (folder : ℕ)
 abbrev pub IsOwn : Log → ℕ → ℕ → List ℕ → ℕ → Step → Type 0
 IsOwn l first last actor j x = (first ≤ j) × (j < last) × IsStep l j x × (x.actor ≡ actor)
 
--- the call acts on the message by a name of it, and answers so
+-- the call acts on the message by a name of it, and answers so: a link or rename from a name of it, or one to a name of it that is done
 abbrev pub ActsOn : Call → ℕ → List ℕ → Reply → Type 0
 ActsOn (call.At deed.Unlink p r) folder unique e = IsOf p folder unique × (r ≡ e)
-ActsOn (call.Between n old new r) folder unique e = IsOf old folder unique × (r ≡ e)
+ActsOn (call.Between n old new r) folder unique e = (IsOf old folder unique ⊎ (IsOf new folder unique × (r ≡ reply.Ok))) × (r ≡ e)
 ActsOn c folder unique e = ⊥
 
--- the call reads a directory of the folder
+-- the call is a part of a reading of new or cur of the folder, and the part shows what there is: it did not fail
 abbrev pub Looks : Call → ℕ → Type 0
-Looks (call.List f place r shown) folder = f ≡ folder
+Looks (call.List f place r shown) folder = (f ≡ folder) × (is_tmp place ≡ false) × ShowsNames r
 Looks c folder = ⊥

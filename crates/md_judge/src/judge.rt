@@ -17,19 +17,27 @@ ghost use Rattle.md_judge.specs.Open.{AreNames, AreOpen, KeepsOpen, AreGathered}
 
 mod about;
 mod acts;
+mod asked;
 mod changes;
+mod coming;
 mod copied;
 mod directories;
 mod files;
 mod filing;
 mod held;
 mod known;
+mod left;
 mod listing;
+mod looks;
 mod mail;
 mod messages;
 mod mixed;
+mod needed;
 mod order;
 mod pairs;
+mod places;
+mod readings;
+mod search;
 mod tables;
 mod texts;
 mod told;
@@ -75,7 +83,7 @@ impl Judge {
 
     pub(crate) fn add_folder(&mut self) -> Result<(), AllocError>
         ensures told { (lines : ℕ → ℕ) (l l' : Log) → Remembers lines l 0 self.old
-            → l'.opening ≡ record l.opening { folders = suc l.opening.folders } → l'.clock ≡ l.clock → OnOk result (Remembers lines l' 0 self.new) }
+            → l'.opening ≡ record l.opening { folders = suc l.opening.folders } → OnOk result (Remembers lines l' 0 self.new) }
         ensures allowed { OnOk result (self.new.allowed ≡ self.old.allowed) }
         ensures opens { KeepsOpen self.old self.new }
     {

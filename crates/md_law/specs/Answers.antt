@@ -1,14 +1,17 @@
 -- What a program told its user of a message, and what it did since it last told of it.
-use Rattle.std.specs.Prelude.{ℕ, ◌≡◌, ◌⊎◌, List}
+use Rattle.std.specs.Prelude.{ℕ, ◌≡◌, ◌⊎◌, List, false}
 use Rattle.md_dirs.specs.State.{State}
 use Rattle.md_dirs.specs.declared.paths.Path.{Path}
+use Rattle.md_dirs.specs.declared.paths.Place.{Place}
 use Rattle.md_log.specs.declared.line.Call.{Call}
 use Rattle.md_log.specs.declared.line.Call.TheVariants as call
 use Rattle.md_log.specs.declared.line.Deed.TheVariants as deed
 use Rattle.md_log.specs.declared.line.Reply.{Reply}
+use Rattle.md_log.specs.declared.line.Reply.TheVariants as reply
 use Rattle.md_log.specs.declared.line.Said.{Said}
 use Rattle.md_law.specs.History.{History, at, before, IsCall, IsBy, Since, IsUpTo}
-use Rattle.md_law.specs.Messages.{IsOf, IsMessageAt, IsThere}
+use Rattle.md_law.specs.Messages.{is_tmp, IsOf, IsMessageAt, IsThere}
+use Rattle.md_law.specs.Readings.{ShowsNames}
 
 -- a message of a folder, of which an actor tells
 pub record Claim : Type 0 where
@@ -35,18 +38,19 @@ Lately P c h = P h ⊎ ((m : History) × P m × IsUpTo m h × Own (λ k. IsUpTo 
 
 -- ---- the last step
 
--- it acts on the message by a name of it, and is answered so
+-- it acts on the message by a name of it, and is answered so: a link or rename from a name of it, or one to a name of it that is done
 abbrev pub ActsBy : Call → Claim → Reply → Type 0
 ActsBy (call.At deed.Unlink p r) c e = IsOf p c.folder c.unique × (r ≡ e)
-ActsBy (call.Between n old new r) c e = IsOf old c.folder c.unique × (r ≡ e)
+ActsBy (call.Between n old new r) c e = (IsOf old c.folder c.unique ⊎ (IsOf new c.folder c.unique × (r ≡ reply.Ok))) × (r ≡ e)
 ActsBy other c e = ⊥
 
 abbrev pub ActsOn : History → Claim → Reply → Type 0
 ActsOn h c r = (k : Call) × IsCall h k × ActsBy k c r
 
--- it reads a directory of the folder
+-- it is a part of a reading of new or cur of the folder, and the part shows what there is: it did not fail
 abbrev pub Looks : History → Claim → Type 0
-Looks h c = (place : _) × (r : Reply) × (shown : List (List ℕ)) × IsCall h (call.List c.folder place r shown)
+Looks h c = (place : Place) × (r : Reply) × (shown : List (List ℕ)) × IsCall h (call.List c.folder place r shown)
+    × (is_tmp place ≡ false) × ShowsNames r
 
 -- it adds the message to its folder
 abbrev pub AddsMessage : History → Claim → Type 0

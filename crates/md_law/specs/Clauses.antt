@@ -11,6 +11,7 @@ use Rattle.md_dirs.specs.declared.paths.Place.TheVariants.{Tmp, New, Cur}
 use Rattle.md_log.specs.declared.line.Call.{Call}
 use Rattle.md_log.specs.declared.line.Call.TheVariants as call
 use Rattle.md_log.specs.declared.line.Deed.TheVariants as deed
+use Rattle.md_log.specs.declared.line.Naming.{Naming}
 use Rattle.md_log.specs.declared.line.Reply.{Reply}
 use Rattle.md_log.specs.declared.line.Reply.TheVariants as reply
 use Rattle.md_log.specs.declared.line.Said.{Said}
@@ -117,9 +118,11 @@ UsedAgain h = (p : Path) × (file : ℕ) × Adds h p file × (is_message p ≡ t
     × Once (λ m. IsThere (at m) p.folder (unique_of p.name)) (before h)
     × (Once (λ m. (q : Path) × IsMessageAt (at m) p.folder (unique_of p.name) q file) (before h) → ⊥)
 
--- maildir(5), new has what no reader has seen: a file that was a message in cur is named in new.
+-- maildir(5), new has what no reader has seen: a path in new comes to name a file that once was a message in cur, otherwise than by a link
+-- or rename of a message in new. (An unread message may be moved and copied, though a copy of it was read.)
 abbrev pub MovedBack : History → Type 0
 MovedBack h = (p : Path) × (file : ℕ) × Names h p file × (is_message p ≡ true) × (p.place ≡ New) × WasInCur (before h) file
+    × ((n : Naming) (old new : Path) (r : Reply) → IsCall h (call.Between n old new r) → is_message old ≡ true → old.place ≡ New → ⊥)
 
 -- maildir(5), files of tmp "not accessed in 36 hours" may be removed: a path of tmp no longer names a younger file, which readers don't
 -- see and which the actor did not make.

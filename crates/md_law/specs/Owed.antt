@@ -4,15 +4,13 @@ use Rattle.std.specs.Prelude.{ℕ, ◌≡◌, ◌≢◌, ◌≤◌, ◌-◌, Lis
 use Rattle.md_dirs.specs.State.{file_at, file_by}
 use Rattle.md_dirs.specs.declared.paths.File.{File}
 use Rattle.md_dirs.specs.declared.paths.Path.{Path}
-use Rattle.md_dirs.specs.declared.paths.Place.TheVariants.{Tmp, New}
+use Rattle.md_dirs.specs.declared.paths.Place.TheVariants.{Tmp}
 use Rattle.md_name.specs.Names.{unique_of}
-use Rattle.md_log.specs.declared.line.Call.TheVariants as call
-use Rattle.md_log.specs.declared.line.Naming.{Naming}
 use Rattle.md_log.specs.declared.line.Reply.{Reply}
 use Rattle.md_log.specs.declared.line.Reply.TheVariants as reply
-use Rattle.md_law.specs.History.{History, at, now, before, IsCall, IsBy, Once}
+use Rattle.md_law.specs.History.{History, at, now, before, IsBy, Once}
 use Rattle.md_law.specs.Messages.{is_message, IsSeen, IsMessageAt}
-use Rattle.md_law.specs.Files.{Names, Adds, Writes, WasInCur, IsMaker}
+use Rattle.md_law.specs.Files.{Names, Adds, Writes, IsMaker}
 
 -- the last step is a write to the file, done or failed: one that failed may have left a part of its bytes
 abbrev pub MayWrite : History → ℕ → Type 0
@@ -32,12 +30,6 @@ Rewritten h = (file : ℕ) × MayWrite h file × Once (λ m. IsSeen (at m) file)
 abbrev pub NamedByAnother : History → Type 0
 NamedByAnother h = (actor : List ℕ) × (p : Path) × (file : ℕ) × IsBy h actor × Names h p file × (IsSeen (at (before h)) file → ⊥)
     × (IsMaker h actor file → ⊥)
-
--- maildir(5), new has what no reader has seen: a path in new comes to name a file that once was a message in cur, otherwise than by a link
--- or rename of a message in new. (An unread message may be moved and copied, though a copy of it was read.)
-abbrev pub MovedBack : History → Type 0
-MovedBack h = (p : Path) × (file : ℕ) × Names h p file × (is_message p ≡ true) × (p.place ≡ New) × WasInCur (before h) file
-    × ((n : Naming) (old new : Path) (r : Reply) → IsCall h (call.Between n old new r) → is_message old ≡ true → old.place ≡ New → ⊥)
 
 -- "Using maildir format", names are unique: a path of a message is added, and its unique name is that of a message in another folder.
 abbrev pub InTwoFolders : History → Type 0

@@ -1,5 +1,5 @@
 -- Readings of directories, which may come in parts, and listings of folders, which are readings of new and cur.
-use Rattle.std.specs.Prelude.{ℕ, ◌≡◌, ◌≢◌, List, Some, Bool, true, false, slice_get, if◌then◌else◌, ◌==◌}
+use Rattle.std.specs.Prelude.{ℕ, ◌≡◌, ◌≢◌, ◌⊎◌, List, Some, Bool, true, false, slice_get, if◌then◌else◌, ◌==◌}
 use Rattle.std.specs.Str.{bytes_eq}
 use Rattle.md_dirs.specs.declared.paths.Place.{Place}
 use Rattle.md_dirs.specs.declared.paths.Place.TheVariants.{Tmp, New, Cur}
@@ -21,6 +21,10 @@ Reads h d r shown = IsBy h d.actor × IsCall h (call.List d.folder d.place r sho
 
 abbrev pub IsPart : History → Looker → Reply → Type 0
 IsPart h d r = (shown : List (List ℕ)) × Reads h d r shown
+
+-- a part that answers so shows names: it is the last one, or says that more follows
+abbrev pub ShowsNames : Reply → Type 0
+ShowsNames r = (r ≡ reply.Ok) ⊎ (r ≡ reply.More)
 
 -- the last part so far says that more follows
 abbrev pub IsReadOn : History → Looker → Type 0

@@ -9,7 +9,7 @@ use Rattle.std.proofs.lemmas.Slice.Eq.{bytes_eq-Decides}
 use Rattle.md_dirs.specs.State.{State, file_at}
 use Rattle.md_dirs.specs.declared.paths.Path.{Path}
 use Rattle.md_dirs.specs.declared.paths.Place.{Place}
-use Rattle.md_dirs.specs.declared.paths.Place.TheVariants.{Cur}
+use Rattle.md_dirs.specs.declared.paths.Place.TheVariants.{Tmp, New, Cur}
 use Rattle.md_name.specs.Letters.{Set}
 use Rattle.md_name.specs.Names.{info_of, flags_of}
 use Rattle.md_log.specs.declared.line.Call.{Call}
@@ -20,7 +20,8 @@ use Rattle.md_log.specs.declared.line.Reply.TheVariants as reply
 use Rattle.md_log.specs.declared.line.Said.{Said}
 use Rattle.md_log.specs.declared.line.Step.{Step}
 use Rattle.md_law.specs.History.{Moment, History, opening, next, at, now, before, moment, Once, Since, IsUpTo, IsBy, IsCall}
-use Rattle.md_law.specs.Messages.{IsOf, IsMessageAt, IsThere, ShowsFlags}
+use Rattle.md_law.specs.Messages.{is_tmp, IsOf, IsMessageAt, IsThere, ShowsFlags}
+use Rattle.md_law.specs.Readings.{ShowsNames}
 use Rattle.md_law.specs.Answers.{Claim, TellsNothing, Own, ActsBy, ActsOn, Looks, AddsMessage, TakesMessage, ChangesMessage}
 use Rattle.md_law.specs.Clauses.{IsLeft}
 use Rattle.md_monitor.specs.Changes.{change_of}
@@ -35,6 +36,7 @@ use Rattle.md_monitor.proofs.Once.{named-is}
 use Rattle.md_monitor.proofs.Telling.{turned-is, left-is}
 use Rattle.md_monitor.proofs.Remembering.{of-is}
 use Rattle.md_monitor.proofs.Noticing.{is-there}
+use Rattle.md_monitor.proofs.Parts.{more-is}
 use Rattle.md_monitor.proofs.Moments.{upto-itself, upto-next, upto-before, upto-trans, upto-same, since-map}
 
 -- ---- what directories show of a message
@@ -78,16 +80,30 @@ acted-by : (k : Call) (c : Claim) (answer : Reply → Bool) (A : Reply → Type 
 acted-by (call.At deed.Unlink p r) c answer A each = Decides-like _ (λ both. (r, (both.0, refl), both.1))
     (λ (e, acts, holds). (acts.0, subst A (sym acts.1) holds)) (Decides-and _ _ (of-is c.folder c.unique p) (each r))
 acted-by (call.Between n old new r) c answer A each = Decides-like _ (λ both. (r, (both.0, refl), both.1))
-    (λ (e, acts, holds). (acts.0, subst A (sym acts.1) holds)) (Decides-and _ _ (of-is c.folder c.unique old) (each r))
+    (λ (e, acts, holds). (acts.0, subst A (sym acts.1) holds))
+    (Decides-and _ _ (Decides-or _ _ (of-is c.folder c.unique old) (Decides-and _ _ (of-is c.folder c.unique new) (ok-is r))) (each r))
 acted-by k c answer A each = (λ t. absurd (cc), λ (e, acts, holds). absurd acts)
 
-looked-by : (k : Call) (c : Claim)
-    → Decides (looks_by k c) ((place : Place) × (r : Reply) × (shown : List (List ℕ)) × (k ≡ call.List c.folder place r shown))
+-- the call is a part of a reading of new or cur of the folder, and the part shows names
+abbrev LooksBy : Call → Claim → Type 0
+LooksBy k c = (place : Place) × (r : Reply) × (shown : List (List ℕ)) × (k ≡ call.List c.folder place r shown)
+    × (is_tmp place ≡ false) × ShowsNames r
+
+looked-by : (k : Call) (c : Claim) → Decides (looks_by k c) (LooksBy k c)
 looked-by (call.List folder place r shown) c = Decides-like _
-    (λ same. (place, r, shown, ap (λ (f : ℕ). call.List f place r shown) same))
-    (λ (p, e, s, is). cc is)
-    (Decides-eqb folder c.folder)
-looked-by k c = (λ t. absurd (cc), λ (p, e, s, is). absurd (cc is))
+    (λ (same, (outside, shows)). (place, r, shown, ap (λ (f : ℕ). call.List f place r shown) same, outside, shows))
+    (λ (p, e, s, is, outside, shows).
+    let here : place ≡ p = cc is in
+    let answered : r ≡ e = cc is in
+    (cc is, (ap is_tmp here ∙ outside, subst ShowsNames (sym answered) shows)))
+    (Decides-and _ _ (Decides-eqb folder c.folder)
+    (Decides-and _ _ (outside-is place) (Decides-or _ _ (ok-is r) (more-is r))))
+  where
+    outside-is : (p : Place) → Decides (not (is_tmp p)) (is_tmp p ≡ false)
+    outside-is Tmp = (λ t. absurd (cc), λ no. absurd (cc no))
+    outside-is New = (λ t. refl, λ no. refl)
+    outside-is Cur = (λ t. refl, λ no. refl)
+looked-by k c = (λ t. absurd (cc), λ (p, e, s, is, outside, shows). absurd (cc is))
 
 unlinked-by : (k : Call) → Decides (is_unlink k) ((p : Path) × (r : Reply) × (k ≡ call.At deed.Unlink p r))
 unlinked-by (call.At deed.Unlink p r) = (λ t. (p, r, refl), λ is. refl)
@@ -130,8 +146,8 @@ module _ (past : History) (x : Step) (c : Claim) where
 
   looks-is : Decides (looks_by x.call c) (Looks h c)
   looks-is = Decides-like _
-      (λ (place, r, shown, is). (place, r, shown, (is-call past x _).1 is))
-      (λ (place, r, shown, is). (place, r, shown, (is-call past x _).0 is))
+      (λ (place, r, shown, is, outside, shows). (place, r, shown, (is-call past x _).1 is, outside, shows))
+      (λ (place, r, shown, is, outside, shows). (place, r, shown, (is-call past x _).0 is, outside, shows))
       (looked-by x.call c)
 
   refused-is : Decides (found.is_refused (at past) (now h) x c) (IsBy h c.actor × ((r : Reply) × ActsOn h c r × (r ≢ reply.Ok)))

@@ -1,16 +1,18 @@
 -- What a monitor finds by files is what the law has.
-use Rattle.std.proofs.Common.{ℕ, ◌≡◌, inl, inr, ◌&&◌, ◌-◌, ◌<◌, Some, Bool, true, refl, ap, subst, ◌∙◌}
+use Rattle.std.proofs.Common.{ℕ, ◌≡◌, inl, inr, ◌&&◌, ◌-◌, ◌<◌, Some, Bool, true, refl, sym, ap, subst, ◌∙◌}
 use Rattle.std.specs.Bool.{Decides}
 use Rattle.std.proofs.lemmas.Bool.Decides.{Decides-and, Decides-or, Decides-not, Decides-like, Decides-ltb}
 use Rattle.md_dirs.specs.State.{file_by}
 use Rattle.md_dirs.specs.declared.paths.Path.{Path}
-use Rattle.md_dirs.specs.declared.paths.Place.TheVariants.{Tmp}
+use Rattle.md_dirs.specs.declared.paths.Place.TheVariants.{Tmp, New}
 use Rattle.md_dirs.specs.declared.paths.File.{File}
 use Rattle.md_log.specs.declared.clause.Clause.{Clause}
 use Rattle.md_log.specs.declared.clause.Clause.TheVariants as clause
 use Rattle.md_log.specs.declared.line.Call.{Call}
 use Rattle.md_log.specs.declared.line.Call.TheVariants as call
 use Rattle.md_log.specs.declared.line.Deed.TheVariants as deed
+use Rattle.md_log.specs.declared.line.Naming.{Naming}
+use Rattle.md_log.specs.declared.line.Reply.{Reply}
 use Rattle.md_log.specs.declared.line.Reply.TheVariants as reply
 use Rattle.md_log.specs.declared.line.Step.{Step}
 use Rattle.md_law.specs.History.{History, next, at, now, moment}
@@ -18,13 +20,25 @@ use Rattle.md_law.specs.Messages.{is_message, IsSeen}
 use Rattle.md_law.specs.Files.{Writes, Leaves, IsCut, IsUnflushed, IsMaker}
 use Rattle.md_law.specs.Clauses as law
 use Rattle.md_monitor.specs.Changes.{change_of, turned_by}
-use Rattle.md_monitor.specs.Files.{files_kept, is_some_and, is_ok, is_seen, written_by}
-use Rattle.md_monitor.specs.Found.{breaks_by_files, makes_message, is_cleaned_early}
-use Rattle.md_monitor.proofs.Tests.{some-and, some-is, ok-is, tmp-is}
+use Rattle.md_monitor.specs.Files.{files_kept, is_some_and, is_new, is_ok, is_seen, written_by}
+use Rattle.md_monitor.specs.Found.{breaks_by_files, makes_message, is_from_new, is_cleaned_early}
+use Rattle.md_monitor.proofs.Tests.{some-and, some-is, ok-is, tmp-is, new-is}
 use Rattle.md_monitor.proofs.Seeing.{seen-is}
 use Rattle.md_monitor.proofs.Stepping.{is-call, is-by}
 use Rattle.md_monitor.proofs.Keeping.{kept}
 use Rattle.md_monitor.proofs.Telling.{made-it, other-than, back-is, shown-is, written-is, turned-is, left-is}
+
+-- a call from a path of a message in new
+abbrev IsFromNew : Call → Type 0
+IsFromNew c = (n : Naming) × (old new : Path) × (r : Reply) × (c ≡ call.Between n old new r) × ((is_message old ≡ true) × (old.place ≡ New))
+
+from_new-is : (c : Call) → Decides (is_from_new c) (IsFromNew c)
+from_new-is (call.Between n old new r) =
+    let both = Decides-and (is_message old) (is_new old.place) (λ t. t, λ t. t) (new-is old.place) in (
+      λ t. (n, old, new, r, refl, both.0 t),
+      λ (m, o, q, e, is, here). let same : old ≡ o = cc is in both.1 (subst (λ p. (is_message p ≡ true) × (p.place ≡ New)) (sym same) here),
+    )
+from_new-is c = (λ t. absurd (cc), λ (m, o, q, e, is, here). absurd (cc is))
 
 makes_message-is : (c : Call) → Decides (makes_message c) ((p : Path) × (c ≡ call.At deed.Create p reply.Ok) × (is_message p ≡ true))
 makes_message-is (call.At deed.Create p reply.Ok) = (λ t. (p, refl, t), λ (q, e, t). let same : p ≡ q = cc e in ap is_message same ∙ t)
@@ -73,9 +87,20 @@ module _ (past : History) (x : Step) where
 
   pub moved_back : Decides (found clause.MovedBack) (law.MovedBack h)
   moved_back = Decides-like _
-      (λ (p, n, new, both). (p, n, new, both.0.0, both.0.1, both.1))
-      (λ (p, n, new, message, place, was). (p, n, new, ((message, place), was)))
-      (back-is past x)
+      (λ ((p, n, new, both), other). (
+        p,
+        n,
+        new,
+        both.0.0,
+        both.0.1,
+        both.1,
+        λ m o q r is message place. other (m, o, q, r, (is-call past x _).0 is, (message, place)),
+      ))
+      (λ (p, n, new, message, place, was, other). (
+        (p, n, new, ((message, place), was)),
+        λ (m, o, q, r, is, here). other m o q r ((is-call past x _).1 is) here.0 here.1,
+      ))
+      (Decides-and _ _ (back-is past x) (Decides-not _ (from_new-is x.call)))
 
   -- a path of tmp left a young file, which readers don't see and which another actor made
   abbrev Cleans : Path → ℕ → Type 0

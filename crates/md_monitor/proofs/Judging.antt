@@ -78,7 +78,7 @@ module _ (past : History) (x : Step) where
   owed-is named_by_another = owing.named_by_another past x
   owed-is cleaned_early = files.cleaned_early past x
   owed-is rewritten = owing.rewritten past x
-  owed-is moved_back = owing.moved_back past x
+  owed-is moved_back = files.moved_back past x
   owed-is in_two_folders = messages.in_two_folders past x
   owed-is used_again = messages.used_by_another past x
   owed-is made_again = messages.made_again past x

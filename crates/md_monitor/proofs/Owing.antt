@@ -1,42 +1,24 @@
 -- What a monitor finds by files of what each program owes is what each owes.
-use Rattle.std.proofs.Common.{ℕ, ◌≡◌, ◌≢◌, ◌-◌, ◌≤◌, Some, Bool, true, refl, sym, subst}
+use Rattle.std.proofs.Common.{ℕ, ◌≡◌, ◌≢◌, ◌-◌, ◌≤◌, Some, Bool, refl}
 use Rattle.std.specs.Bool.{Decides}
 use Rattle.std.proofs.lemmas.Bool.Decides.{Decides-and, Decides-not, Decides-like}
 use Rattle.std.proofs.lemmas.Bool.{leb-true, le-leb}
 use Rattle.md_dirs.specs.State.{file_by}
-use Rattle.md_dirs.specs.declared.paths.Path.{Path}
-use Rattle.md_dirs.specs.declared.paths.Place.TheVariants.{New}
 use Rattle.md_dirs.specs.declared.paths.File.{File}
-use Rattle.md_log.specs.declared.line.Call.{Call}
-use Rattle.md_log.specs.declared.line.Call.TheVariants as call
-use Rattle.md_log.specs.declared.line.Naming.{Naming}
-use Rattle.md_log.specs.declared.line.Reply.{Reply}
 use Rattle.md_log.specs.declared.line.Reply.TheVariants as reply
 use Rattle.md_log.specs.declared.line.Step.{Step}
 use Rattle.md_law.specs.History.{History, next, at, now, Once}
-use Rattle.md_law.specs.Messages.{is_message, IsSeen}
+use Rattle.md_law.specs.Messages.{IsSeen}
 use Rattle.md_law.specs.Files.{IsMaker}
 use Rattle.md_law.specs.Owed as owed
-use Rattle.md_monitor.specs.Files.{files_kept, is_new}
+use Rattle.md_monitor.specs.Files.{files_kept}
 use Rattle.md_monitor.specs.Found as found
-use Rattle.md_monitor.proofs.Tests.{some-and, not_found-is, new-is}
+use Rattle.md_monitor.proofs.Tests.{some-and, not_found-is}
 use Rattle.md_monitor.proofs.Seeing.{seen-is}
-use Rattle.md_monitor.proofs.Stepping.{is-call, is-by}
+use Rattle.md_monitor.proofs.Stepping.{is-by}
 use Rattle.md_monitor.proofs.Keeping.{kept}
 use Rattle.md_monitor.proofs.Once.{named-is}
-use Rattle.md_monitor.proofs.Telling.{made-it, other-than, back-is, written-is}
-
--- a call from a path of a message in new
-abbrev IsFromNew : Call → Type 0
-IsFromNew c = (n : Naming) × (old new : Path) × (r : Reply) × (c ≡ call.Between n old new r) × ((is_message old ≡ true) × (old.place ≡ New))
-
-from_new-is : (c : Call) → Decides (found.is_from_new c) (IsFromNew c)
-from_new-is (call.Between n old new r) =
-    let both = Decides-and (is_message old) (is_new old.place) (λ t. t, λ t. t) (new-is old.place) in (
-      λ t. (n, old, new, r, refl, both.0 t),
-      λ (m, o, q, e, is, here). let same : old ≡ o = cc is in both.1 (subst (λ p. (is_message p ≡ true) × (p.place ≡ New)) (sym same) here),
-    )
-from_new-is c = (λ t. absurd (cc), λ (m, o, q, e, is, here). absurd (cc is))
+use Rattle.md_monitor.proofs.Telling.{made-it, other-than, written-is}
 
 module _ (past : History) (x : Step) where
   abbrev h : History
@@ -65,23 +47,6 @@ module _ (past : History) (x : Step) where
       (λ (actor, p, n, by, new, hidden, other). (p, n, new, (hidden, other-than past x h actor n by other)))
       (named-is past x _ (λ p n. (IsSeen (at past) n → ⊥) × (IsMaker h x.actor n → ⊥))
       (λ e. Decides-and _ _ (Decides-not _ (seen-is (at past) e.1)) (Decides-not _ (made-it h e.1 x.actor))))
-
-  pub moved_back : Decides (found.owes_moved_back (at past) (now h) (files_kept past) x) (owed.MovedBack h)
-  moved_back = Decides-like _
-      (λ ((p, n, new, both), other). (
-        p,
-        n,
-        new,
-        both.0.0,
-        both.0.1,
-        both.1,
-        λ m o q r is message place. other (m, o, q, r, (is-call past x _).0 is, (message, place)),
-      ))
-      (λ (p, n, new, message, place, was, other). (
-        (p, n, new, ((message, place), was)),
-        λ (m, o, q, r, is, here). other m o q r ((is-call past x _).1 is) here.0 here.1,
-      ))
-      (Decides-and _ _ (back-is past x) (Decides-not _ (from_new-is x.call)))
 
   pub written_late : Decides (found.owes_written_late (at past) (now h) (files_kept past) x) (owed.WrittenLate h)
   written_late = Decides-like _

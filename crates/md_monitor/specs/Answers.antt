@@ -14,9 +14,11 @@ use Rattle.md_log.specs.declared.line.Said.TheVariants as said
 use Rattle.md_log.specs.declared.line.Step.{Step}
 use Rattle.md_law.specs.History.{History, opening, next, at, now, after_call}
 use Rattle.md_law.specs.Answers.{Claim}
+use Rattle.md_law.specs.Messages.{is_tmp}
 use Rattle.md_monitor.specs.Changes.{change_of}
 use Rattle.md_monitor.specs.Files.{is_some_and, is_cur, is_ok, count_where}
 use Rattle.md_monitor.specs.Messages.{is_of, is_there}
+use Rattle.md_monitor.specs.Readings.{is_more}
 
 -- What is kept of an actor and a message of a folder, since the actor's last answer about it.
 pub record ClaimKept : Type 0 where
@@ -55,15 +57,16 @@ abbrev pub is_told_by : Call → Claim → Bool
 is_told_by (call.Answer said folder unique) c = folder == c.folder && bytes_eq unique c.unique
 is_told_by other c = false
 
--- it acts on the message by a name of it, and its answer is one of these
+-- it acts on the message by a name of it, and its answer is one of these: from a name of it, or to a name of it where it is done
 abbrev pub acts_by : Call → Claim → (Reply → Bool) → Bool
 acts_by (call.At deed.Unlink p r) c answer = is_of c.folder c.unique p && answer r
-acts_by (call.Between n old new r) c answer = is_of c.folder c.unique old && answer r
+acts_by (call.Between n old new r) c answer =
+    (is_of c.folder c.unique old || (is_of c.folder c.unique new && is_ok r)) && answer r
 acts_by other c answer = false
 
--- it reads a directory of the folder
+-- it is a part of a reading of new or cur of the folder, and the part shows names
 abbrev pub looks_by : Call → Claim → Bool
-looks_by (call.List folder place r shown) c = folder == c.folder
+looks_by (call.List folder place r shown) c = folder == c.folder && (not (is_tmp place) && (is_ok r || is_more r))
 looks_by other c = false
 
 abbrev pub is_unlink : Call → Bool

@@ -24,7 +24,7 @@ Finds = (past : History) (x : Step) (c : Clause)
 
 -- ---- what each program owes the others
 
--- The clauses of what each program owes the others: two of the law, and those that are owed beside it.
+-- The clauses of what each program owes the others: three of the law, and those that are owed beside it.
 pub data OwedClause : Type 0 where
   two_names : OwedClause
   mixed : OwedClause
@@ -44,7 +44,7 @@ BreaksOwed mixed h = owed.Mixed h
 BreaksOwed named_by_another h = owed.NamedByAnother h
 BreaksOwed cleaned_early h = law.CleanedEarly h
 BreaksOwed rewritten h = owed.Rewritten h
-BreaksOwed moved_back h = owed.MovedBack h
+BreaksOwed moved_back h = law.MovedBack h
 BreaksOwed in_two_folders h = owed.InTwoFolders h
 BreaksOwed used_again h = owed.UsedAgain h
 BreaksOwed made_again h = owed.MadeAgain h
@@ -57,7 +57,7 @@ finds_owed s now kept x mixed = files.owes_mixed s now kept.files x
 finds_owed s now kept x named_by_another = files.owes_named_by_another s now kept.files x
 finds_owed s now kept x cleaned_early = finds s now kept x clause.CleanedEarly
 finds_owed s now kept x rewritten = files.owes_rewritten s now kept.files x
-finds_owed s now kept x moved_back = files.owes_moved_back s now kept.files x
+finds_owed s now kept x moved_back = finds s now kept x clause.MovedBack
 finds_owed s now kept x in_two_folders = messages.owes_in_two_folders s now kept.messages x
 finds_owed s now kept x used_again = messages.owes_used_again s now kept.messages x
 finds_owed s now kept x made_again = messages.owes_made_again s now kept.messages x

@@ -55,8 +55,12 @@ module _ (s : State) (now : ℕ) (kept : ℕ → FileKept) (x : Step) where
   abbrev shows_unflushed : Bool
   shows_unflushed = is_some_and named (λ e. is_shown e && (kept e.1).is_unflushed)
 
+  -- a path of a message in new comes to name a file that was a message in cur
   abbrev pub is_moved_back : Path × ℕ → Bool
   is_moved_back e = is_message e.0 && is_new e.0.place && (kept e.1).was_cur
+
+  abbrev pub breaks_moved_back : Bool
+  breaks_moved_back = is_some_and named is_moved_back && not (is_from_new x.call)
 
   -- a path of tmp left a young file, which readers don't see and which another actor made
   abbrev pub is_cleaned_early : Path × ℕ → Bool
@@ -70,7 +74,7 @@ module _ (s : State) (now : ℕ) (kept : ℕ → FileKept) (x : Step) where
   breaks_by_files clause.SeenBeforeWhole = shows_too_early
   breaks_by_files clause.Mixed = mixes
   breaks_by_files clause.NotFlushed = shows_unflushed
-  breaks_by_files clause.MovedBack = is_some_and named is_moved_back
+  breaks_by_files clause.MovedBack = breaks_moved_back
   breaks_by_files clause.CleanedEarly =
       is_some_and (change_of s x.call).taken is_cleaned_early || is_some_and (turned_by s named) is_cleaned_early
   breaks_by_files c = false
@@ -89,9 +93,6 @@ module _ (s : State) (now : ℕ) (kept : ℕ → FileKept) (x : Step) where
 
   abbrev pub owes_named_by_another : Bool
   owes_named_by_another = is_some_and named (λ e. not (is_seen s e.1) && not (is_maker (kept_after s x kept e.1) x.actor))
-
-  abbrev pub owes_moved_back : Bool
-  owes_moved_back = is_some_and named is_moved_back && not (is_from_new x.call)
 
   abbrev pub owes_written_late : Bool
   owes_written_late =

@@ -1,6 +1,6 @@
 -- What a watch keeps follows the lines of the beginning.
 use Rattle.std.proofs.Common.{ℕ, ◌≡◌, ◌+◌, ◌==◌, ◌&&◌, ◌||◌, cond, nat_lt, List, [], Option, Some, None, Bool, true, false, not, is_some, length, Ok, refl, sym, ap, subst, ◌∙◌, arith}
-use Rattle.std.specs.Prelude.{max, unwrap_or}
+use Rattle.std.specs.Prelude.{unwrap_or}
 use Rattle.std.specs.Ordering.{eq_by_cmp}
 use Rattle.std.specs.List.{count_by}
 use Rattle.std.specs.FinMap as finmap
@@ -92,15 +92,15 @@ module _ (s s' : State) (p : Path) (n : ℕ) (free : file_at s p ≡ None) (name
 -- ---- a file
 
 pub put-file : (l : Log) (p : Path) (stamp : ℕ) (w mid new : Watch) → Holds (beginning l) w → file_in w.paths p ≡ None
-    → mid.clock ≡ max w.clock stamp → mid.paths ≡ w.paths → Adds (made_by None stamp) w.files.all.items mid.files.all.items
+    → mid.clock ≡ w.clock → mid.paths ≡ w.paths → Adds (made_by None stamp) w.files.all.items mid.files.all.items
     → mid.messages ≡ w.messages → mid.drafts ≡ w.drafts
     → Follows (adding p (length w.files.all.items)) mid new → Begins (with_file_line l p stamp) new
 unfolding moment files_kept messages_kept with_file_line
 put-file l p stamp w mid new holds free clock paths does sameMessages sameDrafts follows = (
-  record l { opening = s'; clock = max l.clock stamp },
-  ap (λ o. require (not (is_some o)) SamePath >>= (λ u. Ok (record l { opening = s'; clock = max l.clock stamp }))) none,
+  record l { opening = s' },
+  ap (λ o. require (not (is_some o)) SamePath >>= (λ u. Ok (record l { opening = s' }))) none,
   turned (adding p number) s s' (kept_first s) (kept_first s') (messages_first s) (messages_first s') leads
-      (max l.clock stamp) mid new (clock ∙ ap (λ k. max k stamp) holds.clock) (λ q. ap (λ (ps : _). file_in ps q) paths ∙ holds.paths q)
+      0 mid new (clock ∙ holds.clock) (λ q. ap (λ (ps : _). file_in ps q) paths ∙ holds.paths q)
       touched
       (subst (λ m. AreMessages s (messages_first s) m) (sym sameMessages) holds.messages)
       (subst (λ d. AreDrafts (messages_first s) d) (sym sameDrafts) holds.drafts)
@@ -141,7 +141,7 @@ put-name l p old n w new holds free named follows = (
   record l { opening = s' },
   (λ i. require (not (is_some (none i))) SamePath >>= (λ u. require (is_some (at i)) NoSuchPath >>= (λ v. Ok (record l { opening = with_path p s (at i) })))),
   turned (adding p n) s s' (kept_first s) (kept_first s') (messages_first s) (messages_first s')
-      (adds s s' p n none refl (has-named s p n holds.filed (holds.filed old n at))) l.clock w new holds.clock holds.paths touched holds.messages holds.drafts follows,
+      (adds s s' p n none refl (has-named s p n holds.filed (holds.filed old n at))) 0 w new holds.clock holds.paths touched holds.messages holds.drafts follows,
 )
   where
     s : State

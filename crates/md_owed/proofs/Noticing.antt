@@ -103,7 +103,8 @@ module _ (s : State) (kept : ℕ → FileKept) (w : Watch) (are : AreFiles s kep
 
   -- ---- clauses by paths that come to name a file
 
-  pub moved_back : (now : ℕ) (x : Step) → (found.is_moved_back w (change_of s x.call).named && not (files.is_from_new x.call)) ≡ files.owes_moved_back s now kept x
+  pub moved_back : (now : ℕ) (x : Step)
+      → (found.is_moved_back w (change_of s x.call).named && not (files.is_from_new x.call)) ≡ files.breaks_moved_back s now kept x
   moved_back now x = ap (λ b. b && not (files.is_from_new x.call))
       (same-at (change_of s x.call).named _ _ (λ e is. ap (λ b. (is_message e.0 && is_new e.0.place) && b) (are.was_cur e.1)))
 

@@ -1,6 +1,6 @@
 -- Lines that are refused are wrong, or are steps that have ticks.
 use Rattle.std.proofs.Common.{ℕ, ◌≡◌, ◌≢◌, ◌<◌, ◌≤◌, ◌+◌, List, [], ◌∷◌, ◌++◌, Some, None, Bool, true, false, not, is_some, length, Result, Ok, Err, IfErr, refl, sym, ap, subst, ◌∙◌, arith}
-use Rattle.std.specs.Prelude.{if◌then◌else◌, codes, max}
+use Rattle.std.specs.Prelude.{if◌then◌else◌, codes}
 use Rattle.std.specs.Str.{bytes_eq}
 use Rattle.std.specs.Result.{IsErrAnd}
 use Rattle.std.proofs.lemmas.Result.{err_from_is_err_and}
@@ -52,7 +52,7 @@ there-at l p w holds = ap is_some (sym (holds.paths p))
 pub same-path : (l : Log) (p : Path) (stamp : ℕ) → is_some (file_at l.opening p) ≡ true → with_file_line l p stamp ≡ Err SamePath
 unfolding with_file_line
 same-path l p stamp there = ap (λ b. require (not b) SamePath
-    >>= (λ u. Ok (record l { opening = with_new_file p (empty_file stamp) l.opening; clock = max l.clock stamp }))) there
+    >>= (λ u. Ok (record l { opening = with_new_file p (empty_file stamp) l.opening }))) there
 
 pub same-name : (l : Log) (p old : Path) → is_some (file_at l.opening p) ≡ true → with_also_line l p old ≡ Err SamePath
 unfolding with_also_line

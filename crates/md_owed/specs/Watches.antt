@@ -71,7 +71,7 @@ Finds b h = (c : OwedClause) → IsBroken b c ↔ BreaksOwed (meant c) h
 
 -- the history of a log before its first step
 abbrev pub beginning : Log → History
-beginning l = opening (record { state = l.opening; now = l.clock })
+beginning l = opening (record { state = l.opening; now = 0 })
 
 -- a line of the beginning makes this log of the one before, and the watch holds what is so then
 abbrev pub Begins : Result Log LineFault → Watch → Type 0

@@ -112,7 +112,6 @@ impl Watch {
         if self.paths.file_at(path).is_some() {
             return Err(LineFault::SamePath);
         }
-        self.clock = self.clock.max(stamp);
         let file = self.files.count();
         self.files.make(None, stamp)?;
         self.follow(&added(path, file))?;

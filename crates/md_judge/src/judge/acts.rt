@@ -11,7 +11,7 @@ ghost use Rattle.md_judge.specs.Acts.{UnlinksPath, IsOlder, Leads};
 ghost use Rattle.md_judge.specs.Filed.{AreFiled, IsJudged, BrokenByFiles};
 ghost use Rattle.md_judge.specs.Logs.{Log};
 ghost use Rattle.md_judge.specs.Mailed.{KeepsPresent, TellsMail, NotesMessages, AreTimed};
-ghost use Rattle.md_judge.specs.Actors.{KeepsDeeds, MarksChange, NotesAct, NotesMoves, GoesWith, acted, acted_at, reply_to_name};
+ghost use Rattle.md_judge.specs.Actors.{KeepsDeeds, MarksChange, NotesActs, NotesMoves, GoesWith, ActsByPath, IsActed, acted_by, acted_at, reply_to_name, reply_to_target};
 ghost use Rattle.md_log.specs.declared.line.Step.{Step};
 ghost use Rattle.md_judge.specs.Known.{EachSpot, IsBelow};
 ghost use Rattle.md_clauses.specs.declared.changes.Spot.{Spot};
@@ -49,7 +49,7 @@ impl Watch {
         ensures added { (path : Spot → Path) (who : ℕ → List ℕ) (many i : ℕ) (l : Log) (x : Step) → TellsMail known.now.names l i self.old.mail
             → IsJudged path who many l i x actor call.now known.now act.now → OnOk result (NotesMessages (turn l i x) self.old.found self.new.found) }
         ensures acts { self.old.now < 4294967296
-            → OnOk result (NotesAct actor self.old.now (acted known.now.names act.now.spot call.now) self.old.actors self.new.actors) }
+            → OnOk result (NotesActs actor self.old.now (ActsByPath known.now.names act.now call.now) self.old.actors self.new.actors) }
         ensures moves { OnOk result
             (NotesMoves actor self.old.now (GoesWith known.now.names act.now.change.taken self.new.mail) self.old.actors self.new.actors) }
         ensures answers { OnOk result (KeepsAnswers self.old.found self.new.found) }
@@ -71,7 +71,7 @@ impl Watch {
 }
 
 impl Actors {
-    /// A call, which may be one on a message by a name of it.
+    /// A call, which may be one on a message by a name of it. A link or rename that is done is one on both of its paths.
     fn note_call(
         &mut self,
         known: &Known,
@@ -80,14 +80,33 @@ impl Actors {
         call: &Call,
         act: &Act,
     ) -> Result<(), AllocError>
-        ensures acts { now < 4294967296 → OnOk result (NotesAct actor now (acted known.now.names act.now.spot call.now) self.old self.new) }
+        ensures acts { now < 4294967296
+            → OnOk result (NotesActs actor now (ActsByPath known.now.names act.now call.now) self.old self.new) }
         ensures moved { OnOk result (self.new.moved ≡ self.old.moved) }
         ensures deeds { OnOk result (KeepsDeeds self.old self.new) }
     {
-        let Some(spot) = act.spot else {
+        self.note_path(known, actor, now, act.spot, reply_to_name(call))?;
+        self.note_path(known, actor, now, act.target, reply_to_target(call))
+    }
+
+    /// A call on a path, if there is one, with its reply, if it acts on the message by that path.
+    fn note_path(
+        &mut self,
+        known: &Known,
+        actor: u32,
+        now: usize,
+        spot: Option<Spot>,
+        reply: Option<Reply>,
+    ) -> Result<(), AllocError>
+        ensures acts { now < 4294967296
+            → OnOk result (NotesActs actor now (IsActed (acted_by known.now.names spot reply)) self.old self.new) }
+        ensures moved { OnOk result (self.new.moved ≡ self.old.moved) }
+        ensures deeds { OnOk result (KeepsDeeds self.old self.new) }
+    {
+        let Some(spot) = spot else {
             return Ok(());
         };
-        let Some(reply) = reply_to_name(call) else {
+        let Some(reply) = reply else {
             return Ok(());
         };
         self.note_act(known, actor, now, spot, reply)
@@ -101,7 +120,8 @@ impl Actors {
         spot: Spot,
         reply: Reply,
     ) -> Result<(), AllocError>
-        ensures acts { now < 4294967296 → OnOk result (NotesAct actor now (acted_at known.now.names spot (Some reply)) self.old self.new) }
+        ensures acts { now < 4294967296
+            → OnOk result (NotesActs actor now (IsActed (acted_at known.now.names spot (Some reply))) self.old self.new) }
         ensures moved { OnOk result (self.new.moved ≡ self.old.moved) }
         ensures deeds { OnOk result (KeepsDeeds self.old self.new) }
     {
@@ -121,7 +141,7 @@ fn is_refused(reply: Reply) -> bool
     reply != Reply::Ok
 }
 
-/// The reply to a call that acts on a message by a name of it.
+/// The reply to a call that acts on a message by a name of it which it names first.
 fn reply_to_name(call: &Call) -> Option<Reply>
     ensures { result ≡ reply_to_name call.now }
 {
@@ -132,6 +152,19 @@ fn reply_to_name(call: &Call) -> Option<Reply>
             ..
         }
         | Call::Between { reply, .. } => Some(*reply),
+        _ => None,
+    }
+}
+
+/// The reply to a call that acts on a message by a name of it which it names second: a link or rename that is done.
+fn reply_to_target(call: &Call) -> Option<Reply>
+    ensures { result ≡ reply_to_target call.now }
+{
+    match call {
+        Call::Between {
+            reply: Reply::Ok,
+            ..
+        } => Some(Reply::Ok),
         _ => None,
     }
 }

@@ -7,7 +7,7 @@ ghost use Rattle.md_judge.specs.Logs.{Log};
 ghost use Rattle.md_judge.specs.Law.{turn};
 ghost use Rattle.md_judge.specs.Filed.{IsAt, IsChange, BrokenAt, BrokenByChange, AreFiled, IsJudged, BrokenByFiles};
 ghost use Rattle.md_clauses.specs.Found.{Notes, KeepsPaths, KeepsMessages};
-ghost use Rattle.md_judge.specs.Files.{is_message_in, named, facts_at, Changes, AtStep, CallStep, LeaveStep, ChangeStep, WriteFinds, AtFinds, NamedFinds, LeaveFinds, ChangeFinds};
+ghost use Rattle.md_judge.specs.Files.{is_message_in, named, facts_at, Changes, AtStep, CallStep, LeaveStep, ChangeStep, WriteFinds, AtFinds, NamedFinds, LeaveFinds, ChangeFinds, is_from_new};
 
 use super::files::{Filed, Files};
 use super::known::{Act, Known};
@@ -41,7 +41,8 @@ impl Files {
             → OnOk result (Notes (BrokenByFiles (turn l i x)) found.old found.new) }
     {
         self.on_path(found, known, by, call, act)?;
-        self.change(found, known, by, &act.change)
+        let from_new = is_from_new(known, call, act.spot);
+        self.change(found, known, by, from_new, &act.change)
     }
 
     /// Where a call is one on one path, what it does but for its change of paths.
@@ -124,21 +125,26 @@ impl Files {
         found.note(is_mixed, Clause::Mixed, line_at(lines.made));
     }
 
+    /// What a call does to paths, which links or renames a message in new or not.
     fn change(
         &mut self,
         found: &mut Found,
         known: &Known,
         by: Caller,
+        from_new: bool,
         change: &Change,
     ) -> Result<(), AllocError>
         ensures step { OnOk result (ChangeStep known.now.names change.now self.old.all.items self.new.all.items) }
-        ensures finds { OnOk result (Notes (ChangeFinds known.now.names by.actor known.now.clock change.now self.old.all.items self.new.all.items) found.old found.new) }
+        ensures finds { OnOk result
+            (Notes (ChangeFinds known.now.names by.actor known.now.clock from_new change.now self.old.all.items self.new.all.items)
+            found.old found.new) }
         ensures law { (path : Spot → Path) (who : ℕ → List ℕ) (many i : ℕ) (l : Log) (x : Step)
-            → IsChange path who many l i x by.actor known.now.clock known.now.names change.now self.old.all.items self.new.all.items
+            → IsChange path who many l i x by.actor known.now.clock known.now.names from_new change.now self.old.all.items
+            self.new.all.items
             → OnOk result (Notes (BrokenByChange (turn l i x)) found.old found.new) }
     {
         if let Some((spot, file)) = change.named() {
-            self.check_named(found, known, spot, file);
+            self.check_named(found, known, from_new, spot, file);
             self.name(known, by.line, spot, file)?;
         }
         self.leave(known, change.turned_from());
@@ -148,8 +154,9 @@ impl Files {
         Ok(())
     }
 
-    fn check_named(&self, found: &mut Found, known: &Known, spot: Spot, file: u32)
-        ensures { Notes (λ c. (is_message_in known.now.names spot ≡ true) × NamedFinds spot.place (facts_at self.now.all.items file) c) found.old found.new }
+    fn check_named(&self, found: &mut Found, known: &Known, from_new: bool, spot: Spot, file: u32)
+        ensures { Notes (λ c. (is_message_in known.now.names spot ≡ true)
+            × NamedFinds from_new spot.place (facts_at self.now.all.items file) c) found.old found.new }
     {
         if !known.is_message(spot) {
             return;
@@ -158,7 +165,7 @@ impl Files {
             return;
         };
         let written = line_at(lines.written);
-        let is_back = facts.is_back(spot.place);
+        let is_back = facts.is_back(spot.place, from_new);
         found.note(facts.shows_cut(), Clause::SeenBeforeWhole, written);
         found.note(facts.shows_unflushed(), Clause::NotFlushed, written);
         found.note(is_back, Clause::MovedBack, line_at(lines.cur));
@@ -202,5 +209,18 @@ impl Files {
         let is_early = facts.is_early(spot.place, actor, known.clock);
         let made = lines.made.max(lines.written);
         found.note(is_early, Clause::CleanedEarly, line_at(made));
+    }
+}
+
+/// Whether a call links or renames a message in new, by the spot of the path that it names first.
+fn is_from_new(known: &Known, call: &Call, spot: Option<Spot>) -> bool
+    ensures { result ≡ is_from_new known.now.names call.now spot }
+{
+    let Some(spot) = spot else {
+        return false;
+    };
+    match call {
+        Call::Between { .. } => spot.place == Place::New && known.is_message(spot),
+        _ => false,
     }
 }

@@ -1,5 +1,5 @@
 //! What is known of the directories: the files at paths, how many files were made, and the clock.
-ghost use Rattle.std.specs.Prelude.{◌≡◌, ◌+◌, ◌<◌, ◌⊎◌, [], ℕ, suc, Some, Ok, true, false, length, max, slice_get, OnOk, IfOk, IfErr};
+ghost use Rattle.std.specs.Prelude.{◌≡◌, ◌+◌, ◌<◌, ◌⊎◌, [], ℕ, suc, Some, None, Ok, true, false, length, slice_get, OnOk, IfOk, IfErr};
 ghost use Rattle.md_dirs.specs.State.{State, file_at, has_folder};
 ghost use Rattle.md_dirs.specs.declared.paths.Path.{Path};
 ghost use Rattle.md_log.specs.declared.error.LineFault.TheVariants.{NoMemory, SamePath, NoSuchPath};
@@ -10,7 +10,7 @@ ghost use Rattle.md_judge.specs.Told.{at, moment};
 ghost use Rattle.md_log.specs.declared.line.Step.{Step};
 ghost use Rattle.md_log.specs.declared.line.Call.TheVariants as call;
 ghost use Rattle.md_judge.specs.Law.{turn};
-ghost use Rattle.md_judge.specs.Acts.{IsActOf, Does, NamesFirst, ReadsNone, IsAnswerCall, UnlinksPath, IsOlder, Leads};
+ghost use Rattle.md_judge.specs.Acts.{IsActOf, Does, NamesPaths, ReadsNone, IsAnswerCall, UnlinksPath, IsOlder, Leads};
 ghost use Rattle.md_judge.specs.Files.{unique_in, is_message_in};
 ghost use Rattle.md_judge.specs.Known.{EachSpot, IsBelow, files_after, Stands, Holds, Leaves, IsKnownAt, GoesOn};
 ghost use Rattle.md_judge.specs.Names.{AreNumbered, KeepNumbers, GrowsUniques, AreMarked};
@@ -34,6 +34,8 @@ pub(super) struct Act {
     /// The path that the call names first, and the file that was there.
     pub(super) spot: Option<Spot>,
     pub(super) file: Option<u32>,
+    /// The path that a link or a rename names second.
+    pub(super) target: Option<Spot>,
     pub(super) change: Change,
     /// The line that made the path that the change turns.
     pub(super) turned_before: Option<usize>,
@@ -44,6 +46,7 @@ pub(super) const NO_ACT: Act = Act {
     wrong_before: None,
     spot: None,
     file: None,
+    target: None,
     change: NO_CHANGE,
     turned_before: None,
 };
@@ -114,7 +117,7 @@ impl Known {
         ensures agrees { (lines : ℕ → ℕ) (l : Log) → IsToldAt lines l 0 self.old → Agrees result (with_file_line l path.now stamp) }
         ensures puts { (lines : ℕ → ℕ) (l : Log) → IsToldAt lines l 0 self.old
             → IfOk result (λ r. IsSpotOf self.new.names path.now r.0 × (r.1 ≡ length (at l 0).files)) }
-        ensures clock { OnOk result (self.new.clock ≡ max self.old.clock stamp) }
+        ensures clock { OnOk result (self.new.clock ≡ self.old.clock) }
         ensures numbered { OnOk result (AreNumbered self.new.names) }
         ensures keeps { KeepNumbers self.old.names self.new.names }
         ensures uniques { OnOk result (GrowsUniques self.old.names self.new.names) }
@@ -126,7 +129,6 @@ impl Known {
         }
         let file = self.files;
         self.files = counted(file, Deed::Create, Reply::Ok)?;
-        self.clock = self.clock.max(stamp);
         self.directories.add(line.saturating_add(1), spot, file)?;
         Ok((spot, file))
     }
@@ -175,7 +177,7 @@ impl Known {
             → self.new.clock ≡ (moment l (suc i)).now }
         ensures keeps { KeepNumbers self.old.names self.new.names }
         ensures uniques { OnOk result (GrowsUniques self.old.names self.new.names) }
-        ensures first { IfOk result (λ act. NamesFirst self.new.names step.now.call act) }
+        ensures paths { IfOk result (λ act. NamesPaths self.new.names step.now.call act) }
         ensures lists { (ReadsNone step.now.call → ⊥) → self.new ≡ record self.old { clock = self.new.clock } }
         ensures answers { IsAnswerCall step.now.call → self.new ≡ record self.old { clock = self.new.clock } }
     {
@@ -196,7 +198,7 @@ impl Known {
         ensures clock { self.new.clock ≡ self.old.clock }
         ensures keeps { KeepNumbers self.old.names self.new.names }
         ensures uniques { OnOk result (GrowsUniques self.old.names self.new.names) }
-        ensures first { IfOk result (λ act. NamesFirst self.new.names call.now act) }
+        ensures paths { IfOk result (λ act. NamesPaths self.new.names call.now act) }
         ensures lists { (ReadsNone call.now → ⊥) → self.new ≡ self.old }
         ensures answers { IsAnswerCall call.now → self.new ≡ self.old }
     {
@@ -235,6 +237,7 @@ impl Known {
         ensures clock { self.new.clock ≡ self.old.clock }
         ensures names { self.new.names ≡ self.old.names }
         ensures spot { IfOk result (λ act. act.spot ≡ Some spot) }
+        ensures target { IfOk result (λ act. act.target ≡ None) }
     {
         let file = self.directories.file_at(spot);
         let before = self.directories.last_change(spot);
@@ -247,6 +250,7 @@ impl Known {
             wrong_before: before,
             spot: Some(spot),
             file,
+            target: None,
             change,
             turned_before: before,
         })
@@ -277,6 +281,7 @@ impl Known {
         ensures clock { self.new.clock ≡ self.old.clock }
         ensures names { self.new.names ≡ self.old.names }
         ensures spot { IfOk result (λ act. act.spot ≡ Some old) }
+        ensures target { IfOk result (λ act. act.target ≡ Some new) }
     {
         let file = self.directories.file_at(old);
         let there = self.directories.file_at(new);
@@ -292,6 +297,7 @@ impl Known {
             wrong_before,
             spot: Some(old),
             file,
+            target: Some(new),
             change,
             turned_before,
         })

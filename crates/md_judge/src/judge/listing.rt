@@ -10,7 +10,7 @@ ghost use Rattle.md_log.specs.declared.line.Step.{Step};
 ghost use Rattle.md_judge.specs.Logs.{Log};
 ghost use Rattle.md_judge.specs.Law.{turn, NotADirectory, Unlisted, IsNeverThere, IsAlwaysThere};
 ghost use Rattle.md_log.specs.declared.clause.Clause.TheVariants as clause;
-ghost use Rattle.md_judge.specs.Actors.{NotesLook};
+ghost use Rattle.md_judge.specs.Actors.{NotesLook, is_look};
 ghost use Rattle.md_clauses.specs.Found.{Notes, NotesOne, Keeps, KeepsReplies, KeepsFiles, KeepsMessages, KeepsAnswers};
 ghost use Rattle.md_judge.specs.declared.judge.directories.Named.{Named};
 ghost use Rattle.md_judge.specs.Listings.{was_since, IsNameOf, IsHereSince, shown_wrongly, lacked, wrong_name, PartFinds, IsPartOf, BrokenByPart, lacking, is_lacking, was_at_each, ListFinds, LeavesOut, IsCompleted, BrokenByListing};
@@ -18,6 +18,7 @@ ghost use Rattle.md_judge.specs.Open.{reading_of, first_in, shows_in, ShowsMore,
 
 use super::directories::{Directory, Named};
 use super::known::Known;
+use super::looks::looked_after;
 use super::mail::{Mail, Message};
 use super::tables::Names;
 use super::watch::Watch;
@@ -63,7 +64,7 @@ pub(super) type Listings = BTreeMap<(u32, u32), Listing>;
 
 #[derive(Drop)]
 pub(super) struct Listing {
-    /// The last step at which it did.
+    /// The last step at which the actor looked at the folder.
     pub(super) looked: Option<usize>,
     tmp: Reading,
     new: Reading,
@@ -79,6 +80,7 @@ impl Listing {
     fn new(alloc: Global) -> Self
         ensures over { (p : Place) → IsOver (reading_of result p).first (λ n. ordered.contains nat_cmp (reading_of result p).shown n) }
         ensures nothing { gathered_of result ≡ nothing_gathered }
+        ensures looked { result.looked ≡ None }
     {
         Listing {
             looked: None,
@@ -376,7 +378,7 @@ impl Watch {
             → IsMailTold lines known.now.names l i folder self.old.mail
             → OnOk result (NotesOne clause.Unlisted (Unlisted (turn l i x)) self.old.found self.new.found) }
         ensures answers { OnOk result (KeepsAnswers self.old.found self.new.found) }
-        ensures looks { OnOk result (NotesLook actor folder self.old.now listings.old listings.new) }
+        ensures looks { OnOk result (NotesLook actor folder self.old.now (is_look place reply) listings.old listings.new) }
         ensures actors { OnOk result (self.new.actors ≡ self.old.actors) }
     {
         let key = (actor, folder);
@@ -384,7 +386,7 @@ impl Watch {
             Some(listing) => listing,
             None => Listing::new(self.alloc),
         };
-        listing.looked = Some(self.now);
+        listing.looked = looked_after(place, reply, self.now, listing.looked);
         let first = listing.show(place, self.now, names)?;
         if let Some(directory) = known.directories.directory(folder, place) {
             directory.are_in_order();

@@ -1,27 +1,44 @@
 //! An order of steps whose calls overlap, in which directories give their replies.
-//!
-//! The steps are placed one after another. A step may come next where no step that isn't placed ended before it began. Of these the first
-//! of the log that fits is taken; where none fits, the last step that was placed is taken back. Orders that differ only by steps which have
-//! nothing to do with one another are tried once, by sleep sets (Godefroid, "Partial-Order Methods for the Verification of Concurrent
-//! Systems", section 5).
 ghost use Rattle.std.specs.Prelude.{◌≡◌, ℕ, OnOk};
 ghost use Rattle.md_judge.specs.Logs.{Log};
 ghost use Rattle.md_judge.specs.Placed.{IsUnplaced};
 ghost use Rattle.md_judge.specs.Verdict.{Remembers};
 
 use super::Judge;
-use super::trial::{ALL, ANSWER, Asked, Deal, Trial};
+use super::asked::{ALL, ANSWER, Asked, Deal, LOOKS_A_TRY};
+use super::readings::mark_alone;
+use super::search::{Search, Way};
+use super::trial::Trial;
 use crate::stretch::Waiting;
 use md_clauses::{Name, Spot};
 use md_dirs::Path;
 use md_log::{Call, LineFault, Step};
 use std::alloc::{AllocError, Global};
-use std::collections::BTreeSet;
 
-/// As many tries there are for any steps, and as many more for each step.
-const LEAST_TRIES: usize = 100_000;
+/// How many tries are made at most: so many, and as many more for each step, and for each 32 names that readings show. A try is a step of
+/// which it is asked whether it fits at a place, or 32 steps or names that are looked at.
+#[derive(Clone, Copy)]
+struct Tries {
+    least: usize,
+    a_step: usize,
+}
 
-const TRIES_A_STEP: usize = 64;
+impl Tries {
+    fn of(self, steps: usize, names: usize) -> usize {
+        let many = steps.saturating_add(names / LOOKS_A_TRY);
+        self.a_step.saturating_mul(many).saturating_add(self.least)
+    }
+}
+
+const WIDE_TRIES: Tries = Tries {
+    least: 10_000,
+    a_step: 16,
+};
+
+const NARROW_TRIES: Tries = Tries {
+    least: 100_000,
+    a_step: 128,
+};
 
 #[derive(Clone, Copy)]
 pub(crate) enum Unplaced {
@@ -49,216 +66,10 @@ pub(crate) struct NoOrder {
     pub(crate) why: Unplaced,
 }
 
-#[derive(Clone, Copy)]
-struct Position {
-    /// Where the steps that may come here begin among the choices, and which of them is next to be tried.
-    choices: usize,
-    next: usize,
-    /// Where those begin that are asleep here.
-    asleep: usize,
-}
-
-#[derive(Drop)]
-struct Search<'a> {
-    alloc: Global,
-    trial: Trial<'a>,
-    steps: &'a [Asked],
-    moments: &'a [usize],
-    by_begin: BTreeSet<(u64, usize)>,
-    by_end: BTreeSet<(u64, usize)>,
-    positions: Vec<Position>,
-    /// The steps that may come at each place, in the order of the log.
-    choices: Vec<usize>,
-    /// Of each place, the steps that were tried there, or at an earlier place with the same outcome.
-    asleep: Vec<usize>,
-    /// How many steps were placed at most, and the first step that could have come next there.
-    deepest: usize,
-    stuck: usize,
-    tries: usize,
-}
-
-impl Search<'_> {
-    fn find(&mut self) -> Result<Vec<usize>, NoOrder> {
-        let why = match self.run() {
-            Ok(None) => match self.order() {
-                Ok(order) => return Ok(order),
-                Err(AllocError) => Unplaced::NoMemory,
-            },
-            Ok(Some(why)) => why,
-            Err(AllocError) => Unplaced::NoMemory,
-        };
-        Err(NoOrder {
-            step: self.stuck,
-            why,
-        })
-    }
-
-    fn run(&mut self) -> Result<Option<Unplaced>, AllocError> {
-        for (at, step) in self.steps.iter().enumerate() {
-            self.by_begin.insert((step.ticks.begin, at))?;
-            self.by_end.insert((step.ticks.end, at))?;
-        }
-        self.open(0)?;
-        let most = self
-            .steps
-            .len()
-            .saturating_mul(TRIES_A_STEP)
-            .saturating_add(LEAST_TRIES);
-        for _ in 0..most {
-            if self.by_end.is_empty() {
-                return Ok(None);
-            }
-            if self.tries > most {
-                break;
-            }
-            if !self.go_on()? {
-                return Ok(Some(Unplaced::NoOrder));
-            }
-        }
-        Ok(Some(Unplaced::TooManyOrders))
-    }
-
-    fn open(&mut self, asleep: usize) -> Result<(), AllocError> {
-        let choices = self.choices.len();
-        self.choose()?;
-        let many = self.choices.len().saturating_sub(choices);
-        self.tries = self.tries.saturating_add(many);
-        let depth = self.positions.len();
-        if depth >= self.deepest
-            && let Some(first) = self.choices.get(choices)
-        {
-            self.stuck = *first;
-            self.deepest = depth.saturating_add(1);
-        }
-        self.positions.push(Position {
-            choices,
-            next: choices,
-            asleep,
-        })?;
-        Ok(())
-    }
-
-    fn choose(&mut self) -> Result<(), AllocError> {
-        let before = self.choices.len();
-        let Some((end, _)) = self.by_end.first() else {
-            return Ok(());
-        };
-        for (begin, at) in self.by_begin.iter() {
-            if begin > end {
-                break;
-            }
-            self.choices.push(*at)?;
-        }
-        if let Some(choices) = self.choices.as_mut_slice().get_mut(before..) {
-            choices.sort_unstable();
-        }
-        Ok(())
-    }
-
-    /// Tries the next choice of the last place, or takes back the one before it. False where there is none.
-    fn go_on(&mut self) -> Result<bool, AllocError> {
-        let now = self.now();
-        let Some(position) = self.positions.last_mut() else {
-            return Ok(false);
-        };
-        let Some(at) = self.choices.get(position.next).copied() else {
-            return self.go_back();
-        };
-        position.next = position.next.saturating_add(1);
-        let asleep = position.asleep;
-        let Some(step) = self.steps.get(at) else {
-            return Ok(true);
-        };
-        if !self.is_asleep(asleep, at) && self.trial.fits(step, now)? {
-            self.put(asleep, at, step, now)?;
-        }
-        Ok(true)
-    }
-
-    /// Whether a step is asleep at the last place, whose steps that are asleep begin here.
-    fn is_asleep(&self, asleep: usize, at: usize) -> bool {
-        match self.asleep.get(asleep..) {
-            None => false,
-            Some(asleep) => asleep.contains(&at),
-        }
-    }
-
-    fn now(&self) -> usize {
-        let depth = self.positions.len();
-        let moment = self.moments.get(depth.saturating_sub(1));
-        moment.copied().unwrap_or(usize::MAX)
-    }
-
-    /// Puts a step at the last place, and opens the next. There those stay asleep that have nothing to do with the step.
-    fn put(
-        &mut self,
-        asleep: usize,
-        at: usize,
-        step: &Asked,
-        now: usize,
-    ) -> Result<(), AllocError> {
-        let many = self.asleep.len();
-        for place in asleep..many {
-            if let Some(other) = self.asleep.get(place).copied()
-                && let Some(asked) = self.steps.get(other)
-                && asked.is_apart(step)
-            {
-                self.asleep.push(other)?;
-            }
-        }
-        self.trial.make(step, now)?;
-        self.by_begin.remove(&(step.ticks.begin, at));
-        self.by_end.remove(&(step.ticks.end, at));
-        self.open(many)
-    }
-
-    /// Closes the last place, and takes back the step before it, which is not tried there again. False where there is none.
-    fn go_back(&mut self) -> Result<bool, AllocError> {
-        if let Some(closed) = self.positions.pop() {
-            self.choices.truncate(closed.choices);
-            self.asleep.truncate(closed.asleep);
-        }
-        let Some(position) = self.positions.last().copied() else {
-            return Ok(false);
-        };
-        let Some(at) = self.placed(position) else {
-            return Ok(true);
-        };
-        let Some(step) = self.steps.get(at) else {
-            return Ok(true);
-        };
-        let now = self.now();
-        self.trial.undo(step, now);
-        self.asleep.push(at)?;
-        self.by_begin.insert((step.ticks.begin, at))?;
-        self.by_end.insert((step.ticks.end, at))?;
-        Ok(true)
-    }
-
-    /// The step that was tried last at a place, which is there where there is a place after it.
-    fn placed(&self, position: Position) -> Option<usize> {
-        let last = position.next.checked_sub(1)?;
-        self.choices.get(last).copied()
-    }
-
-    /// The order that was found. No step is at the last place.
-    fn order(&self) -> Result<Vec<usize>, AllocError> {
-        let mut order = Vec::new(self.alloc);
-        for position in self.positions.iter() {
-            if position.next > position.choices
-                && let Some(at) = self.placed(*position)
-            {
-                order.push(at)?;
-            }
-        }
-        Ok(order)
-    }
-}
-
 impl Judge {
     /// The numbers of steps in an order in which the directories give their replies, the step of each number being at its place in `steps`;
-    /// the steps are placed at these moments, which are after all before. It takes about n log n where few overlap, and gives up after
-    /// 100,000 tries and 64 more for each step. Steps without ticks are placed at once.
+    /// the steps are placed at these moments, which are after all before. It takes about n log n and n times the calls in flight where the
+    /// order of the log nearly does, and gives up after 110,000 tries and 144 more for each step. Steps without ticks are placed at once.
     pub(crate) fn order(
         &mut self,
         steps: &[Option<Waiting>],
@@ -272,37 +83,69 @@ impl Judge {
         for (at, waiting) in steps.iter().enumerate() {
             match self.prepare(&mut all, &mut names, waiting) {
                 Ok(()) => {}
-                Err(AllocError) => {
-                    let why = Unplaced::NoMemory;
-                    return Err(NoOrder { step: at, why });
-                }
+                Err(AllocError) => return Err(no_memory(at)),
             }
+        }
+        if mark_alone(self.alloc, all.as_mut_slice()).is_err() {
+            return Err(no_memory(0));
         }
         self.search(&all, &names, moments)
     }
 
+    /// Takes the order of the log if that will do. Else it searches on the wide way, which goes by the order of the log, and if that takes
+    /// too many tries on the narrow one.
     fn search(
         &self,
         steps: &[Asked],
         names: &[Name],
         moments: &[usize],
     ) -> Result<Vec<usize>, NoOrder> {
+        match self.goes_straight(steps, names, moments) {
+            Ok(false) => {}
+            Ok(true) => return numbers(self.alloc, steps.len()),
+            Err(AllocError) => return Err(no_memory(0)),
+        }
+        let wide = self.search_on(Way::Wide, WIDE_TRIES, (steps, names, moments));
+        match wide {
+            Err(
+                NoOrder {
+                    why: Unplaced::TooManyOrders,
+                    ..
+                },
+            ) => self.search_on(Way::Narrow, NARROW_TRIES, (steps, names, moments)),
+            found => found,
+        }
+    }
+
+    /// Whether the order of the log will do, and leaves no reading open: that one might better begin earlier.
+    fn goes_straight(
+        &self,
+        steps: &[Asked],
+        names: &[Name],
+        moments: &[usize],
+    ) -> Result<bool, AllocError> {
+        let mut trial = Trial::new(self.alloc, &self.known.directories, &self.listings, names);
+        let mut latest = 0;
+        for (at, step) in steps.iter().enumerate() {
+            let now = moments.get(at).copied().unwrap_or(usize::MAX);
+            if step.ticks.end < latest || trial.misfit(step, now)?.is_some() {
+                return Ok(false);
+            }
+            latest = latest.max(step.ticks.begin);
+            trial.make(step, now)?;
+        }
+        Ok(!trial.has_open(moments.first().copied().unwrap_or(0)))
+    }
+
+    fn search_on(
+        &self,
+        way: Way,
+        tries: Tries,
+        (steps, names, moments): (&[Asked], &[Name], &[usize]),
+    ) -> Result<Vec<usize>, NoOrder> {
         let alloc = self.alloc;
-        let mut search = Search {
-            alloc,
-            trial: Trial::new(alloc, &self.known.directories, &self.listings, names),
-            steps,
-            moments,
-            by_begin: BTreeSet::new(alloc),
-            by_end: BTreeSet::new(alloc),
-            positions: Vec::new(alloc),
-            choices: Vec::new(alloc),
-            asleep: Vec::new(alloc),
-            deepest: 0,
-            stuck: 0,
-            tries: 0,
-        };
-        search.find()
+        let trial = Trial::new(alloc, &self.known.directories, &self.listings, names);
+        Search::new(alloc, way, trial, steps, moments).find(tries.of(steps.len(), names.len()))
     }
 
     fn prepare(
@@ -394,4 +237,20 @@ impl Judge {
         self.actor_names.are_apart();
         Ok(number)
     }
+}
+
+fn no_memory(step: usize) -> NoOrder {
+    let why = Unplaced::NoMemory;
+    NoOrder { step, why }
+}
+
+/// So many numbers, from 0.
+fn numbers(alloc: Global, many: usize) -> Result<Vec<usize>, NoOrder> {
+    let mut numbers = Vec::new(alloc);
+    for at in 0..many {
+        if numbers.push(at).is_err() {
+            return Err(no_memory(0));
+        }
+    }
+    Ok(numbers)
 }

@@ -2,88 +2,14 @@
 //!
 //! What a call did stands under its moment, so taking it out undoes the call.
 use super::acts::{is_wrong_at, is_wrong_between};
+use super::asked::{ALL, Asked, Deal, Misfit};
 use super::directories::{Directories, Named};
 use super::known::{change_at, change_between};
 use super::listing::{Listings, Reading, is_there_since};
 use md_clauses::{Change, Moment, Name, Spot, moment_of};
-use md_dirs::Place;
-use md_log::{Deed, Naming, Reply, Ticks};
+use md_log::{Naming, Reply};
 use std::alloc::{AllocError, Global};
 use std::collections::{BTreeMap, BTreeSet};
-
-/// What stands for the names of a directory: no name has this number.
-pub(super) const ALL: Name = u64::MAX;
-
-/// A call, as far as directories answer it.
-#[derive(Clone, Copy)]
-pub(super) enum Deal {
-    At(Deed),
-    Between(Naming),
-    List,
-    Answer,
-}
-
-/// A step by numbers, to be placed.
-#[derive(Clone, Copy)]
-pub(super) struct Asked {
-    pub(super) deal: Deal,
-    pub(super) reply: Reply,
-    /// The paths that it names, where it names one that one twice; of a reading, `ALL` names of its directory.
-    pub(super) old: Spot,
-    pub(super) new: Spot,
-    /// Of a reading: the actor, and where the names that it shows begin and end among those of all readings.
-    pub(super) actor: u32,
-    pub(super) shown: (usize, usize),
-    pub(super) ticks: Ticks,
-}
-
-const NO_SPOT: Spot = Spot {
-    folder: u32::MAX,
-    place: Place::Tmp,
-    name: ALL,
-};
-
-/// An answer, which fits everywhere.
-pub(super) const ANSWER: Asked = Asked {
-    deal: Deal::Answer,
-    reply: Reply::Ok,
-    old: NO_SPOT,
-    new: NO_SPOT,
-    actor: 0,
-    shown: (0, 0),
-    ticks: Ticks { begin: 0, end: 0 },
-};
-
-impl Asked {
-    fn is_change(&self) -> bool {
-        match self.deal {
-            Deal::At(Deed::Create | Deed::Unlink) | Deal::Between(_) => self.reply == Reply::Ok,
-            _ => false,
-        }
-    }
-
-    /// Whether two calls answer and do the same in either order, wherever both can be made.
-    pub(super) fn is_apart(&self, other: &Asked) -> bool {
-        if self.is_change() || other.is_change() {
-            let is_met = meets(self.old, other.old)
-                || meets(self.old, other.new)
-                || meets(self.new, other.old)
-                || meets(self.new, other.new);
-            return !is_met;
-        }
-        match (self.deal, other.deal) {
-            (Deal::List, Deal::List) => self.actor != other.actor || !meets(self.old, other.old),
-            _ => true,
-        }
-    }
-}
-
-/// Whether two paths are one, or one of them is of a directory that the other stands for.
-fn meets(one: Spot, two: Spot) -> bool {
-    one.folder == two.folder
-        && one.place == two.place
-        && (one.name == two.name || one.name == ALL || two.name == ALL)
-}
 
 #[derive(Clone, Copy)]
 struct Tried {
@@ -112,11 +38,22 @@ pub(super) struct Trial<'a> {
     parts: BTreeMap<PartThen, Part>,
     /// The names that a reading showed that is looked at.
     shown: BTreeSet<Name>,
+    /// Of a part of a reading, by where its names begin, which of them it didn't fit for last.
+    watched: BTreeMap<usize, usize>,
+    /// How many names were looked at.
+    looks: usize,
     /// The number of the next file that is made: they count down, so that none is a file that there is.
     next_file: u32,
 }
 
 impl Trial<'_> {
+    /// How many names were looked at since this was asked last.
+    pub(super) fn take_looks(&mut self) -> usize {
+        let looks = self.looks;
+        self.looks = 0;
+        looks
+    }
+
     /// Nothing is tried yet. These are the names that readings show.
     pub(super) fn new<'a>(
         alloc: Global,
@@ -131,16 +68,28 @@ impl Trial<'_> {
             tried: BTreeMap::new(alloc),
             parts: BTreeMap::new(alloc),
             shown: BTreeSet::new(alloc),
+            watched: BTreeMap::new(alloc),
+            looks: 0,
             next_file: u32::MAX,
+        }
+    }
+
+    /// What was tried of a path last, and its moment.
+    fn last_tried(&self, spot: Spot) -> Option<(usize, Tried)> {
+        let last = path_then(spot, usize::MAX);
+        match self.tried.range(..=last).next_back() {
+            Some((path, tried)) if (path.0, path.1, path.2) == (last.0, last.1, last.2) => Some((
+                path.3, *tried,
+            )),
+            _ => None,
         }
     }
 
     /// What was tried of a path last, or is so of it.
     fn tried_at(&self, spot: Spot) -> Tried {
-        let last = path_then(spot, usize::MAX);
-        match self.tried.range(..=last).next_back() {
-            Some((path, tried)) if (path.0, path.1, path.2) == (last.0, last.1, last.2) => *tried,
-            _ => Tried {
+        match self.last_tried(spot) {
+            Some((_, tried)) => tried,
+            None => Tried {
                 named: self.directories.named_at(spot),
                 was: self.directories.was_at(spot),
             },
@@ -151,66 +100,131 @@ impl Trial<'_> {
         Some(self.tried_at(spot).named?.file)
     }
 
-    pub(super) fn fits(&mut self, asked: &Asked, now: usize) -> Result<bool, AllocError> {
+    /// Why directories don't give the reply of a call here, if they don't.
+    pub(super) fn misfit(
+        &mut self,
+        asked: &Asked,
+        now: usize,
+    ) -> Result<Option<Misfit>, AllocError> {
         let is_old = self.file_at(asked.old).is_some();
         match asked.deal {
-            Deal::Answer => Ok(true),
-            Deal::At(deed) => Ok(!is_wrong_at(deed, is_old, asked.reply)),
+            Deal::Answer => Ok(None),
+            Deal::At(deed) => {
+                let is_wrong = is_wrong_at(deed, is_old, asked.reply);
+                Ok(misfit_at(is_wrong, asked.old))
+            }
             Deal::Between(naming) => {
                 let are_there = (is_old, self.file_at(asked.new).is_some());
-                Ok(!is_wrong_between(naming, are_there, asked.reply))
+                let is_wrong = is_wrong_between(naming, are_there, asked.reply);
+                let is_by_new = is_old && asked.reply != Reply::NotFound;
+                Ok(misfit_at(is_wrong, if is_by_new { asked.new } else { asked.old }))
             }
-            Deal::List => self.shows(asked, now),
+            Deal::List => self.misread(asked, now),
         }
     }
 
-    /// Whether a directory may answer a part of a reading so.
-    fn shows(&mut self, asked: &Asked, now: usize) -> Result<bool, AllocError> {
-        let first = self.first(asked).unwrap_or(now);
+    /// Why a directory doesn't answer a part of a reading so, if it doesn't.
+    fn misread(&mut self, asked: &Asked, now: usize) -> Result<Option<Misfit>, AllocError> {
+        let begun = self.first(asked);
+        let wrong = self.wrong_name(asked, begun.unwrap_or(now))?;
+        match wrong {
+            None => Ok(None),
+            Some(name) => Ok(Some(Misfit {
+                spot: Spot { name, ..asked.old },
+                is_of_reading: begun.is_some() || !asked.is_alone,
+            })),
+        }
+    }
+
+    /// A name that a part of a reading shows or lacks, and should not; `ALL` where the reply is none of a reading.
+    fn wrong_name(&mut self, asked: &Asked, first: usize) -> Result<Option<Name>, AllocError> {
         match asked.reply {
-            Reply::Fault => Ok(true),
-            Reply::More => Ok(self.is_rightly_shown(asked, first)),
-            Reply::Ok if self.is_rightly_shown(asked, first) => {
-                self.gather(asked, first)?;
-                Ok(self.is_whole(asked.old, first))
-            }
-            _ => Ok(false),
+            Reply::Fault => Ok(None),
+            Reply::More => self.wrongly_shown(asked, first),
+            Reply::Ok => match self.wrongly_shown(asked, first)? {
+                None => {
+                    self.gather(asked, first)?;
+                    Ok(self.lacked(asked.old, first))
+                }
+                wrong => Ok(wrong),
+            },
+            _ => Ok(Some(ALL)),
         }
     }
 
-    fn is_rightly_shown(&self, asked: &Asked, first: usize) -> bool {
-        for name in shown_in(self.names, asked.shown) {
+    /// A name that is shown, and was not there since the reading began. The one that was found last is looked at first, since it is often
+    /// still the one: so a reading that waits for many names costs little.
+    fn wrongly_shown(&mut self, asked: &Asked, first: usize) -> Result<Option<Name>, AllocError> {
+        let (begin, end) = asked.shown;
+        // A part that shows nothing begins where the next one does.
+        let last = self.watched.get(&begin).copied().unwrap_or(begin).min(end);
+        let wrong = match self.find_wrong(asked, first, (last, end)) {
+            None => self.find_wrong(asked, first, (begin, last)),
+            found => found,
+        };
+        let Some(at) = wrong else {
+            return Ok(None);
+        };
+        if at != last {
+            self.watched.insert(begin, at)?;
+        }
+        Ok(self.names.get(at).copied())
+    }
+
+    /// Where such a name stands between these of all names that readings show.
+    fn find_wrong(&mut self, asked: &Asked, first: usize, shown: (usize, usize)) -> Option<usize> {
+        let (begin, _) = shown;
+        for (at, name) in shown_in(self.names, shown).iter().enumerate() {
             let name = *name;
+            self.looks = self.looks.saturating_add(1);
             let tried = self.tried_at(Spot { name, ..asked.old });
             if tried.named.is_none() && !is_from(tried.was, first) {
-                return false;
+                return begin.checked_add(at);
             }
         }
-        true
+        None
     }
 
-    /// Whether the names that were gathered have each that was there all the while.
-    fn is_whole(&self, of: Spot, first: usize) -> bool {
+    /// The first name that was there all the while, and was not gathered.
+    fn lacked(&mut self, of: Spot, first: usize) -> Option<Name> {
         let Some(directory) = self.directories.directory(of.folder, of.place) else {
-            return false;
+            return Some(ALL);
         };
+        let mut looks = self.looks;
+        let mut lacked = None;
         for (name, _) in directory.names.iter() {
             let name = *name;
+            looks = looks.saturating_add(1);
             if self.lacks(Spot { name, ..of }, first) {
-                return false;
+                lacked = Some(name);
+                break;
             }
         }
+        self.looks = looks;
+        match lacked {
+            None => self.lacked_of_tried(of, first),
+            Some(name) => Some(name),
+        }
+    }
+
+    /// The first such name of those that were tried.
+    fn lacked_of_tried(&mut self, of: Spot, first: usize) -> Option<Name> {
+        let mut looks = self.looks;
+        let mut lacked = None;
         let from = (of.folder, of.place as u32, 0, 0);
         for (then, _) in self.tried.range(from..) {
             if (then.0, then.1) != (from.0, from.1) {
                 break;
             }
             let name = then.2;
+            looks = looks.saturating_add(1);
             if self.lacks(Spot { name, ..of }, first) {
-                return false;
+                lacked = Some(name);
+                break;
             }
         }
-        true
+        self.looks = looks;
+        lacked
     }
 
     /// Whether a path was there all the while that was not gathered.
@@ -219,6 +233,15 @@ impl Trial<'_> {
             Some(named) => is_there_since(named, first) && !self.shown.contains(&spot.name),
             None => false,
         }
+    }
+
+    /// The last moment at which what a call doesn't fit for was tried to change, if it was.
+    pub(super) fn last_change(&self, asked: &Asked, why: Misfit) -> Option<usize> {
+        let change = moment_in(self.last_tried(why.spot));
+        if !why.is_of_reading {
+            return change;
+        }
+        later(change, moment_in(self.last_part(asked)))
     }
 
     /// Gathers the names that the parts of a reading show, of which this one is the last.
@@ -246,13 +269,41 @@ impl Trial<'_> {
         Ok(())
     }
 
-    /// The first moment of the reading, where it goes on.
-    fn first(&self, asked: &Asked) -> Option<usize> {
+    /// The part that was tried last of readings by the actor, and its moment.
+    fn last_part(&self, asked: &Asked) -> Option<(usize, Part)> {
         let last = then(asked, usize::MAX);
         match self.parts.range(..=last).next_back() {
-            Some((then, part)) if (then.0, then.1, then.2) == (last.0, last.1, last.2) =>
-                part.first,
-            _ => reading_before(self.listings, asked)?.first,
+            Some((then, part)) if (then.0, then.1, then.2) == (last.0, last.1, last.2) => Some((
+                then.3, *part,
+            )),
+            _ => None,
+        }
+    }
+
+    /// The first moment of the reading, where it goes on.
+    fn first(&self, asked: &Asked) -> Option<usize> {
+        match self.last_part(asked) {
+            Some((_, part)) => part.first,
+            None => reading_before(self.listings, asked)?.first,
+        }
+    }
+
+    /// Whether a reading that began at a moment or later goes on.
+    pub(super) fn has_open(&self, since: usize) -> bool {
+        let mut last = None;
+        for (then, part) in self.parts.iter() {
+            let reader = (then.0, then.1, then.2);
+            if let Some((before, first)) = last
+                && before != reader
+                && is_from_moment(first, since)
+            {
+                return true;
+            }
+            last = Some((reader, part.first));
+        }
+        match last {
+            None => false,
+            Some((_, first)) => is_from_moment(first, since),
         }
     }
 
@@ -268,6 +319,7 @@ impl Trial<'_> {
             Deal::Between(naming) => {
                 let there = self.file_at(asked.new);
                 let change = change_between(naming, asked.old, asked.new, file, there, asked.reply);
+                self.keep(asked, naming, now)?;
                 self.change(now, change)
             }
             Deal::List => self.read(asked, now),
@@ -288,6 +340,17 @@ impl Trial<'_> {
             };
             let named = Some(Named { file, since });
             self.put(spot, now, Tried { named, was })?;
+        }
+        Ok(())
+    }
+
+    /// A rename was tried on both its paths, even where they name one file and so stay.
+    fn keep(&mut self, asked: &Asked, naming: Naming, now: usize) -> Result<(), AllocError> {
+        if naming == Naming::Rename && asked.is_change() {
+            let old = self.tried_at(asked.old);
+            let new = self.tried_at(asked.new);
+            self.put(asked.old, now, old)?;
+            self.put(asked.new, now, new)?;
         }
         Ok(())
     }
@@ -314,6 +377,30 @@ impl Trial<'_> {
     }
 }
 
+fn misfit_at(is_wrong: bool, spot: Spot) -> Option<Misfit> {
+    if !is_wrong {
+        return None;
+    }
+    Some(Misfit {
+        spot,
+        is_of_reading: false,
+    })
+}
+
+fn moment_in<T: Copy>(last: Option<(usize, T)>) -> Option<usize> {
+    let (moment, _) = last?;
+    Some(moment)
+}
+
+/// The later of two moments, or the one that there is.
+pub(super) fn later(one: Option<usize>, two: Option<usize>) -> Option<usize> {
+    match (one, two) {
+        (Some(one), Some(two)) => Some(one.max(two)),
+        (None, two) => two,
+        (one, None) => one,
+    }
+}
+
 fn shown_in(names: &[Name], shown: (usize, usize)) -> &[Name] {
     names.get(shown.0..shown.1).unwrap_or(&[])
 }
@@ -330,6 +417,13 @@ fn reading_before<'a>(listings: &'a Listings, asked: &Asked) -> Option<&'a Readi
 fn then(asked: &Asked, moment: usize) -> PartThen {
     let Spot { folder, place, .. } = asked.old;
     (asked.actor, folder, place as u32, moment)
+}
+
+fn is_from_moment(first: Option<usize>, since: usize) -> bool {
+    match first {
+        None => false,
+        Some(first) => first >= since,
+    }
 }
 
 fn is_from(was: Option<Moment>, first: usize) -> bool {

@@ -17,14 +17,14 @@ use Rattle.md_judge.proofs.judge.Judge.add_folder.Goals as goal
 
 pub returns : goal.returns
 returns c = record {
-  told = λ lines l l' keeps opening same.
+  told = λ lines l l' keeps opening.
       let names = c.args.self.now.actor_names in
       ok-then c.add_folder-2.result (AddsFolder c.args.self.now.watch.mail c.add_folder-2.new.self.mail) _ (λ adds. record {
         told = folder-told lines l l' c.args.self.now.known _ keeps.told refl c.in_ok-add_folder.ensures refl opening;
         filed = subst (λ (f : Files). AreFiled (name_at names) (length names) l' 0 f.all.items) (sym c.add_folder-2.ensures.files)
             (filed-opening (name_at names) (length names) l l' c.args.self.now.watch.files.all.items (λ p. ap (λ (s : State). file_at s p) opening)
             (ap (λ (s : State). s.files) opening) keeps.filed);
-        clock = keeps.clock ∙ sym same;
+        clock = keeps.clock;
         opens = open-first lines lines names c.args.self.now.known.names l l' c.args.self.now.listings keeps.opens;
         mailed = tells-present c.args.self.now.known.names l' 0 c.args.self.now.watch.mail c.add_folder-2.new.self.mail c.add_folder-2.ensures.mail
             (tells-opening c.args.self.now.known.names l l' c.args.self.now.watch.mail (λ p. ap (λ (s : State). file_at s p) opening) keeps.mailed);

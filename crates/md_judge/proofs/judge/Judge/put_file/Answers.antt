@@ -1,4 +1,4 @@
-use Rattle.std.proofs.Common.{ℕ, ◌+◌, ◌≡◌, max, length, Result, Ok, cond, Some, refl, sym, ap, ◌∙◌}
+use Rattle.std.proofs.Common.{ℕ, ◌+◌, ◌≡◌, length, Result, Ok, cond, Some, refl, sym, ap, ◌∙◌}
 use Rattle.std.proofs.lemmas.Result.{err_from_is_err_and}
 use Rattle.std.specs.FinMap.{get-insert}
 use Rattle.std.specs.Ordering.{eq_by_cmp}
@@ -53,7 +53,7 @@ returns c = record {
         filed = filed-file (name_at names) (length names) l l' c.put_file.new.self.names c.args.path.now c.in_ok-spot.spot c.in_ok-spot.file puts.0
             c.args.self.now.watch.files.all.items c.put.new.self.files.all.items keeps.filed c.args.stamp log.0 puts.1 log.1 c.make.new.self.all.items
             c.in_ok-make.ensures changes;
-        clock = c.in_ok-spot.ensures.clock ∙ ap (λ n. max n c.args.stamp) keeps.clock ∙ sym log.2;
+        clock = c.in_ok-spot.ensures.clock ∙ keeps.clock;
         opens = open-first lines lines names c.put_file.new.self.names l l' c.args.self.now.listings
             (open-grows lines names c.args.self.now.known.names c.put_file.new.self.names l 0 c.args.self.now.listings c.put_file.ensures.keeps keeps.opens);
         mailed = then adds.0;

@@ -54,7 +54,7 @@ returns c = record {
         filed = filed-name (name_at names) (length names) l l' c.put_name.new.self.names p c.in_ok-spot.spot c.in_ok-spot.file puts.0
             c.args.self.now.watch.files.all.items c.put.new.self.files.all.items keeps.filed log.0 c.args.old.now puts.1
             (log.1 ∙ ap (with_path p l.opening) puts.1) changes;
-        clock = c.in_ok-spot.ensures.clock ∙ keeps.clock ∙ sym log.2;
+        clock = c.in_ok-spot.ensures.clock ∙ keeps.clock;
         opens = open-first lines lines names c.put_name.new.self.names l l' c.args.self.now.listings
             (open-grows lines names c.args.self.now.known.names c.put_name.new.self.names l 0 c.args.self.now.listings c.put_name.ensures.keeps keeps.opens);
         mailed = then adds.0;

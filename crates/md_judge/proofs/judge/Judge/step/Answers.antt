@@ -1,6 +1,6 @@
 use Rattle.md_judge.proofs.Growing.{grows}
 use Rattle.md_judge.proofs.Stepping.{on-ok, at-next, clocked, rests}
-use Rattle.std.proofs.Common.{ℕ, suc, ◌≡◌, ◌↔◌, inl, List, ◌<◌, OnOk, Option, Some, slice_get, length, refl, sym, ap, subst, ◌∙◌, arith}
+use Rattle.std.proofs.Common.{ℕ, suc, ◌≡◌, ◌↔◌, inl, List, ◌<◌, OnOk, Option, Some, true, slice_get, length, refl, sym, ap, subst, ◌∙◌, arith}
 use Rattle.std.proofs.lemmas.Bool.{ltb-true}
 use Rattle.md_dirs.specs.declared.paths.Path.{Path}
 use Rattle.md_log.specs.declared.clause.Clause.{Clause}
@@ -13,7 +13,7 @@ use Rattle.std.specs.Prelude.{unwrap_or}
 use Rattle.md_clauses.specs.declared.about.About.{About}
 use Rattle.md_judge.specs.declared.judge.mail.Mail.{Mail}
 use Rattle.md_judge.specs.Claims.{RecallsActs, RecallsSo, IsLastLine}
-use Rattle.md_judge.specs.Actors.{RecallsDeeds, AreActing, GoesWith, IsAnswering, MovedAt, NotesAct, NotesLook, NotesMoves, MayStand, acted, begun_by, done_by, move_cmp, moved_by, IsOfMissing, OnPath, ChangesPaths, Unlinks, MarksChange}
+use Rattle.md_judge.specs.Actors.{RecallsDeeds, AreActing, GoesWith, IsAnswering, MovedAt, NotesActs, NotesLook, NotesMoves, MayStand, ActsByPath, is_look, begun_by, done_by, move_cmp, moved_by, IsOfMissing, OnPath, ChangesPaths, Unlinks, MarksChange}
 use Rattle.md_judge.specs.Listings.{message_of}
 use Rattle.md_judge.specs.declared.judge.files.Files.{Files}
 use Rattle.md_log.specs.declared.line.Said.{Said}
@@ -36,8 +36,8 @@ use Rattle.md_law.specs.History.{after_call}
 use Rattle.md_law.specs.Messages.{IsThere}
 use Rattle.md_judge.specs.Told.{moment, at, after_step, IsStep, IsSpan, ActsOn, Looks}
 use Rattle.md_judge.specs.Verdict.{Remembers}
-use Rattle.md_judge.proofs.Acted.{acts-on, on-acts}
-use Rattle.md_judge.proofs.Actors.{acting-before, acting-called, acting-read, acting-answered, no-looks, stood}
+use Rattle.md_judge.proofs.Acted.{acts-on, on-acts, acts-or-not}
+use Rattle.md_judge.proofs.Actors.{acting-before, acting-called, acting-read, acting-answered, no-looks, looks-in, stood}
 use Rattle.md_judge.proofs.Departing.{goes-with, in-folders}
 use Rattle.md_judge.proofs.Moving.{goes-or-not}
 use Rattle.md_judge.proofs.Saying.{so-said}
@@ -224,16 +224,19 @@ returns-in-List-acting c lines l i acting is here short now =
     let no-answer : (said : Said) (folder : ℕ) (unique : List ℕ) → x.call ≡ call.Answer said folder unique → ⊥ = λ said folder unique e.
     let no = c.in-List.is in cc in
     let same-now : judge.watch.now ≡ first.watch.now = ap (λ (w : Watch). w.now) c.numbers.ensures.rest.0 ∙ c.begin.ensures.now in
-    ok-two c.list.result (NotesLook me read judge.watch.now judge.listings c.list.new.listings) (c.list.new.self.actors ≡ judge.watch.actors) _
+    let looks = is_look c.in-List.place c.in-List.reply in
+    ok-two c.list.result (NotesLook me read judge.watch.now looks judge.listings c.list.new.listings)
+    (c.list.new.self.actors ≡ judge.watch.actors) _
     (λ notes still. subst (λ (ws : List (List ℕ)). AreActing lines ws uniques l (suc i) c.list.new.self.actors c.list.new.listings) (sym c.numbers.ensures.rest.2)
     (acting-read lines names uniques l i x (c.args.line, is) me named c.are_apart.ensures.apart first.watch.actors c.begin.new.self.actors
     c.list.new.self.actors first.watch.now (now ∙ sym here) first.listings c.list.new.listings before
     (c.in_ok-begin.ensures.begun few) c.in_ok-begin.ensures.others c.in_ok-begin.ensures.done c.begin.ensures.moved
     no-answer unmoved (λ f w e on. subst (λ (v : Call). ActsOn v f w e) c.in-List.is on)
-    (still ∙ ap (λ (w : Watch). w.actors) c.numbers.ensures.rest.0) read
-    (λ f. subst (λ (v : Call). Looks v f ↔ (read ≡ f)) (sym c.in-List.is) (λ h. h, λ h. h))
-    (subst (λ (n : ℕ). NotesLook me read n first.listings c.list.new.listings) same-now
-    (subst (λ (ls : Listings). NotesLook me read judge.watch.now ls c.list.new.listings) c.numbers.ensures.rest.1 notes))))
+    (still ∙ ap (λ (w : Watch). w.actors) c.numbers.ensures.rest.0) read looks
+    (λ f. subst (λ (v : Call). Looks v f ↔ ((looks ≡ true) × (read ≡ f))) (sym c.in-List.is)
+    (looks-in read f c.in-List.place c.in-List.reply c.in-List.shown))
+    (subst (λ (n : ℕ). NotesLook me read n looks first.listings c.list.new.listings) same-now
+    (subst (λ (ls : Listings). NotesLook me read judge.watch.now looks ls c.list.new.listings) c.numbers.ensures.rest.1 notes))))
     c.list.ensures.looks c.list.ensures.actors
 
 returns-in-Answer-acting : (c : goal.After-answer) (lines : ℕ → ℕ) (l : Log) (i : ℕ)
@@ -272,8 +275,17 @@ judged-in : (c : goal.After-call) (lines : ℕ → ℕ) (l : Log) (i : ℕ) → 
 judged-in c lines l i keeps is here short there =
     let acts = acts-by c.number.new.self c.in_ok-actor.actor c.args.step.now c.are_apart.ensures.apart
     (c.in_ok-actor.ensures.found ∙ ap Some c.as_slice.ensures) in
-    let done = c.in_ok-self.ensures.done lines l i keeps.told is here short there in
-    (done.0, record { step = (c.args.line, is); call = refl; acts = acts; clock = c.step.ensures.clock l i keeps.clock is; done = done.1 })
+    let done = c.in_ok-self.ensures.done lines l i keeps.told is here short there in (
+      done.0,
+      record {
+        step = (c.args.line, is);
+        call = refl;
+        acts = acts;
+        clock = c.step.ensures.clock l i keeps.clock is;
+        paths = c.in_ok-self.ensures.paths;
+        done = done.1;
+      },
+    )
 
 returns-acting : (c : goal.After-call) (lines : ℕ → ℕ) (l : Log) (i : ℕ) → Remembers lines l i c.args.self.now
     → slice_get l.steps i ≡ Some (record { number = c.args.line; step = c.args.step.now }) → lines i ≡ c.args.line → c.args.line < 4294967295
@@ -295,7 +307,7 @@ returns-acting c lines l i keeps is here short now there =
     let me = c.in_ok-actor.actor in
     let act = c.in_ok-self.field-0 in
     let change = act.change in
-    let on = acted known.names act.spot x.call in
+    let on = ActsByPath known.names act x.call in
     let no-answer : (said : Said) (folder : ℕ) (unique : List ℕ) → x.call ≡ call.Answer said folder unique → ⊥ =
     λ said folder unique e. c.in_default.not-Answer said folder unique e in
     let no-list : (folder : ℕ) → Looks x.call folder → ⊥ = no-looks x.call (λ folder place r shown e. c.in_default.not-List folder place r shown e) in
@@ -313,15 +325,15 @@ returns-acting c lines l i keeps is here short now there =
     let marked = MarksChange known.names me change begun.mail last.mail begun.actors last.actors in
     let kept-mail = TellsMail known.names l (suc i) last.mail in
     let kept-present = KeepsPresent begun.mail last.mail in
-    ok-three c.call.result (NotesAct me begun.now on begun.actors last.actors) (moved × marked) (kept-mail × kept-present) _
+    ok-three c.call.result (NotesActs me begun.now on begun.actors last.actors) (moved × marked) (kept-mail × kept-present) _
     (λ notes done rest.
     let within = in-folders lines l (suc i) known last.mail told (rest.1.many ∙ folders) in
     acting-called lines names uniques l i x (c.args.line, is) me named c.are_apart.ensures.apart first.watch.actors
     begun.actors last.actors first.watch.now (now ∙ sym here) first.listings first.listings before
     (c.in_ok-begin.ensures.begun few) c.in_ok-begin.ensures.others c.in_ok-begin.ensures.done c.begin.ensures.moved
-    no-answer on (acts-on known.names act.spot act refl x.call c.in_ok-self.ensures.first)
-    (on-acts known.names act.spot act refl x.call c.in_ok-self.ensures.first) no-list numbered.uniques
-    (subst (λ (n : ℕ). NotesAct me n on begun.actors last.actors) c.begin.ensures.now notes)
+    no-answer on (acts-on known.names act x.call c.in_ok-self.ensures.paths) (on-acts known.names act x.call c.in_ok-self.ensures.paths)
+    (acts-or-not known.names act x.call) no-list numbered.uniques
+    (subst (λ (n : ℕ). NotesActs me n on begun.actors last.actors) c.begin.ensures.now notes)
     goes (goes-or-not known.names change.taken last.mail)
     (subst (λ (n : ℕ). NotesMoves me n goes begun.actors last.actors) c.begin.ensures.now done.0)
     (λ folder u unique stands to. goes-with judged.0 known.names l i change judged.1.done.leads judged.1.done.spots last.mail rest.0.0
@@ -690,7 +702,7 @@ returns-in_default-clause-told c = λ lines l i keeps is here short now there.
     let done = c.in_ok-self.ensures.done lines l i keeps.told is here short there in
     let clock = c.step.ensures.clock l i keeps.clock is in
     let judged : IsJudged done.0 who (length names) l i x actor x.call c.step.new.self c.in_ok-self.field-0 =
-    record { step = step-is; call = refl; acts = acts; clock = clock; done = done.1 } in
+    record { step = step-is; call = refl; acts = acts; clock = clock; paths = c.in_ok-self.ensures.paths; done = done.1 } in
     let first = c.args.self.now in
     let mail = subst (λ (m : Mail). TellsMail c.step.new.self.names l i m) (sym c.begin.ensures.mail)
     (tells-grows first.known.names c.step.new.self.names c.in_ok-self.ensures.uniques l i first.watch.mail keeps.mailed) in
@@ -742,7 +754,7 @@ returns-in_default-clause-broken c = λ lines l i keeps is here short now rises 
     let done = c.in_ok-self.ensures.done lines l i keeps.told is here short there in
     let clock = c.step.ensures.clock l i keeps.clock is in
     let judged : IsJudged done.0 who (length names) l i x actor x.call c.step.new.self c.in_ok-self.field-0 =
-    record { step = step-is; call = refl; acts = acts; clock = clock; done = done.1 } in
+    record { step = step-is; call = refl; acts = acts; clock = clock; paths = c.in_ok-self.ensures.paths; done = done.1 } in
     let t = turn l i x in
     let begun = c.begin.new.self.found in
     let new = c.call.new.self.found in

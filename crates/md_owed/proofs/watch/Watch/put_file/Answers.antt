@@ -11,11 +11,11 @@ use Rattle.md_owed.proofs.watch.Watch.put_file.Goals as goal
 pub returns-clause-begins : goal.returns-clause-begins
 returns-clause-begins c = λ l holds.
     let w = c.args.self.now in
-    let mid : Watch = record w { clock = c.max-self.result; files = c.make.new.self } in
+    let mid : Watch = record w { files = c.make.new.self } in
     let turn = c.added.ensures ∙ ap (adding c.args.path.now) c.count-file.ensures in
     put-file l c.args.path.now c.args.stamp w mid c.follow.new.self holds
     (sym c.file_at.ensures ∙ none-of c.file_at.result (sym c.is_some.ensures ∙ c.if-is_some.false))
-    c.max-self.ensures refl c.in_ok-make.ensures refl refl (subst (λ (t : Turn). Follows t mid c.follow.new.self) turn c.in_ok-follow.ensures)
+    refl refl c.in_ok-make.ensures refl refl (subst (λ (t : Turn). Follows t mid c.follow.new.self) turn c.in_ok-follow.ensures)
 
 pub returns-then-is_some-clause-refused : goal.returns-then-is_some-clause-refused
 returns-then-is_some-clause-refused c = λ l holds known.

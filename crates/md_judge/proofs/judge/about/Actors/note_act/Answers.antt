@@ -3,7 +3,7 @@ use Rattle.std.specs.Option.{option_map}
 use Rattle.md_log.specs.declared.line.Reply.{Reply}
 use Rattle.md_log.specs.declared.line.Reply.TheVariants as reply
 use Rattle.md_clauses.specs.declared.about.About.{About}
-use Rattle.md_judge.specs.Actors.{NotesAct, done_by}
+use Rattle.md_judge.specs.Actors.{IsActed, NotesActs, done_by}
 use Rattle.md_judge.proofs.Lined.{notes-act}
 use Rattle.md_judge.proofs.Marking.{put-deeds}
 use Rattle.md_judge.proofs.judge.about.Actors.note_act.Goals as goal
@@ -18,7 +18,7 @@ returns-in_ok-keep-clause-acts c = λ few.
     let about = c.note_act.new.self in
     let refused : (about.was_refused ≡ true) ↔ (r ≢ reply.Ok) =
     subst (λ (a : About). (a.was_refused ≡ true) ↔ (r ≢ reply.Ok)) (sym c.note_act.ensures.rest) c.is_refused.ensures in
-    subst (λ (o : Option ((ℕ × ℕ) × Reply)). NotesAct c.args.actor now o old new)
+    subst (λ (o : Option ((ℕ × ℕ) × Reply)). NotesActs c.args.actor now (IsActed o) old new)
     (ap (option_map (λ (u : ℕ). ((c.args.spot.folder, u), r))) (sym c.in-Some.is ∙ c.unique_at.ensures))
     (notes-act old new c.args.actor now key r about c.in_ok-keep.ensures.puts (c.note_act.ensures.act few) refused)
 

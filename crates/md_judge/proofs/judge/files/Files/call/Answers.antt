@@ -12,10 +12,13 @@ returns-clause-paths c =
     let old = c.args.found.now in
     let between = c.on_path.new.found in
     let new = c.change.new.found in
-    let finds = ChangeFinds c.args.known.now.names c.args.by.actor c.args.known.now.clock c.args.act.now.change c.on_path.new.self.all.items c.change.new.self.all.items in
+    let from_new = c.is_from_new-from_new.result in
+    let finds = ChangeFinds c.args.known.now.names c.args.by.actor c.args.known.now.clock from_new c.args.act.now.change
+    c.on_path.new.self.all.items c.change.new.self.all.items in
     ok-then c.change.result (Notes finds between new) (KeepsPaths old new)
     (λ notes. keeps-on old between new c.in_ok-on_path.ensures.paths (files-spare-paths finds
-    (change-more c.args.known.now.names c.args.by.actor c.args.known.now.clock c.args.act.now.change c.on_path.new.self.all.items c.change.new.self.all.items)
+    (change-more c.args.known.now.names c.args.by.actor c.args.known.now.clock from_new c.args.act.now.change c.on_path.new.self.all.items
+    c.change.new.self.all.items)
     between new notes)) c.change.ensures.finds
 
 pub returns-clause-added : goal.returns-clause-added
@@ -23,10 +26,13 @@ returns-clause-added c =
     let old = c.args.found.now in
     let between = c.on_path.new.found in
     let new = c.change.new.found in
-    let finds = ChangeFinds c.args.known.now.names c.args.by.actor c.args.known.now.clock c.args.act.now.change c.on_path.new.self.all.items c.change.new.self.all.items in
+    let from_new = c.is_from_new-from_new.result in
+    let finds = ChangeFinds c.args.known.now.names c.args.by.actor c.args.known.now.clock from_new c.args.act.now.change
+    c.on_path.new.self.all.items c.change.new.self.all.items in
     ok-then c.change.result (Notes finds between new) (KeepsMessages old new)
     (λ notes. added-on old between new c.in_ok-on_path.ensures.added (files-spare-added finds
-    (change-more c.args.known.now.names c.args.by.actor c.args.known.now.clock c.args.act.now.change c.on_path.new.self.all.items c.change.new.self.all.items)
+    (change-more c.args.known.now.names c.args.by.actor c.args.known.now.clock from_new c.args.act.now.change c.on_path.new.self.all.items
+    c.change.new.self.all.items)
     between new notes)) c.change.ensures.finds
 
 pub returns-clause-filed : goal.returns-clause-filed
@@ -49,4 +55,4 @@ returns-clause-finds c = λ path who many i l x are judged.
     c.change.ensures.step
     (λ then. c.change.ensures.law path who many i l x
     (change-call path who many l i x c.args.by.actor c.args.call.now c.args.known.now c.args.act.now c.args.self.now.all.items are judged mid
-    c.in_ok-on_path.ensures.step new then)))
+    c.in_ok-on_path.ensures.step new then c.is_from_new-from_new.result c.is_from_new-from_new.ensures)))

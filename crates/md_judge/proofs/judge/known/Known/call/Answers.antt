@@ -8,7 +8,7 @@ use Rattle.md_log.specs.declared.line.Naming.{Naming}
 use Rattle.md_log.specs.declared.line.Reply.{Reply}
 use Rattle.md_judge.specs.declared.judge.known.Act.{Act}
 use Rattle.md_judge.specs.declared.judge.tables.Names.{Names}
-use Rattle.md_judge.specs.Acts.{IsAnswerCall, IsWrongAsk, IsActOf, NamesFirst, ReadsNone}
+use Rattle.md_judge.specs.Acts.{IsAnswerCall, IsWrongAsk, IsActOf, NamesPaths, ReadsNone}
 use Rattle.md_judge.specs.Law.{Turn, turn}
 use Rattle.md_law.specs.History.{ask_at, ask_between, after_ask, after_call}
 use Rattle.md_judge.specs.Told.{at}
@@ -29,6 +29,7 @@ no-act = record {
   wrong_before = None;
   spot = None;
   file = None;
+  target = None;
   change = record { taken = None; added = None; turned = None; is_unlink = false };
   turned_before = None;
 }
@@ -37,6 +38,11 @@ no-act = record {
 if-ok : {A E : Type 0} (r : Result A E) (P Q : A → Type 0) → ((a : A) → P a → Q a) → IfOk r P → IfOk r Q
 if-ok (Ok a) P Q so holds = so a holds
 if-ok (Err e) P Q so holds = tt
+
+-- what follows of two facts about a value where a call gives it
+if-both : {A E : Type 0} (r : Result A E) (P Q R : A → Type 0) → ((a : A) → P a → Q a → R a) → IfOk r P → IfOk r Q → IfOk r R
+if-both (Ok a) P Q R so one other = so a one other
+if-both (Err e) P Q R so one other = tt
 
 pub returns-in_ok-spot-in-At : goal.returns-in_ok-spot-in-At
 returns-in_ok-spot-in-At c = record {
@@ -74,12 +80,13 @@ returns-in_ok-spot-in-At c = record {
       c.at.ensures.done path now lines l i x (spot.told lines l i told) spot.numbered spot.spot goes' there' (is ∙ c.in-At.is);
   clock = c.at.ensures.clock ∙ c.spot.ensures.clock;
   keeps = λ name n is. subst (λ t. IsNumber t name n) (sym c.at.ensures.names) (c.spot.ensures.keeps name n is);
-  first =
+  paths =
       let names = c.at.new.self.names in
       let s = c.in_ok-spot-in-At.spot in
-      if-ok c.at.result (λ act. act.spot ≡ Some s) (λ act. NamesFirst names c.args.call.now act)
-      (λ act is. subst (λ (v : Call). NamesFirst names v act) (sym c.in-At.is)
-      (s, is, subst (λ (t : Names). IsSpotOf t c.in-At.path s) (sym c.at.ensures.names) c.in_ok-spot-in-At.ensures.spot)) c.at.ensures.spot;
+      if-both c.at.result (λ act. act.spot ≡ Some s) (λ act. act.target ≡ None) (λ act. NamesPaths names c.args.call.now act)
+      (λ act is none. subst (λ (v : Call). NamesPaths names v act) (sym c.in-At.is)
+      ((s, is, subst (λ (t : Names). IsSpotOf t c.in-At.path s) (sym c.at.ensures.names) c.in_ok-spot-in-At.ensures.spot), none))
+      c.at.ensures.spot c.at.ensures.target;
   lists = λ reads. absurd (reads (subst ReadsNone (sym c.in-At.is) tt));
   answers = λ is. absurd (subst IsAnswerCall c.in-At.is is);
   uniques = on-ok c.at.result (grows-on c.args.self.now.names c.spot.new.self.names c.at.new.self.names c.in_ok-spot-in-At.ensures.uniques
@@ -142,16 +149,19 @@ returns-in_ok-new-in-Between c = record {
   clock = c.between.ensures.clock ∙ c.spot-in-Between-2.ensures.clock ∙ c.spot-in-Between.ensures.clock;
   keeps = λ name n is. subst (λ t. IsNumber t name n) (sym c.between.ensures.names)
       (c.spot-in-Between-2.ensures.keeps name n (c.spot-in-Between.ensures.keeps name n is));
-  first =
+  paths =
       let names = c.between.new.self.names in
       let s = c.in_ok-old-in-Between.old in
+      let t = c.in_ok-new-in-Between.new in
       let of = c.in_ok-old-in-Between.ensures.spot in
       let old = c.in-Between.old in
       let number = c.in_ok-new-in-Between.ensures.keeps old.name s.name of.number in
-      if-ok c.between.result (λ act. act.spot ≡ Some s) (λ act. NamesFirst names c.args.call.now act)
-      (λ act is. subst (λ (v : Call). NamesFirst names v act) (sym c.in-Between.is)
-      (s, is, subst (λ (t : Names). IsSpotOf t old s) (sym c.between.ensures.names) (record { folder = of.folder; place = of.place; number = number })))
-      c.between.ensures.spot;
+      if-both c.between.result (λ act. act.spot ≡ Some s) (λ act. act.target ≡ Some t) (λ act. NamesPaths names c.args.call.now act)
+      (λ act is to. subst (λ (v : Call). NamesPaths names v act) (sym c.in-Between.is) (
+        (s, is, subst (λ (ns : Names). IsSpotOf ns old s) (sym c.between.ensures.names) (record { folder = of.folder; place = of.place; number = number })),
+        (t, to, subst (λ (ns : Names). IsSpotOf ns c.in-Between.new t) (sym c.between.ensures.names) c.in_ok-new-in-Between.ensures.spot),
+      ))
+      c.between.ensures.spot c.between.ensures.target;
   lists = λ reads. absurd (reads (subst ReadsNone (sym c.in-Between.is) tt));
   answers = λ is. absurd (subst IsAnswerCall c.in-Between.is is);
   uniques =
@@ -166,7 +176,7 @@ returns-in_ok-new-in-Between c = record {
 
 -- a call on no path does nothing, and is never wrong
 nothing : (v : Call) → ((d : Deed) (p : Path) (r : Reply) → v ≡ call.At d p r → ⊥) → ((n : Naming) (p q : Path) (r : Reply) → v ≡ call.Between n p q r → ⊥)
-    → ((now : ℕ) (s : State) → after_call v now s ≡ s) × ((t : Turn) → IsWrongAsk t v → ⊥) × ((names : Names) → NamesFirst names v no-act)
+    → ((now : ℕ) (s : State) → after_call v now s ≡ s) × ((t : Turn) → IsWrongAsk t v → ⊥) × ((names : Names) → NamesPaths names v no-act)
 nothing (call.At d p r) no-at no-between = absurd (no-at d p r refl)
 nothing (call.Between n p q r) no-at no-between = absurd (no-between n p q r refl)
 nothing (call.List f p r shown) no-at no-between = (λ now s. refl, λ t wrong. wrong, λ names. tt)
@@ -183,7 +193,7 @@ returns-in_default c =
           (λ d p r e. c.in_default.not-At d p r (sym is ∙ e));
       clock = refl;
       keeps = λ name n is. is;
-      first = none.2 names;
+      paths = none.2 names;
       lists = λ reads. refl;
       answers = λ is. refl;
       uniques = grows-none names names refl;

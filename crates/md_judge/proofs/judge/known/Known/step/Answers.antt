@@ -26,7 +26,7 @@ returns c = record {
       c.call.ensures.clock ∙ c.max-self.ensures ∙ ap (λ n. max n c.args.step.now.moment) was ∙ sym (ap (λ (m : Moment). m.now) (moment-next l i x is));
   keeps = c.call.ensures.keeps;
   uniques = c.call.ensures.uniques;
-  first = c.call.ensures.first;
+  paths = c.call.ensures.paths;
   lists = λ reads. clocked-same c.args.self.now _ c.call.new.self (c.call.ensures.lists reads);
   answers = λ is. clocked-same c.args.self.now _ c.call.new.self (c.call.ensures.answers is);
 }

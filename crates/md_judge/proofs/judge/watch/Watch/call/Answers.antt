@@ -4,7 +4,7 @@ use Rattle.md_clauses.specs.Found.{Keeps, NotesOne, KeepsMessages, KeepsFiles, K
 use Rattle.md_judge.specs.declared.judge.files.Files.{Files}
 use Rattle.md_judge.specs.Filed.{AreFiled, BrokenByFiles}
 use Rattle.md_judge.specs.Law.{turn}
-use Rattle.md_judge.specs.Actors.{GoesWith, KeepsActs, NotesAct, NotesMoves, acted as acted-of, IsOfMissing, OnPath, ChangesPaths, Unlinks, MarksChange}
+use Rattle.md_judge.specs.Actors.{GoesWith, KeepsActs, NotesActs, NotesMoves, ActsByPath, IsOfMissing, OnPath, ChangesPaths, Unlinks, MarksChange}
 use Rattle.md_judge.specs.Mailed.{KeepsPresent, MakeStep, TellsMail, NotesMessages, MakesTimes, AreTimed}
 use Rattle.md_judge.proofs.Lined.{notes-then}
 use Rattle.md_judge.proofs.Moving.{moves-then}
@@ -74,8 +74,8 @@ returns c =
           (answers-on old filed new (answers-on old noting filed
           (unnoted-answers wrong clause.NotADirectory (λ e. cc) (λ e. cc) old noting c.note.ensures.notes) keeps.answers)) c.change.ensures.answers;
       acts = λ few.
-          let on = acted-of names c.args.act.now.spot c.args.call.now in
-          ok-then c.change.result (KeepsActs mid last.actors) (NotesAct actor first.now on first.actors last.actors)
+          let on = ActsByPath names c.args.act.now c.args.call.now in
+          ok-then c.change.result (KeepsActs mid last.actors) (NotesActs actor first.now on first.actors last.actors)
           (notes-then first.actors mid last.actors actor first.now on (c.in_ok-note_call.ensures.acts few)) c.change.ensures.acts;
       moves =
           let goes = GoesWith names change.taken last.mail in

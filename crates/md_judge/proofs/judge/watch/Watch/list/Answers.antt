@@ -1,4 +1,4 @@
-use Rattle.std.proofs.Common.{ℕ, ◌≡◌, ◌≢◌, Bool, false, Option, Some, unwrap_or, sym, subst, ap, ◌∙◌}
+use Rattle.std.proofs.Common.{ℕ, ◌≡◌, ◌≢◌, Bool, false, Option, unwrap_or, sym, subst, ap, ◌∙◌}
 use Rattle.std.specs.Option.{option_copied}
 use Rattle.std.specs.Ordering.{is_eq, nat_cmp}
 use Rattle.std.specs.BTreeSet as ordered
@@ -11,7 +11,7 @@ use Rattle.md_judge.specs.Open.{Gathered, gathered_of, gathered_by, gathered_in,
 use Rattle.md_judge.proofs.Finishing.{gathered-elsewhere}
 use Rattle.md_judge.proofs.Unlisting.{part-none}
 use Rattle.md_judge.specs.declared.judge.mail.Mail.{Mail}
-use Rattle.md_judge.specs.Actors.{looked_of}
+use Rattle.md_judge.specs.Actors.{looked_of, looked_by, is_look, looked_after}
 use Rattle.md_judge.proofs.Lined.{notes-look}
 use Rattle.md_judge.proofs.Keeping.{IsKept, shown_by, kept-some, kept-none, kept-looked, keeps-part, goes-kept}
 use Rattle.md_judge.proofs.Opening.{part-kept}
@@ -93,10 +93,10 @@ returns-clause-added c =
 
 -- what was kept of the folder before is in the listing that a part goes on with
 was-kept : (c : goal.Joined-branch-4) (p : Place) → IsKept (get message_cmp c.args.listings.now (c.args.actor, c.args.folder))
-    (record c.match-remove.listing { looked = Some c.args.self.now.now }) p
+    (record c.match-remove.listing { looked = c.looked_after-listing.result }) p
 was-kept c p =
     let old = get message_cmp c.args.listings.now (c.args.actor, c.args.folder) in
-    kept-looked old c.match-remove.listing (Some c.args.self.now.now) p (elim c.match-remove.branch [
+    kept-looked old c.match-remove.listing c.looked_after-listing.result p (elim c.match-remove.branch [
       | in-Some w ↦ subst (λ (v : Listing). IsKept old v p) (sym w.listing-is)
           (kept-some old w.in-Some.listing p (sym c.remove.ensures.value ∙ w.in-Some.is))
       | in-None w ↦ subst (λ (v : Listing). IsKept old v p) (sym w.listing-is)
@@ -108,7 +108,7 @@ returns-clause-part c =
     let old = c.args.listings.now in
     let key : ℕ × ℕ = (c.args.actor, c.args.folder) in
     let s = c.match-remove.listing in
-    let o : Option ℕ = Some c.args.self.now.now in
+    let o : Option ℕ = c.looked_after-listing.result in
     let s' : Listing = record s { looked = o } in
     let u = c.match-reply.listing in
     let t = c.show.new.self in
@@ -146,7 +146,7 @@ returns-clause-wrong c = λ lines l i x shown told.
     let listings = c.args.listings.now in
     let t = c.show.new.self in
     let o = get message_cmp listings (c.args.actor, folder) in
-    let s : Listing = record c.match-remove.listing { looked = Some now } in
+    let s : Listing = record c.match-remove.listing { looked = c.looked_after-listing.result } in
     let goes = goes-kept now numbers o s t place (was-kept c place) c.in_ok-first.ensures.goes in
     let is = part-kept lines known.names l i x folder place r shown numbers now told.step told.call told.here told.named
     (first_of o place) (shows_of o place) (shown_by t place) told.recalls goes.shows in
@@ -217,7 +217,7 @@ returns-clause-listing c =
     let r = c.args.reply in
     let now = c.args.self.now.now in
     let o = get message_cmp old key in
-    let s : Listing = record c.match-remove.listing { looked = Some now } in
+    let s : Listing = record c.match-remove.listing { looked = c.looked_after-listing.result } in
     let t = c.show.new.self in
     let u = c.match-reply.listing in
     let first = unwrap_or (first_of o place) now in
@@ -261,7 +261,7 @@ returns-clause-unlisted c = λ lines l i x shown told gathered mail.
     let numbers = c.args.names.now in
     let o = get message_cmp c.args.listings.now (c.args.actor, folder) in
     let t = c.show.new.self in
-    let s : Listing = record c.match-remove.listing { looked = Some now } in
+    let s : Listing = record c.match-remove.listing { looked = c.looked_after-listing.result } in
     let done : ℕ → Bool = shown_by t place in
     let goes = goes-kept now numbers o s t place (was-kept c place) c.in_ok-first.ensures.goes in
     let kept = part-kept lines names l i x folder place r shown numbers now told.step told.call told.here told.named
@@ -306,13 +306,22 @@ returns-clause-actors c =
 pub returns-clause-looks : goal.returns-clause-looks
 returns-clause-looks c =
     let now = c.args.self.now.now in
-    let last : c.match-reply.listing.looked ≡ Some now = elim c.match-reply.branch [
+    let actor = c.args.actor in
+    let folder = c.args.folder in
+    let place = c.args.place in
+    let r = c.args.reply in
+    let was : c.match-remove.listing.looked ≡ looked_by c.args.listings.now actor folder = elim c.match-remove.branch [
+      | in-Some w ↦ ap (λ (v : Listing). v.looked) w.listing-is ∙ ap looked_of (sym w.in-Some.is ∙ c.remove.ensures.value)
+      | in-None w ↦ ap (λ (v : Listing). v.looked) w.listing-is ∙ w.new-listing.ensures.looked
+          ∙ ap looked_of (sym w.in-None.is ∙ c.remove.ensures.value)
+    ] in
+    let last : c.match-reply.listing.looked ≡ c.looked_after-listing.result = elim c.match-reply.branch [
       | in_default-reply+in_ok-end_reading-in_default-reply w ↦
           ap (λ (v : Listing). v.looked) w.listing-is ∙ w.end_reading.ensures.looked ∙ c.show.ensures.looked
       | in-More w ↦ ap (λ (v : Listing). v.looked) w.listing-is ∙ c.show.ensures.looked
     ] in
-    notes-look c.args.actor c.args.folder now c.args.listings.now c.insert.new.self
-    (ap looked_of c.in_ok-insert.ensures.updates.1 ∙ last)
+    notes-look actor folder now (is_look place r) c.args.listings.now c.insert.new.self
+    (ap looked_of c.in_ok-insert.ensures.updates.1 ∙ last ∙ c.looked_after-listing.ensures ∙ ap (looked_after place r now) was)
     (λ q apart. c.in_ok-insert.ensures.updates.2 q apart ∙ c.remove.ensures.updates.2 q apart)
 
 pub returns-clause-answers : goal.returns-clause-answers

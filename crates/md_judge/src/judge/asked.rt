@@ -1,0 +1,124 @@
+//! Steps by numbers, as far as directories answer them, and which of them have to do with one another.
+use md_clauses::{Name, Spot};
+use md_dirs::Place;
+use md_log::{Deed, Naming, Reply, Ticks};
+
+/// So many steps or names are looked at in about the time of a try.
+pub(super) const LOOKS_A_TRY: usize = 32;
+
+/// What stands for the names of a directory: no name has this number.
+pub(super) const ALL: Name = u64::MAX;
+
+/// A call, as far as directories answer it.
+#[derive(Clone, Copy)]
+pub(super) enum Deal {
+    At(Deed),
+    Between(Naming),
+    List,
+    Answer,
+}
+
+/// A step by numbers, to be placed.
+#[derive(Clone, Copy)]
+pub(super) struct Asked {
+    pub(super) deal: Deal,
+    pub(super) reply: Reply,
+    /// The paths that it names, where it names one that one twice; of a reading, `ALL` names of its directory.
+    pub(super) old: Spot,
+    pub(super) new: Spot,
+    /// Of a reading: the actor, and where the names that it shows begin and end among those of all readings.
+    pub(super) actor: u32,
+    pub(super) shown: (usize, usize),
+    /// No other reading of the directory by the actor overlaps it.
+    pub(super) is_alone: bool,
+    pub(super) ticks: Ticks,
+}
+
+/// Why a step doesn't fit: what is so of this path, and for some readings also what was read before.
+#[derive(Clone, Copy)]
+pub(super) struct Misfit {
+    pub(super) spot: Spot,
+    pub(super) is_of_reading: bool,
+}
+
+const NO_SPOT: Spot = Spot {
+    folder: u32::MAX,
+    place: Place::Tmp,
+    name: ALL,
+};
+
+/// An answer, which fits everywhere.
+pub(super) const ANSWER: Asked = Asked {
+    deal: Deal::Answer,
+    reply: Reply::Ok,
+    old: NO_SPOT,
+    new: NO_SPOT,
+    actor: 0,
+    shown: (0, 0),
+    is_alone: true,
+    ticks: Ticks { begin: 0, end: 0 },
+};
+
+impl Asked {
+    /// Whether the call makes a path be there or go.
+    pub(super) fn is_change(&self) -> bool {
+        match self.deal {
+            Deal::At(Deed::Create | Deed::Unlink) | Deal::Between(_) => self.reply == Reply::Ok,
+            _ => false,
+        }
+    }
+
+    pub(super) fn is_reading(&self) -> bool {
+        match self.deal {
+            Deal::List => true,
+            _ => false,
+        }
+    }
+
+    /// Whether the call changes nothing, so that, made at once where it fits, it leaves each later call as free as before.
+    pub(super) fn is_idle(&self) -> bool {
+        match self.deal {
+            Deal::List => self.is_alone,
+            _ => !self.is_change(),
+        }
+    }
+
+    /// Whether the call may make a path be there or go.
+    pub(super) fn may_change(&self, spot: Spot) -> bool {
+        match self.deal {
+            Deal::Between(Naming::Link) => self.is_change() && is_one(self.new, spot),
+            _ => self.is_change() && (is_one(self.old, spot) || is_one(self.new, spot)),
+        }
+    }
+
+    /// Whether both are readings of one directory by one actor.
+    pub(super) fn is_read_with(&self, other: &Asked) -> bool {
+        match (self.deal, other.deal) {
+            (Deal::List, Deal::List) => self.actor == other.actor && meets(self.old, other.old),
+            _ => false,
+        }
+    }
+
+    /// Whether two calls answer and do the same in either order, wherever both can be made.
+    pub(super) fn is_apart(&self, other: &Asked) -> bool {
+        if self.is_change() || other.is_change() {
+            let is_met = meets(self.old, other.old)
+                || meets(self.old, other.new)
+                || meets(self.new, other.old)
+                || meets(self.new, other.new);
+            return !is_met;
+        }
+        !self.is_read_with(other)
+    }
+}
+
+fn is_one(one: Spot, two: Spot) -> bool {
+    one.folder == two.folder && one.place == two.place && one.name == two.name
+}
+
+/// Whether two paths are one, or one of them is of a directory that the other stands for.
+fn meets(one: Spot, two: Spot) -> bool {
+    one.folder == two.folder
+        && one.place == two.place
+        && (one.name == two.name || one.name == ALL || two.name == ALL)
+}
