@@ -122,7 +122,7 @@ def _third_line(columns: dict[str, str]) -> Row:
     """The third line of a log is read, whatever is found there, or the log is refused for it."""
     given = b"maildir_log 1\nfolder i\n" + _bytes(columns["line"]) + b"\n"
     if columns["fault"] != "read":
-        wanted = Ended(2, b"", f"line 3: {columns['fault']}\n".encode())
+        wanted = Ended(2, b"", b"line 3: " + _bytes(columns["fault"]) + b"\n")
         return Row(["judge"], given, lambda ended: ended == wanted, wanted)
 
     def is_right(ended: Ended) -> bool:
@@ -133,10 +133,17 @@ def _third_line(columns: dict[str, str]) -> Row:
 
 
 def _judged(log: Path) -> Row:
-    """What the file beside a log has: a line `LINE CLAUSE` for each finding, or the line `line N: TEXT` of a text that is no log."""
+    """What the file beside a log has: a line `LINE CLAUSE` for each finding, or the line `line N: TEXT` of a text that is no log, as the library
+    for C has it. The program's may go on with the wrong word."""
     found = log.with_suffix(".found").read_bytes()
     wanted = Ended(2, b"", found) if found.startswith(b"line ") else Ended(1 if found else 0, found, b"")
-    return Row(["judge", "--lines"], log.read_bytes(), lambda ended: ended == wanted, wanted)
+    with_word = re.compile(re.escape(wanted.said.rstrip(b"\n")) + rb": word [^\n]*\n")
+
+    def is_right(ended: Ended) -> bool:
+        said = wanted.said if with_word.fullmatch(ended.said) else ended.said
+        return ended._replace(said=said) == wanted
+
+    return Row(["judge", "--lines"], log.read_bytes(), is_right, wanted)
 
 
 def _is_so(wanted: Ended, ended: Ended, begins: bool) -> bool:

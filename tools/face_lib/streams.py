@@ -46,7 +46,7 @@ def _each(sent: str, wanted: Ended, runs: Sequence[tuple[str, bytes]]) -> list[S
 
 _CLI_RUNS = [("play", _SCRIPT), ("threads 2", b"folder i"), ("index 3", _FILES), ("--help", b"")]
 _CLI_READS = [("play", _SCRIPT), ("threads 2", _SCRIPT), ("index 3", _SCRIPT)]
-_JUDGE_RUNS = [(words, log) for words in ("judge", "judge --lines", "judge --json") for log in (_LOG, _LONG_LOG)]
+_JUDGE_RUNS = [(words, log) for words in ("judge", "judge --lines", "judge --json", "judge --summary") for log in (_LOG, _LONG_LOG)]
 _JUDGE_READS = [("judge", _LOG), ("judge --lines", _LOG), ("judge /dev/stdin", _LOG)]
 _LOG_RUNS = [("log", _FILES), ("log --states", _FILES)]
 _SCRIPT_RUNS = [("play", _SCRIPT), ("threads 2", b"folder i"), ("index 3", _FILES), *_LOG_RUNS]

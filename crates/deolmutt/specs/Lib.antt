@@ -9,3 +9,5 @@ pub mod Rows
 pub mod Drafts
 pub mod Folders
 pub mod Notes
+pub mod Tallies
+pub mod Probes

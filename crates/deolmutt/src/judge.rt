@@ -1,4 +1,5 @@
 //! A log of directory calls, judged.
+mod blame;
 mod fault;
 mod json;
 mod lines;
@@ -6,6 +7,7 @@ mod owed;
 mod page;
 mod relied;
 mod shown;
+mod summary;
 mod text;
 mod why;
 mod words;
@@ -17,11 +19,13 @@ use crate::status::Status;
 use crate::trouble::Trouble;
 use fault::Fault;
 use lines::judge_lines;
-use md_judge::{Clause, Session as Judge};
+use md_judge::{CLAUSES, Clause, Session as Judge};
 use owed::try_owed;
 use page::Page;
 use shown::Shown;
+use std::alloc::{AllocError, Global};
 use std::io::Read;
+use summary::Tally;
 use why::why;
 pub(crate) use words::{Form, Judging, Rules, read_judging};
 
@@ -40,7 +44,8 @@ pub(crate) fn judged<R: Host>(session: &Session<'_, R>, how: &Judging<'_>) -> St
     }
 }
 
-// A wrong log, or a fault of reading, writing or memory, is told with the number of its line, or 0 where it is of none.
+// A wrong log, or a fault of reading, writing or memory, is told with the number of its line, or 0 where it is of none. Where memory for
+// the wrong word is wanting, the fault is told without it.
 fn judged_log<R: Host, L: Read + Drop>(
     session: &Session<'_, R>,
     how: &Judging<'_>,
@@ -49,7 +54,10 @@ fn judged_log<R: Host, L: Read + Drop>(
     match try_judge(session, how, log) {
         Ok(status) => status,
         Err(fault) => {
-            session.refuse(fault.line(), fault.text());
+            match fault.said(session.alloc) {
+                Ok(said) => session.refuse(fault.line(), &said),
+                Err(_) => session.refuse(fault.line(), fault.text()),
+            }
             Status::Unjudged
         }
     }
@@ -87,7 +95,7 @@ fn try_law<R: Host, L: Read + Drop>(
 
 // Prints the findings.
 fn show<R: Host>(session: &Session<'_, R>, judge: &Judge, form: Form) -> Result<(), Fault> {
-    let mut page = Page::new(session.alloc, form);
+    let mut page = Page::new(session.alloc, form, expected(session.alloc)?);
     for (at, finding) in judge.findings().iter().copied().enumerate() {
         let (actor, call) = judge.words(at);
         let shown = Shown {
@@ -100,5 +108,14 @@ fn show<R: Host>(session: &Session<'_, R>, judge: &Judge, form: Form) -> Result<
         };
         page.put(session, &shown)?;
     }
-    page.print(session)
+    page.end(session)
+}
+
+// The clauses of the law, in its order.
+fn expected(alloc: Global) -> Result<Tally, AllocError> {
+    let mut tally = Tally::new(alloc);
+    for clause in CLAUSES {
+        tally.expect(clause.name(), why(clause))?;
+    }
+    Ok(tally)
 }

@@ -52,18 +52,21 @@ pub(crate) fn judge_lines<J: Reader, L: Read + Drop>(
     for number in 1..u64::MAX {
         match lines.next(&mut line, usize::MAX) {
             Ok(Line::End) => break,
-            Ok(_) => judge_line(reader, line.as_slice())?,
+            Ok(_) => judge_line(alloc, reader, line.as_slice())?,
             Err(error) => return Err(unread(number, &error)),
         }
     }
     reader.close()
 }
 
-// A line with its end.
-fn judge_line<J: Reader>(reader: &mut J, line: &[u8]) -> Result<(), Fault> {
-    match cut_line(line) {
-        Some((text, _)) => reader.take(text),
-        None => Ok(()),
+// A line with its end. Where it is refused, its wrong word is looked for.
+fn judge_line<J: Reader>(alloc: Global, reader: &mut J, line: &[u8]) -> Result<(), Fault> {
+    let Some((text, _)) = cut_line(line) else {
+        return Ok(());
+    };
+    match reader.take(text) {
+        Ok(()) => Ok(()),
+        Err(fault) => Err(fault.blamed(alloc, text)),
     }
 }
 

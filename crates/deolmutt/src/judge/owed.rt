@@ -4,10 +4,12 @@ use crate::judge::fault::Fault;
 use crate::judge::lines::judge_lines;
 use crate::judge::page::Page;
 use crate::judge::shown::Shown;
+use crate::judge::summary::Tally;
 use crate::judge::words::{Form, Owing};
 use crate::session::{Host, Session};
 use crate::status::Status;
-use md_owed::{Finding, OwedClause, Session as Watch};
+use md_owed::{Finding, OWED, OwedClause, Session as Watch};
+use std::alloc::{AllocError, Global};
 use std::io::Read;
 
 /// Judges a log by what programs owe each other, and prints what is found of it.
@@ -19,7 +21,7 @@ pub(crate) fn try_owed<R: Host, L: Read + Drop>(
 ) -> Result<Status, Fault> {
     let mut watch = Watch::new(session.alloc);
     judge_lines(session.alloc, &mut watch, log)?;
-    let mut page = Page::new(session.alloc, form);
+    let mut page = Page::new(session.alloc, form, expected(session.alloc)?);
     let mut status = Status::Done;
     for finding in watch.findings() {
         if is_asked_for(owing, finding) {
@@ -27,8 +29,17 @@ pub(crate) fn try_owed<R: Host, L: Read + Drop>(
             status = Status::Refused;
         }
     }
-    page.print(session)?;
+    page.end(session)?;
     Ok(status)
+}
+
+// The clauses, in their order.
+fn expected(alloc: Global) -> Result<Tally, AllocError> {
+    let mut tally = Tally::new(alloc);
+    for clause in OWED {
+        tally.expect(clause.name(), why(clause))?;
+    }
+    Ok(tally)
 }
 
 // Whether the clause is asked for, and the step is by another than those whose steps are left out.

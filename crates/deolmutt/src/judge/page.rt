@@ -3,6 +3,7 @@
 use crate::judge::fault::Fault;
 use crate::judge::json::push_json;
 use crate::judge::shown::Shown;
+use crate::judge::summary::Tally;
 use crate::judge::text::{push_long, push_short};
 use crate::judge::words::Form;
 use crate::output::print;
@@ -18,14 +19,17 @@ pub(crate) struct Page {
     alloc: Global,
     form: Form,
     text: Vec<u8>,
+    tally: Tally,
 }
 
 impl Page {
-    pub(crate) fn new(alloc: Global, form: Form) -> Page {
+    /// A page with no finding; the tally has the clauses that there may be findings of.
+    pub(crate) fn new(alloc: Global, form: Form, tally: Tally) -> Page {
         Page {
             alloc,
             form,
             text: Vec::new(alloc),
+            tally,
         }
     }
 
@@ -35,17 +39,23 @@ impl Page {
         session: &Session<'_, R>,
         shown: &Shown<'_>,
     ) -> Result<(), Fault> {
-        if self.push(shown).is_err() {
-            return Err(Fault::no_memory(0));
-        }
+        self.push(shown)?;
         if self.text.len() < FULL {
             return Ok(());
         }
         self.print(session)
     }
 
-    /// Prints what was gathered.
-    pub(crate) fn print<R: Host>(&mut self, session: &Session<'_, R>) -> Result<(), Fault> {
+    /// Prints what is left. There is no finding more.
+    pub(crate) fn end<R: Host>(&mut self, session: &Session<'_, R>) -> Result<(), Fault> {
+        if let Form::Summary = self.form {
+            self.tally.push_lines(&mut self.text)?;
+        }
+        self.print(session)
+    }
+
+    // Prints what was gathered.
+    fn print<R: Host>(&mut self, session: &Session<'_, R>) -> Result<(), Fault> {
         let printed = print(session, &self.text);
         self.text.clear();
         match printed {
@@ -59,6 +69,10 @@ impl Page {
             Form::People => push_long(self.alloc, &mut self.text, shown),
             Form::Lines => push_short(self.alloc, &mut self.text, shown),
             Form::Json => push_json(self.alloc, &mut self.text, shown),
+            Form::Summary => {
+                self.tally.add(shown.clause, shown.line);
+                Ok(())
+            }
         }
     }
 }

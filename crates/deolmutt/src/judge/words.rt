@@ -17,6 +17,8 @@ pub(crate) enum Form {
     Lines,
     /// A JSON object a line.
     Json,
+    /// How often each clause is broken, and where first.
+    Summary,
 }
 
 /// How a log is judged.
@@ -114,6 +116,8 @@ fn form_of(words: &ArgMatches<'_>) -> Form {
         Form::Lines
     } else if words.get_flag("json") {
         Form::Json
+    } else if words.get_flag("summary") {
+        Form::Summary
     } else {
         Form::People
     }

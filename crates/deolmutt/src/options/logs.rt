@@ -20,12 +20,14 @@ const AFTER_JUDGE: &str =
 Status:
   0   the log is lawful
   1   there are findings
-  2   the log is wrong, or reading, writing or memory failed; `line N: TEXT` on standard error says which
+  2   the log is wrong, or reading, writing or memory failed; `line N: TEXT` on standard error says which, and for a wrong
+      word its number and what it should be
   66  no such file
 
 Examples:
   deolmutt judge log
   deolmutt judge --json < log
+  deolmutt judge --summary log
   deolmutt judge --allow NotFlushed --allow Mixed log
   deolmutt judge --relies deliver --by mydeliver log
 
@@ -45,6 +47,13 @@ pub(crate) fn log<'a>(alloc: Global) -> Result<Command<'a>, AllocError> {
 
 /// The judging of a log.
 pub(crate) fn judge<'a>(alloc: Global) -> Result<Command<'a>, AllocError> {
+    let summary = switch(
+        alloc,
+        "summary",
+        "Prints how often each clause is broken and at which line first, and the sum",
+    )
+    .conflicts_with("lines")?
+    .conflicts_with("json")?;
     let allow = Arg::new(alloc, "allow")
         .long("allow")
         .value_name("CLAUSE")
@@ -80,6 +89,7 @@ pub(crate) fn judge<'a>(alloc: Global) -> Result<Command<'a>, AllocError> {
         .arg(switch(alloc, "json", "Prints an object of JSON for each finding").conflicts_with(
             "lines",
         )?)?
+        .arg(summary)?
         .arg(allow)?
         .arg(owed)?
         .arg(relies)?
