@@ -117,7 +117,7 @@ check_judge() {
   format=
   while [ $# -gt 0 ]; do
     case $1 in
-      --lines | --json)
+      --lines | --json | --summary)
         [ "$format" != "$1" ] || refuse_words "the argument '$1' cannot be used multiple times"
         [ -z "$format" ] || refuse_words "the argument '$format' cannot be used with '$1'"
         format=$1

@@ -13,7 +13,7 @@ _deolmutt() {
             list) choices='--json --headers -h --help' ;;
             flag) choices='--add --remove -h --help' ;;
             log) choices='--states -h --help' ;;
-            judge) choices='--lines --json --allow --owed --relies --by -h --help' ;;
+            judge) choices='--lines --json --summary --allow --owed --relies --by -h --help' ;;
             *) choices='-h --help' ;;
         esac
     elif [[ $command == help ]]; then

@@ -32,6 +32,7 @@ complete -c deolmutt -n 'contains -- (commandline -opc)[2] flag' -l remove -x -d
 complete -c deolmutt -n 'contains -- (commandline -opc)[2] log' -l states -d 'Adds comments that show each name of each directory after each step'
 complete -c deolmutt -n 'contains -- (commandline -opc)[2] judge' -l lines -d 'Prints LINE CLAUSE for each finding'
 complete -c deolmutt -n 'contains -- (commandline -opc)[2] judge' -l json -d 'Prints an object of JSON for each finding'
+complete -c deolmutt -n 'contains -- (commandline -opc)[2] judge' -l summary -d 'Prints how often each clause is broken and at which line first, and the sum'
 complete -c deolmutt -n 'contains -- (commandline -opc)[2] judge' -l allow -x -d 'Leaves this clause out, as a line `allow CLAUSE` of the log; may be repeated'
 complete -c deolmutt -n 'contains -- (commandline -opc)[2] judge' -l owed -d 'Judges by what each program owes the others, in place of the law (docs/LAW.md)'
 complete -c deolmutt -n 'contains -- (commandline -opc)[2] judge' -l relies -x -d 'Judges by what this call of deolmutt relies on: deliver, seen, flag, move, copy, expunge or clean'

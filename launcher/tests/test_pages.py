@@ -34,7 +34,7 @@ COMPLETED = (
     ('deolmutt list box --', ['--json', '--headers', '--help']),
     ('deolmutt flag --r', ['--remove']),
     ('deolmutt clean --', ['--help']),
-    ('deolmutt judge --', ['--lines', '--json', '--allow', '--owed', '--relies', '--by', '--help']),
+    ('deolmutt judge --', ['--lines', '--json', '--summary', '--allow', '--owed', '--relies', '--by', '--help']),
     ('deolmutt log --', ['--states', '--help']),
     ('deolmutt judge --allow ', []),
     ('deolmutt help list ', []),

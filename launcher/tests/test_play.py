@@ -24,6 +24,7 @@ WRONG = (
     (('log', '--states', '--states'), "unexpected argument '--states' found"),
     (('judge', '--jsn'), "unexpected argument '--jsn' found: a similar one is '--json'"),
     (('judge', '--lines', '--json'), "the argument '--lines' cannot be used with '--json'"),
+    (('judge', '--json', '--summary'), "the argument '--json' cannot be used with '--summary'"),
     (('judge', '--json', '--json'), "the argument '--json' cannot be used multiple times"),
     (('judge', '--allow', 'gone', '--'), "gone: not the name of a clause that may be allowed: a similar one is 'Gone'"),
     (('judge', '--allow=NotADirectory',), "NotADirectory: not the name of a clause that may be allowed"),
@@ -135,7 +136,7 @@ class Unproved(Scene):
 
     def test_right_words_are_not(self):
         self.set_clauses()
-        of_judge = (('judge', '--allow=Gone', '-'), ('judge', '--json', '--allow', 'Mixed'))
+        of_judge = (('judge', '--allow=Gone', '-'), ('judge', '--json', '--allow', 'Mixed'), ('judge', '--owed', '--summary'))
         for words in (('play', '--'), ('threads', '+02'), ('index', '64'), *of_judge):
             self.assertEqual(self.run_launcher(*words, input=SCRIPT).stdout, shown(words))
 
