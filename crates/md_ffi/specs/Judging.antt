@@ -6,11 +6,10 @@ use Rattle.md_log.specs.declared.clause.Clause.TheVariants as clause
 use Rattle.md_log.specs.declared.error.LineFault.TheVariants.{NoMemory, NoOrder, TooManyOrders}
 use Rattle.md_log.specs.declared.error.LogFault.{LogFault}
 use Rattle.md_judge.specs.declared.log.Finding.{Finding}
-use Rattle.md_judge.specs.Law.{IsFinding}
 use Rattle.md_judge.specs.Logs.{Log, log_of}
 use Rattle.md_judge.specs.Orders.{AreFoundInOrder}
 use Rattle.md_judge.specs.Taken.{IsWithoutTicks}
-use Rattle.md_judge.specs.Verdict.{AreInOrder, HasNoTicks, IsAmong}
+use Rattle.md_judge.specs.Verdict.{AreInOrder, HasNoTicks, IsAmong, IsFinding}
 use Rattle.md_ffi.specs.Laying.{Lays}
 use Rattle.md_ffi.specs.Numbers.{fault_number}
 use Rattle.md_ffi.specs.Reading.{four_bytes, eight_bytes}

@@ -2,9 +2,9 @@
 use Rattle.std.proofs.Common.{suc, ◌≡◌, ◌<◌, inl, inr, List, [], ◌∷◌, ◌++◌, Some, slice_get, sym, ap, subst, ◌∙◌, arith}
 use Rattle.std.proofs.lemmas.Option.{slice_get_within}
 use Rattle.md_judge.specs.declared.log.Finding.{Finding}
-use Rattle.md_clauses.specs.Found.{clause_index}
+use Rattle.md_judge.specs.Clauses.{clause_index}
 use Rattle.md_judge.specs.Placed.{AreInOrderAtLines, AreBelowAtLine}
-use Rattle.md_judge.proofs.Reopened.{one-more}
+use Rattle.md_judge.proofs.Lists.{one-more}
 
 -- one more finding comes after those of its line that are of earlier clauses
 pub one-at-lines : (fs gs : List Finding) (f : Finding) → gs ≡ fs ++ f ∷ [] → AreInOrderAtLines fs

@@ -1,22 +1,17 @@
 -- Orders of steps as one more comes, and as a log gets one more step.
-use Rattle.std.proofs.Common.{ℕ, ◌≡◌, ◌≢◌, ◌<◌, ◌≤◌, ◌+◌, ◌⊎◌, inl, inr, ◌↔◌, List, [], ◌∷◌, ◌++◌, Some, None, length, slice_get, sym, ap, subst, ◌∙◌, arith}
+use Rattle.std.proofs.Common.{ℕ, suc, ◌≡◌, ◌≢◌, ◌<◌, ◌≤◌, ◌+◌, ◌⊎◌, inl, inr, ◌↔◌, List, [], ◌∷◌, ◌++◌, Some, None, length, slice_get, sym, ap, subst, ◌∙◌, arith}
 use Rattle.std.proofs.lemmas.List.{length_push}
 use Rattle.std.proofs.lemmas.Option.{slice_get_within}
 use Rattle.md_log.specs.declared.clause.Clause.{Clause}
 use Rattle.md_log.specs.declared.line.Step.{Step}
-use Rattle.md_judge.specs.Law.{turn, Breaks, NotADirectory, IsAllowed}
+use Rattle.md_law.specs.Clauses.{NotADirectory}
+use Rattle.md_law.specs.Law.{Breaks}
 use Rattle.md_judge.specs.Logs.{Log, Numbered}
 use Rattle.md_judge.specs.Orders.{AreOfOneStretch, IsOrder, IsReordered, Fits, IsFindingIn}
 use Rattle.md_judge.specs.Placed.{MayComeNext, with_next}
-use Rattle.md_judge.proofs.Longer.{same-step, breaks-longer}
-use Rattle.md_judge.proofs.Prefixes.{step-last}
-use Rattle.md_judge.proofs.Reopened.{one-more}
-use Rattle.md_judge.proofs.Verdicts.{first-are}
-use Rattle.md_log.specs.declared.clause.Clause.TheVariants as clause
-
--- a log with one more step
-abbrev pub pushed : Log → Numbered → Log
-pushed l n = record l { steps = l.steps ++ n ∷ [] }
+use Rattle.md_judge.specs.Verdict.{history, IsAllowed}
+use Rattle.md_judge.proofs.Lists.{last-is, first-are, same-step, one-more}
+use Rattle.md_judge.proofs.Telling.{pushed, history-same}
 
 -- what stood at a place of a list stands there in a longer one, and what stands there stood there if the place is not the last
 was-there : {A : Type 0} (xs : List A) (y : A) (i : ℕ) (x : A) → i < length xs → slice_get (xs ++ y ∷ []) i ≡ Some x → slice_get xs i ≡ Some x
@@ -134,33 +129,32 @@ module _ (l : Log) (order : List ℕ) (i : ℕ) where
             let x-same : x ≡ z = cc x-is in
             let y-same : y ≡ w = cc y-is in
             let end : a ≡ length m.steps = now.0 ∙ sym same.many in
-            ap (slice_get (m.steps ++ one ∷ [])) end ∙ step-last m.steps one
+            ap (slice_get (m.steps ++ one ∷ [])) end ∙ last-is m.steps one
             ∙ (λ k. Some (record { number = (x-same k).number; step = (y-same k).step }))
       ];
     }
 
     -- the step stands last in it
     pub stands-last : slice_get m'.steps (length order) ≡ Some one
-    stands-last = ap (slice_get (m.steps ++ one ∷ [])) (sym same.many) ∙ step-last m.steps one
+    stands-last = ap (slice_get (m.steps ++ one ∷ [])) (sym same.many) ∙ last-is m.steps one
 
     -- what is found is what was, and what the step breaks
     pub found-next : (number : ℕ) (c : Clause) → IsFindingIn next l m' number c
-        ↔ (IsFindingIn order l m number c ⊎ ((y.number ≡ number) × (IsAllowed l c → ⊥) × Breaks c (turn m' (length order) y.step)))
+        ↔ (IsFindingIn order l m number c ⊎ ((y.number ≡ number) × (IsAllowed l c → ⊥) × Breaks c (history m' (suc (length order)))))
     found-next number c = (
       λ is. elim (one-more order i is.1.0 is.1.1 is.1.3) [
         | inl was ↦
             let within = slice_get_within order is.1.0 is.1.1 was in
             let many = same.many in
             let low : is.1.0 < length m.steps = omega (arith, within, many) in
-            inl (is.0, (is.1.0, is.1.1, is.1.2, was, is.1.4, (breaks-longer c m one is.1.0 is.1.2 (omega (arith, low))).0 is.1.5))
+            inl (is.0, (is.1.0, is.1.1, is.1.2, was, is.1.4, subst (Breaks c) (history-same m one (suc is.1.0) (omega (arith, low))) is.1.5))
         | inr now ↦
             let said : Some y ≡ Some (record { number = number; step = is.1.2 }) = sym there ∙ ap (slice_get l.steps) now.1 ∙ is.1.4 in
             let y-same : y ≡ record { number = number; step = is.1.2 } = cc said in
             inr (
               ap (λ (z : Numbered). z.number) y-same,
               is.0,
-              subst (λ k. Breaks c (turn m' k y.step)) now.0
-                  (subst (λ (s : Step). Breaks c (turn m' is.1.0 s)) (sym (ap (λ (z : Numbered). z.step) y-same)) is.1.5),
+              subst (λ k. Breaks c (history m' (suc k))) now.0 is.1.5,
             )
       ],
       λ some. elim some [
@@ -168,23 +162,22 @@ module _ (l : Log) (order : List ℕ) (i : ℕ) where
             let within = slice_get_within order is.1.0 is.1.1 is.1.3 in
             let many = same.many in
             let low : is.1.0 < length m.steps = omega (arith, within, many) in
-            (is.0, (is.1.0, is.1.1, is.1.2, first-are order i is.1.0 is.1.1 is.1.3, is.1.4, (breaks-longer c m one is.1.0 is.1.2 (omega (arith, low))).1 is.1.5))
+            (is.0, (is.1.0, is.1.1, is.1.2, first-are order i is.1.0 is.1.1 is.1.3, is.1.4, subst (Breaks c) (sym (history-same m one (suc is.1.0) (omega (arith, low)))) is.1.5))
         | inr new ↦ (
           new.1,
-          (length order, i, y.step, step-last order i, there ∙ (λ k. Some (record { number = new.0 k; step = y.step })), new.2),
+          (length order, i, y.step, last-is order i, there ∙ (λ k. Some (record { number = new.0 k; step = y.step })), new.2),
         )
       ],
     )
 
     -- directories give the replies where they give that of the step
-    pub fits-next : Fits m → (y.step.ticks ≢ None → NotADirectory (turn m' (length order) y.step) → ⊥) → Fits m'
+    pub fits-next : Fits m → (y.step.ticks ≢ None → NotADirectory (history m' (suc (length order))) → ⊥) → Fits m'
     fits-next fits last a z is ticks wrong = elim (one-more m.steps one a z is) [
       | inl was ↦
           let low = slice_get_within m.steps a z was in
-          fits a z was ticks ((breaks-longer clause.NotADirectory m one a z.step (omega (arith, low))).0 wrong)
+          fits a z was ticks (subst NotADirectory (history-same m one (suc a) (omega (arith, low))) wrong)
       | inr now ↦
           let s-same : y.step ≡ z.step = ap (λ (w : Numbered). w.step) now.1 in
           last (λ none. ticks (ap (λ (s : Step). s.ticks) (sym s-same) ∙ none))
-          (subst (λ k. NotADirectory (turn m' k y.step)) (now.0 ∙ same.many)
-          (subst (λ (s : Step). NotADirectory (turn m' a s)) (sym s-same) wrong))
+          (subst (λ k. NotADirectory (history m' (suc k))) (now.0 ∙ same.many) wrong)
     ]

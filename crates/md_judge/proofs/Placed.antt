@@ -2,7 +2,6 @@
 use Rattle.std.proofs.Common.{ℕ, suc, ◌≡◌, ◌≢◌, ◌<◌, ◌+◌, inl, inr, ◌↔◌, List, [], ◌∷◌, ◌++◌, Option, Some, None, is_some, Result, Ok, Err, IfErr, length, true, false, slice_get, refl, sym, ap, subst, ◌∙◌, arith}
 use Rattle.std.proofs.lemmas.List.{length_push}
 use Rattle.std.proofs.lemmas.Option.{slice_get_within}
-use Rattle.md_dirs.specs.State.{State}
 use Rattle.md_log.specs.declared.clause.Clause.{Clause}
 use Rattle.md_log.specs.declared.error.LineFault.TheVariants.{NoMemory}
 use Rattle.md_log.specs.declared.error.LogFault.{LogFault}
@@ -10,28 +9,25 @@ use Rattle.md_log.specs.declared.line.Line.{Line}
 use Rattle.md_log.specs.declared.line.Line.TheVariants as line
 use Rattle.md_log.specs.declared.line.Step.{Step}
 use Rattle.md_log.specs.declared.line.ticks.Ticks.{Ticks}
-use Rattle.md_judge.specs.declared.judge.Judge.{Judge}
 use Rattle.md_judge.specs.declared.log.Finding.{Finding}
 use Rattle.md_judge.specs.declared.session.Session.{Session}
 use Rattle.md_judge.specs.declared.stretch.Stretch.{Stretch}
 use Rattle.md_judge.specs.Logs.{Log, Numbered, with_line}
 use Rattle.md_judge.specs.Orders.{AreFoundInOrder, IsFindingIn}
-use Rattle.md_judge.specs.Verdict.{AreEarlier, AreInOrder, Remembers, IsAmong, HasRead, KeepsHead}
-use Rattle.md_judge.specs.Placed.{IsUnplaced, AddsWaiting, AreInOrderAtLines, AreBelowAtLine, AreWaiting, MayComeNext, HasWaiting, HasPlaced, HasSettled, with_next}
-use Rattle.md_judge.specs.Recalled.{HasFolders}
-use Rattle.md_judge.proofs.Judging.{Tells, Finds, judged-next, judged-longer, lines-longer}
-use Rattle.md_judge.proofs.Placing.{judged-on, no-more, waits-on}
-use Rattle.md_judge.proofs.Prefixes.{finding-none}
-use Rattle.md_judge.proofs.Reopened.{one-more}
-use Rattle.md_judge.proofs.Verdicts.{HasSame, first-are, last-is, begun-after, no-step, folder-steps, file-rest, also-rest}
+use Rattle.md_judge.specs.Verdict.{HasNoTicks, IsAmong}
+use Rattle.md_judge.specs.Placed.{IsUnplaced, AddsWaiting, AreWaiting, MayComeNext, HasWaiting, HasPlaced, HasSettled, KeepsHead, Judges, with_next, with_step}
+use Rattle.md_judge.specs.Verdict.{history}
+use Rattle.md_judge.proofs.Judging.{judged-next, judged-longer, lines-longer}
+use Rattle.md_judge.proofs.Placing.{judged-on, waits-on}
+use Rattle.md_judge.proofs.Lists.{one-more, first-are, last-is, stands-at, no-more}
+use Rattle.md_judge.proofs.Lines.{HasSame, begun-after}
 
 -- what waits is what waited where only other parts of the session change
-pub waits-same : (number : ℕ) (l : Log) (s t : Session) → t.folders ≡ s.folders → t.stretch ≡ s.stretch → t.judge ≡ s.judge
-    → t.findings.items ≡ s.findings.items → HasWaiting number l s → HasWaiting number l t
-waits-same number l s t folders stretch judge findings w =
+pub waits-same : (number : ℕ) (l : Log) (s t : Session) → t.folders ≡ s.folders → t.stretch ≡ s.stretch → t.watch ≡ s.watch
+    → t.allowed ≡ s.allowed → t.findings.items ≡ s.findings.items → HasWaiting number l s → HasWaiting number l t
+waits-same number l s t folders stretch watch allowed findings w =
     waits-on number l s t folders stretch
-    (λ order m judged. judged-on number l order m s t (λ lines k i told. subst (λ (j : Judge). Remembers lines k i j) (sym judge) told)
-    (ap (λ (j : Judge). j.allowed) judge) findings (ap (λ (x : Stretch). x.moved) stretch) judged) w
+    (λ order m judged. judged-on number l order m s t watch allowed findings (ap (λ (x : Stretch). x.moved) stretch) judged) w
 
 -- a step has ticks or none
 pub ticks-none : (o : Option Ticks) → is_some o ≡ false → o ≡ None
@@ -54,7 +50,7 @@ module _ (number : ℕ) (l : Log) (x : Step) where
   one = record { number = number; step = x }
 
   abbrev longer : Log
-  longer = record l { steps = l.steps ++ one ∷ [] }
+  longer = with_step l number x
 
   -- the steps that wait, and one more with ticks
   more-waits : (from : ℕ) (old new : Stretch) → AreWaiting from l old → AddsWaiting number x old new → x.ticks ≢ None
@@ -100,10 +96,9 @@ module _ (number : ℕ) (l : Log) (x : Step) where
       }
 
   -- a session that lets a step with ticks wait has read the log with it
-  pub step-waits : (s t : Session) → t.folders ≡ s.folders → t.judge ≡ s.judge → t.findings.items ≡ s.findings.items → t.has_begun ≡ true
-      → number < 4294967295 → ((st : State) → st.folders ≡ length l.folders → HasFolders st x.call) → x.ticks ≢ None
-      → AddsWaiting number x s.stretch t.stretch → HasPlaced number l s → HasPlaced (suc number) longer t
-  step-waits s t folders judge findings begun few housed ticks adds read =
+  pub step-waits : (s t : Session) → t.folders ≡ s.folders → t.watch ≡ s.watch → t.allowed ≡ s.allowed → t.findings.items ≡ s.findings.items
+      → t.has_begun ≡ true → x.ticks ≢ None → AddsWaiting number x s.stretch t.stretch → HasPlaced number l s → HasPlaced (suc number) longer t
+  step-waits s t folders watch allowed findings begun ticks adds read =
       let w = read.waiting in
       let many = w.waits.many in
       record {
@@ -111,10 +106,9 @@ module _ (number : ℕ) (l : Log) (x : Step) where
         waiting = record {
           order = w.order;
           log = w.log;
-          read = lines-longer number l x s w.read t folders few housed;
-          judged = judged-on (suc number) longer w.order w.log s t
-              (λ lines k i told. subst (λ (j : Judge). Remembers lines k i j) (sym judge) told) (ap (λ (j : Judge). j.allowed) judge) findings
-              adds.moved (judged-longer number l x s w.read w.order w.log (omega (arith, many)) w.judged);
+          read = lines-longer number l x s w.read t folders;
+          judged = judged-on (suc number) longer w.order w.log s t watch allowed findings adds.moved
+              (judged-longer number l x s w.read w.order w.log (omega (arith, many)) w.judged);
           placed = w.placed;
           waits = more-waits (length w.order) s.stretch t.stretch w.waits adds ticks;
         };
@@ -133,12 +127,9 @@ module _ (number : ℕ) (l : Log) (x : Step) where
   }
 
   -- a session that judges a step without ticks, where all before it are judged, has read the log with it
-  pub step-settles : (s t : Session) → HasSettled number l s → KeepsHead s t → t.has_begun ≡ true → number < 4294967295
-      → ((st : State) → st.folders ≡ length l.folders → HasFolders st x.call) → x.ticks ≡ None → Tells number x s t → Finds number number x s t
-      → (AreInOrderAtLines s.findings.items → AreBelowAtLine s.findings.items number 0 → AreInOrderAtLines t.findings.items)
-      → (AreInOrder s.findings.items → AreEarlier s.findings.items number 0 → AreInOrder t.findings.items)
-      → HasPlaced (suc number) longer t
-  step-settles s t settled keeps begun few housed none tells finds at-lines ordered =
+  pub step-settles : (s t : Session) (settled : HasSettled number l s) → KeepsHead s t → t.has_begun ≡ true → x.ticks ≡ None
+      → Judges (history settled.log (length settled.order)) number x s t → HasPlaced (suc number) longer t
+  step-settles s t settled keeps begun none judges =
       let order = settled.order in
       let m = settled.log in
       let i = length order in
@@ -157,11 +148,12 @@ module _ (number : ℕ) (l : Log) (x : Step) where
         waiting = record {
           order = order ++ i ∷ [];
           log = with_next m one one;
-          read = lines-longer number l x s settled.read t keeps.folders few housed;
-          judged = judged-next (suc number) longer m order i one one s (lines-longer number l x s settled.read s refl few housed)
+          read = lines-longer number l x s settled.read t keeps.folders;
+          judged = judged-next (suc number) longer m order i one one s (lines-longer number l x s settled.read s refl)
               (judged-longer number l x s settled.read order m (omega (arith, all)) settled.judged) here here (comes-next s settled none) t
-              keeps.allowed tells finds at-lines ordered (λ unmoved. (refl, (λ k. (sym keeps.stretch k).moved.entries) ∙ unmoved))
-              (λ ticks wrong. ticks none);
+              judges (λ unmoved. (refl, (λ k. (sym keeps.stretch k).moved.entries) ∙ unmoved)) (λ ticks wrong. ticks none)
+              (λ plain. (λ k. (keeps.stretch k).moved.entries)
+              ∙ settled.judged.plain (λ k y is. plain k y (first-are l.steps one k y is)));
           placed = λ a j is. elim (one-more order i a j is) [
             | inl was ↦ let low = settled.judged.may.within a j was in omega (arith, low, long, all)
             | inr now ↦ let last = now.1 in omega (arith, last, long)
@@ -196,104 +188,19 @@ found-settled number l s fs same settled = record {
   );
 }
 
--- ---- before the first step
+-- ---- logs without ticks
 
-module _ (number : ℕ) (l : Log) (s : Session) (none : l.steps ≡ []) where
-  finding-in-none : (m : Log) (n : ℕ) (c : Clause) → IsFindingIn [] l m n c → ⊥
-  finding-in-none m n c is = let at = is.1.3 in cc at
-
-  -- a session that has read the lines of a beginning has placed what there is
-  pub head-placed : s.stretch.lines.items ≡ [] → HasRead number l s → HasPlaced number l s
-  head-placed lines read =
-      let nothing : length l.steps ≡ 0 = ap length none in
-      let steps-none = ap length read.waits in
-      let lines-none = ap length lines in
-      record {
-        begun = read.begun;
-        waiting = record {
-          order = [];
-          log = l;
-          read = record {
-            folders = read.folders;
-            housed = read.housed;
-            first = read.first;
-            numbered = record {
-              rises = read.rises;
-              above = read.above;
-              below = read.below;
-              few = λ k y is. absurd (no-step l.steps none k y is);
-              housed = λ k y st is same. absurd (no-step l.steps none k y is);
-            };
-            still = λ empty. read.moved;
-          };
-          judged = record {
-            may = record {
-              within = λ a i is. absurd (cc is);
-              once = λ a b i first last. absurd (cc first);
-              near = λ a b i j up first last down. absurd (cc first);
-              ticks = λ a b i j y z up first last are y-is z-is. absurd (cc first);
-            };
-            same = record {
-              rest = refl;
-              many = nothing;
-              steps = λ a i y z is here there. absurd (cc is);
-            };
-            fits = λ a y is ticks wrong. no-step l.steps none a y is;
-            told = λ lines are. subst (λ k. Remembers lines l k s.judge) nothing (read.told lines are);
-            allowed = read.allowed;
-            found = λ n c. (
-              λ among. absurd (finding-none l n c none ((read.found n c).0 among)),
-              λ is. absurd (finding-in-none l n c is),
-            );
-            at_lines = λ a b f g up first last same. absurd (
-                let finding = (read.found f.line f.clause).0 (a, f, first, refl, refl) in finding-none l f.line f.clause none finding);
-            unmoved = λ still a i is. absurd (cc is);
-            ordered = λ still. read.ordered;
-          };
-          placed = λ a i is. absurd (cc is);
-          waits = record {
-            many = omega (arith, nothing, steps-none);
-            long = lines-none ∙ sym steps-none;
-            steps = λ k w y is there. absurd (no-step l.steps none (0 + k) y there);
-            lines = λ k y is. absurd (no-step l.steps none (0 + k) y is);
-            ticks = λ k y is. absurd (no-step l.steps none (0 + k) y is);
-            begins = λ k y last is. absurd (no-step l.steps none k y is);
-          };
-        };
-      }
-
-  -- and the other way round
-  pub placed-head : HasPlaced number l s → HasRead number l s
-  placed-head p =
-      let w = p.waiting in
-      let judged = w.judged in
-      let nothing : length l.steps ≡ 0 = ap length none in
-      let many = w.waits.many in
-      let order-none : w.order ≡ [] = no-more w.order (omega (arith, many, nothing)) in
-      let log-steps : w.log.steps ≡ [] = no-more w.log.steps (judged.same.many ∙ ap length order-none) in
-      let same : w.log ≡ l =
-      judged.same.rest ∙ ap (λ (xs : List Numbered). record l { steps = xs }) (log-steps ∙ sym none) in
-      record {
-        folders = w.read.folders;
-        begun = p.begun;
-        housed = w.read.housed;
-        told = λ lines are.
-            subst (λ k. Remembers lines l k s.judge) (ap length order-none ∙ sym nothing)
-            (subst (λ (m : Log). Remembers lines m (length w.order) s.judge) same (judged.told lines are));
-        rises = w.read.numbered.rises;
-        above = w.read.numbered.above;
-        below = w.read.numbered.below;
-        first = w.read.first;
-        waits = no-more s.stretch.steps.items (omega (arith, many, nothing));
-        moved = w.read.still none;
-        allowed = judged.allowed;
-        found = λ n c. (
-          λ among. absurd (finding-in-none w.log n c
-              (subst (λ (o : List ℕ). IsFindingIn o l w.log n c) order-none ((judged.found n c).0 among))),
-          λ is. absurd (finding-none l n c none is),
-        );
-        ordered = judged.ordered (w.read.still none);
-      }
+-- where no step of the log has ticks none waits
+pub none-waits : (number : ℕ) (l : Log) (s : Session) → HasNoTicks l → HasWaiting number l s → s.stretch.steps.items ≡ []
+none-waits number l s plain w = by s.stretch.steps.items refl
+  where
+    by : (ws : List _) → s.stretch.steps.items ≡ ws → s.stretch.steps.items ≡ []
+    by [] is = is
+    by (one ∷ ws) is =
+        let long : length s.stretch.steps.items ≡ suc (length ws) = ap length is in
+        let many = w.waits.many in
+        let at = stands-at l.steps (length w.order + 0) (omega (arith, many, long)) in
+        absurd (w.waits.ticks 0 at.0 at.1 (plain (length w.order + 0) at.0 at.1))
 
 -- ---- lines that add nothing
 
@@ -310,27 +217,22 @@ over-placed number l s p =
         read = record {
           folders = w.read.folders;
           housed = w.read.housed;
-          first = omega arith;
           numbered = record {
             rises = w.read.numbered.rises;
-            above = w.read.numbered.above;
             below = λ k y is. let lt = w.read.numbered.below k y is in omega (arith, lt);
-            few = w.read.numbered.few;
-            housed = w.read.numbered.housed;
           };
-          still = w.read.still;
         };
         judged = record {
           may = judged.may;
           same = judged.same;
           fits = judged.fits;
-          told = λ lines are. judged.told lines
-              (record { steps = are.steps; opening = λ none. let early = are.opening none in omega (arith, early) });
+          holds = judged.holds;
           allowed = judged.allowed;
           found = judged.found;
           at_lines = judged.at_lines;
           unmoved = judged.unmoved;
           ordered = judged.ordered;
+          plain = judged.plain;
         };
         placed = w.placed;
         waits = w.waits;
@@ -341,27 +243,8 @@ over-placed number l s p =
 pub counted-placed : (number : ℕ) (l : Log) (s : Session) (n : ℕ) → HasPlaced number l s → HasPlaced number l (record s { lines = n })
 counted-placed number l s n p = record {
   begun = p.begun;
-  waiting = waits-same number l s (record s { lines = n }) refl refl refl refl p.waiting;
+  waiting = waits-same number l s (record s { lines = n }) refl refl refl refl refl p.waiting;
 }
-
--- ---- lines of the beginning
 
 pub has-same : (number : ℕ) (l : Log) (s : Session) → HasPlaced number l s → HasSame l s
 has-same number l s p = (p.waiting.read.folders, p.begun)
-
--- before the first step no line of a step waits
-pub no-lines : (number : ℕ) (l : Log) (s : Session) → l.steps ≡ [] → HasPlaced number l s → s.stretch.lines.items ≡ []
-no-lines number l s none p =
-    let nothing : length l.steps ≡ 0 = ap length none in
-    let many = p.waiting.waits.many in
-    let long = p.waiting.waits.long in
-    no-more s.stretch.lines.items (omega (arith, nothing, many, long))
-
--- a line of the beginning adds no step
-pub head-steps : (number : ℕ) (l l' : Log) (v : Line) → ((x : Step) → v ≡ line.Step x → ⊥) → with_line l number v ≡ Ok l' → l'.steps ≡ l.steps
-head-steps number l l' (line.Folder name) other is = folder-steps l l' name is
-head-steps number l l' (line.Allow c) other is =
-    let same : record l { allowed = c ∷ l.allowed } ≡ l' = cc is in ap (λ (m : Log). m.steps) (sym same)
-head-steps number l l' (line.File path stamp) other is = (file-rest l l' path stamp is).0
-head-steps number l l' (line.Also path old) other is = (also-rest l l' path old is).0
-head-steps number l l' (line.Step x) other is = absurd (other x refl)

@@ -5,16 +5,16 @@ use Rattle.md_log.specs.declared.line.ticks.Ticks.{Ticks}
 use Rattle.md_judge.specs.declared.stretch.Waiting.{Waiting}
 use Rattle.md_judge.specs.declared.session.Session.{Session}
 use Rattle.md_judge.specs.declared.stretch.Stretch.{Stretch}
-use Rattle.md_judge.specs.declared.judge.Judge.{Judge}
-use Rattle.md_clauses.specs.declared.clauses.Clauses.{Clauses}
+use Rattle.md_watch.specs.declared.watch.Watch.{Watch}
+use Rattle.md_watch.specs.Watches.{Holds}
+use Rattle.md_judge.specs.declared.clauses.Clauses.{Clauses}
 use Rattle.md_judge.specs.declared.log.Finding.{Finding}
-use Rattle.md_clauses.specs.Found.{Has}
-use Rattle.md_judge.specs.Law.{IsAllowed}
+use Rattle.md_judge.specs.Clauses.{Has}
 use Rattle.md_judge.specs.Logs.{Log, Numbered}
 use Rattle.md_judge.specs.Orders.{AreOfOneStretch, MayComeFirst, IsFindingIn}
-use Rattle.md_judge.specs.Verdict.{AreInOrder, Remembers, IsAmong}
+use Rattle.md_judge.specs.Verdict.{history, AreInOrder, IsAllowed, IsAmong}
 use Rattle.md_judge.specs.Placed.{ticks_of, KeepsTicks, TakesAt, AreInOrderAtLines, AreWaiting, IsNextStep, HasLines, HasJudged, HasWaiting, HasSettled, with_next}
-use Rattle.md_judge.proofs.Reopened.{one-more}
+use Rattle.md_judge.proofs.Lists.{one-more, stands-at, no-more}
 use Rattle.std.proofs.lemmas.List.{length_push}
 use Rattle.std.proofs.lemmas.Option.{slice_get_within}
 
@@ -27,17 +27,6 @@ pub record AreKeptTo (steps : List (Option Waiting)) (order : List ℕ) (k lates
       → MayComeFirst (ticks_of (slice_get steps i)) (ticks_of (slice_get steps j))
 
 -- ---- the steps of a stretch, one by one
-
--- what stands at a place within a list
-pub stands-at : {A : Type 0} (xs : List A) (k : ℕ) → k < length xs → (x : A) × (slice_get xs k ≡ Some x)
-stands-at [] k low = absurd (omega (arith, low))
-stands-at (x ∷ xs) zero low = (x, refl)
-stands-at (x ∷ xs) (suc k) low = stands-at xs k (omega (arith, low))
-
--- a list that is as long as none is none
-pub no-more : {A : Type 0} (xs : List A) → length xs ≡ 0 → xs ≡ []
-no-more [] none = refl
-no-more (x ∷ xs) none = absurd (omega (arith, none))
 
 -- where no step waits, all are placed
 pub settled-none : (number : ℕ) (l : Log) (s : Session) → s.stretch.steps.items ≡ [] → HasWaiting number l s → HasSettled number l s
@@ -93,9 +82,7 @@ waits-on number l s t folders stretch judged w = record {
   read = record {
     folders = folders ∙ w.read.folders;
     housed = w.read.housed;
-    first = w.read.first;
     numbered = w.read.numbered;
-    still = λ none. ap (λ (x : Stretch). x.moved.entries) stretch ∙ w.read.still none;
   };
   judged = judged w.order w.log w.judged;
   placed = w.placed;
@@ -179,6 +166,10 @@ module _ (number : ℕ) (l : Log) (many : ℕ) (stretch : Stretch) (waits : AreW
           subst (λ o. MayComeFirst x.step.ticks o) two (subst (λ o. MayComeFirst o (ticks_of (slice_get stretch.steps.items at))) one
           (kept b k from.0 at (omega (arith, low, long, same)) from.1 is))
 
+  -- it has ticks
+  pub has-ticks : other.0.step.ticks ≢ None
+  has-ticks = waits.ticks at other.0 other.1
+
   -- the next step that is chosen may come next
   pub is-next : IsNextStep l p.order (many + at) first.0 other.0 k at s.stretch
   is-next = record {
@@ -248,41 +239,38 @@ module _ (number : ℕ) (l : Log) (many : ℕ) (stretch : Stretch) (waits : AreW
             other-place (sym (cc said))
       ]
 
--- what was judged stays so where the judge remembers what it did, and the findings and the steps that were moved stay
+-- what was judged stays so where the watch, the findings and the steps that were moved stay
 pub judged-on : (number : ℕ) (l : Log) (order : List ℕ) (m : Log) (s t : Session)
-    → ((lines : ℕ → ℕ) (k : Log) (i : ℕ) → Remembers lines k i s.judge → Remembers lines k i t.judge)
-    → t.judge.allowed ≡ s.judge.allowed → t.findings.items ≡ s.findings.items → t.stretch.moved ≡ s.stretch.moved
+    → t.watch ≡ s.watch → t.allowed ≡ s.allowed → t.findings.items ≡ s.findings.items → t.stretch.moved ≡ s.stretch.moved
     → HasJudged number l order m s → HasJudged number l order m t
-judged-on number l order m s t keeps allowed findings moved judged = record {
+judged-on number l order m s t watch allowed findings moved judged = record {
   may = judged.may;
   same = judged.same;
   fits = judged.fits;
-  told = λ lines are. keeps lines m (length order) (judged.told lines are);
+  holds = subst (λ (w : Watch). Holds (history m (length order)) w) (sym watch) judged.holds;
   allowed = λ c. subst (λ (a : Clauses). Has a c ↔ IsAllowed l c) (sym allowed) (judged.allowed c);
   found = λ n c. subst (λ (fs : List Finding). IsAmong fs n c ↔ IsFindingIn order l m n c) (sym findings) (judged.found n c);
   at_lines = subst (λ (fs : List Finding). AreInOrderAtLines fs) (sym findings) judged.at_lines;
   unmoved = λ none. judged.unmoved ((λ i. (sym moved i).entries) ∙ none);
   ordered = λ none. subst (λ (fs : List Finding). AreInOrder fs) (sym findings) (judged.ordered ((λ i. (sym moved i).entries) ∙ none));
+  plain = λ none. (λ i. (moved i).entries) ∙ judged.plain none;
 }
 
 -- a session that has placed all has settled
 pub all-placed : (number : ℕ) (l : Log) (many k : ℕ) (stretch : Stretch) (chosen : List ℕ) (s t : Session) → AreWaiting many l stretch
-    → k ≡ length stretch.steps.items → IsPlacing number l many stretch chosen k s → t.folders ≡ s.folders → t.judge ≡ s.judge
-    → t.findings.items ≡ s.findings.items → t.stretch.moved ≡ s.stretch.moved → t.stretch.steps.items ≡ [] → t.stretch.lines.items ≡ []
-    → HasSettled number l t
-all-placed number l many k stretch chosen s t waits end p folders judge findings moved steps lines = record {
+    → k ≡ length stretch.steps.items → IsPlacing number l many stretch chosen k s → t.folders ≡ s.folders → t.watch ≡ s.watch
+    → t.allowed ≡ s.allowed → t.findings.items ≡ s.findings.items → t.stretch.moved ≡ s.stretch.moved → t.stretch.steps.items ≡ []
+    → t.stretch.lines.items ≡ [] → HasSettled number l t
+all-placed number l many k stretch chosen s t waits end p folders watch allowed findings moved steps lines = record {
   order = p.order;
   log = p.log;
   read = record {
     folders = folders ∙ p.read.folders;
     housed = p.read.housed;
-    first = p.read.first;
     numbered = p.read.numbered;
-    still = λ none. (λ i. (moved i).entries) ∙ p.read.still none;
   };
-  judged = judged-on number l p.order p.log s t (λ lines m i told. subst (λ (j : Judge). Remembers lines m i j) (sym judge) told)
-      (ap (λ (j : Judge). j.allowed) judge) findings moved p.judged;
-  all = let long = p.long in let together = waits.many in omega (arith, long, together, end);
+  judged = judged-on number l p.order p.log s t watch allowed findings moved p.judged;
+  all = let together = waits.many in let long = p.long in omega (arith, end, together, long);
   steps = steps;
   lines = lines;
 }

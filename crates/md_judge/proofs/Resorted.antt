@@ -11,8 +11,7 @@ use Rattle.md_log.specs.declared.clause.Clause.{Clause}
 use Rattle.md_judge.specs.declared.log.Finding.{Finding}
 use Rattle.md_judge.specs.Verdict.{AreInOrder, IsAmong}
 use Rattle.md_judge.specs.Placed.{AreInOrderAtLines}
-use Rattle.md_judge.proofs.Longer.{same-step}
-use Rattle.md_judge.proofs.Verdicts.{last-is}
+use Rattle.md_judge.proofs.Lists.{same-step, last-is}
 
 -- ---- numbers that differ still differ in another order
 

@@ -16,14 +16,14 @@ use Rattle.md_log.specs.declared.error.LineFault.{LineFault}
 use Rattle.md_log.specs.declared.error.LineFault.TheVariants.{NoLog, NoMemory, NoOrder, TooManyOrders}
 use Rattle.md_log.specs.declared.error.LogFault.{LogFault}
 use Rattle.md_judge.specs.declared.session.Session.{Session}
-use Rattle.md_judge.specs.Law.{IsFinding}
 use Rattle.md_text.specs.Words.{is_passed_over}
 use Rattle.md_judge.specs.Logs.{Log, Numbered, empty_log, has_begun, with_line, with_folder_line, with_text, with_lines, at_line, and_then, log_by, log_of}
-use Rattle.md_judge.specs.Verdict.{AreInOrder, IsAmong, HasNoTicks, HasRead, Remembers, AreLinesOf}
+use Rattle.md_judge.specs.Verdict.{AreInOrder, IsAmong, IsFinding, HasNoTicks}
 use Rattle.md_judge.specs.Orders.{AreFoundInOrder}
 use Rattle.md_judge.specs.Placed.{IsUnplaced, HasPlaced}
 use Rattle.md_judge.specs.Taken.{IsWithoutTicks, Answers, AnswersAny, HasTaken, HasEnded, with_given}
-use Rattle.md_judge.proofs.Verdicts.{HasSame, no-step}
+use Rattle.md_judge.proofs.Lines.{HasSame}
+use Rattle.md_judge.proofs.Plain.{found-plain}
 use Rattle.md_judge.proofs.Whole.{on-log, given-text, none-given, lines-cut, lines-end}
 
 -- where there is a value, it is this
@@ -110,19 +110,20 @@ answers-given (Err e) given number (Err fault) answers = answers
 -- what is answered of one more line is answered of the lines with it
 pub answers-line : {A : Type 0} (r : Result A LogFault) (given : List Clause) (texts : List (List ℕ)) (text : List ℕ) (s : Session)
     (number : ℕ) → HasTaken given texts s → number ≡ suc (length texts) → (number ≤ 1 → Answers r (log_by (text ∷ [])))
-    → (1 < number → (l : Log) → HasRead number l s → Answers r (at_line number (with_text l number text)))
+    → (1 < number → (l : Log) → HasPlaced number l s → HasNoTicks l → Answers r (at_line number (with_text l number text)))
     → IsWithoutTicks texts → Answers r (log_by (texts ++ text ∷ []))
 answers-line r given [] text s number taken is first later none = let is' : number ≡ 1 = is in first (omega (arith, is'))
 answers-line r given (head ∷ texts) text s number taken is first later none =
     let has = ok-of (log_by (head ∷ texts)) (taken.log (λ same. cc same)) in
     let is' : number ≡ suc (suc (length texts)) = is in
     let here : 2 + length texts ≡ number = omega (arith, is') in
-    let read = taken.read has.0 has.1 (without-all (head ∷ texts) has.0 none has.1) in
+    let plain = without-all (head ∷ texts) has.0 none has.1 in
     subst (λ (o : Result Log LogFault). Answers r o) (sym (log-then head texts has.0 text has.1))
     (subst (λ k. Answers r (at_line k (with_text has.0 k text))) (sym here)
     (answers-given r given number (with_text has.0 number text)
     (subst (λ (o : Result Log LineFault). Answers r (at_line number o)) (given-text given has.0 number text)
-    (later (omega (arith, is')) (with_given given has.0) (subst (λ k. HasRead k (with_given given has.0) s) (sym is') read)))))
+    (later (omega (arith, is')) (with_given given has.0)
+    (subst (λ k. HasPlaced k (with_given given has.0) s) (sym is') (taken.placed has.0 has.1)) plain))))
 
 -- the same of any lines
 any-given : {A : Type 0} (r : Result A LogFault) (given : List Clause) (number : ℕ) (o : Result Log LineFault)
@@ -216,34 +217,6 @@ text-wrong number l s text fault e read over wrong is known =
     ap (at_line number)
     (text-said number l s text (Err fault) read over (wrong (λ none. known (ap (λ (f : LogFault). f.fault) is ∙ none))))
     ∙ ap Err (sym is)
-
--- ---- a line of the beginning
-
--- a log with these folders, or what is said of its line
-abbrev with-these : Log → Result (List (List ℕ)) LineFault → Result Log LineFault
-with-these l r = r >>= (λ folders. Ok (record l { folders = folders; opening = record l.opening { folders = length folders } }))
-
--- a folder is added as the log does
-folder-is : (number : ℕ) (l : Log) (s : Session) (name : List ℕ) (r : Result (List (List ℕ)) LineFault) → HasRead number l s
-    → with_folder s.folders name ≡ r → with_folder_line l name ≡ with-these l r
-unfolding with_folder_line
-folder-is number l s name r read has =
-    ap (with-these l) (ap (λ (fs : List (List ℕ)). with_folder fs name) (sym read.folders) ∙ has)
-
-pub folder-ok : (number : ℕ) (l : Log) (s : Session) (name : List ℕ) (fs : List (List ℕ)) → HasRead number l s
-    → with_folder s.folders name ≡ Ok fs → IsOk (with_folder_line l name)
-folder-ok number l s name fs read has = ap (λ (r : Result Log LineFault). is_ok r) (folder-is number l s name (Ok fs) read has)
-
-pub folder-wrong : (number : ℕ) (l : Log) (s : Session) (name : List ℕ) (fault : LineFault) → HasRead number l s
-    → with_folder s.folders name ≡ Err fault → with_folder_line l name ≡ Err fault
-folder-wrong number l s name fault read has = folder-is number l s name (Err fault) read has
-
--- before the first step the judge remembers the beginning
-pub remembers-head : (number : ℕ) (l : Log) (s : Session) → HasRead number l s → l.steps ≡ [] → Remembers (λ _. number) l 0 s.judge
-remembers-head number l s read none =
-    let are : AreLinesOf number l (λ _. number) =
-    record { steps = λ k x is. absurd (no-step l.steps none k x is); opening = λ still. omega arith } in
-    subst (λ (xs : List Numbered). Remembers (λ _. number) l (length xs) s.judge) none (read.told (λ _. number) are)
 
 -- ---- a first line
 
@@ -346,4 +319,4 @@ pub found-all : (text : List ℕ) (t : Session) → ((l : Log) → log_of text �
     → (l : Log) → log_of text ≡ Ok l → HasNoTicks l → (n : ℕ) (c : Clause) → IsAmong t.findings.items n c ↔ IsFinding l n c
 unfolding log_of
 found-all text t taken l is none n c =
-    subst (λ (m : Log). IsAmong t.findings.items n c ↔ IsFinding m n c) (none-given l) (((taken l is none).read l is none).found n c)
+    subst (λ (m : Log). IsAmong t.findings.items n c ↔ IsFinding m n c) (none-given l) (found-plain _ (with_given [] l) t ((taken l is none).placed l is) none n c)

@@ -14,55 +14,14 @@ use Rattle.md_log.specs.declared.error.LineFault.{LineFault}
 use Rattle.md_log.specs.declared.error.LineFault.TheVariants.{NoLog, SamePath, NoSuchPath}
 use Rattle.md_log.specs.declared.line.Line.{Line}
 use Rattle.md_log.specs.declared.line.Line.TheVariants as line
-use Rattle.md_judge.specs.declared.log.Finding.{Finding}
 use Rattle.md_judge.specs.declared.session.Session.{Session}
-use Rattle.md_judge.specs.Law.{IsAllowed}
 use Rattle.md_text.specs.Words.{is_passed_over}
 use Rattle.md_judge.specs.Logs.{Log, Numbered, empty_log, has_begun, with_line, with_text, with_folder_line, with_file_line, with_also_line, with_lines, at_line, and_then, log_by}
 use Rattle.md_judge.specs.Placed.{HasPlaced}
 use Rattle.md_judge.specs.Taken.{HasTaken, with_given}
-use Rattle.md_judge.specs.Verdict.{HasNoTicks, IsAmong, HasRead}
-use Rattle.md_judge.proofs.Placed.{head-placed, counted-placed}
-use Rattle.md_judge.proofs.Verdicts.{first-are, file-rest, also-rest, folder-steps}
-
--- ---- a log of which no line was read
-
-pub none-among : (found : List Finding) (n : ℕ) (c : Clause) → found ≡ [] → IsAmong found n c → ⊥
-none-among found n c none among =
-    let is : slice_get [] among.0 ≡ Some among.1 = subst (λ (fs : List Finding). slice_get fs among.0 ≡ Some among.1) none among.2 in
-    cc is
-
-pub none-allowed : (c : Clause) → IsAllowed empty_log c → ⊥
-none-allowed c is = let is' : slice_get [] is.0 ≡ Some c = is.1 in cc is'
+use Rattle.md_judge.proofs.Placed.{counted-placed}
 
 -- ---- the lines of a log
-
--- each step of one log has its place in another
-abbrev pub IsBefore : Log → Log → Type 0
-IsBefore l l' = (k : ℕ) (x : Numbered) → slice_get l.steps k ≡ Some x → slice_get l'.steps k ≡ Some x
-
-same-before : (l l' : Log) → l'.steps ≡ l.steps → IsBefore l l'
-same-before l l' same k x is = subst (λ (xs : List Numbered). slice_get xs k ≡ Some x) (sym same) is
-
-line-before : (l l' : Log) (number : ℕ) (v : Line) → with_line l number v ≡ Ok l' → IsBefore l l'
-line-before l l' number (line.Folder name) is = same-before l l' (folder-steps l l' name is)
-line-before l l' number (line.Allow c) is =
-    let same : record l { allowed = c ∷ l.allowed } ≡ l' = cc is in same-before l l' (ap (λ (m : Log). m.steps) (sym same))
-line-before l l' number (line.File path stamp) is = same-before l l' (file-rest l l' path stamp is).0
-line-before l l' number (line.Also path old) is = same-before l l' (also-rest l l' path old is).0
-line-before l l' number (line.Step step) is =
-    let one : Numbered = record { number = number; step = step } in
-    let same : record l { steps = l.steps ++ one ∷ [] } ≡ l' = cc is in
-    λ k x has. subst (λ (m : Log). slice_get m.steps k ≡ Some x) same (first-are l.steps one k x has)
-
-text-before : (l l' : Log) (number : ℕ) (text : List ℕ) → with_text l number text ≡ Ok l' → IsBefore l l'
-unfolding with_text
-text-before l l' number text is = by (is_passed_over text) (line_of l.folders (has_begun l) text) is
-  where
-    by : (b : Bool) (r : Result Line LineFault) → (if b then Ok l else (r >>= (λ line. with_line l number line))) ≡ Ok l' → IsBefore l l'
-    by true r is = let same : l ≡ l' = cc is in same-before l l' (ap (λ (m : Log). m.steps) (sym same))
-    by false (Ok v) is = line-before l l' number v is
-    by false (Err fault) is = absurd (cc is)
 
 -- the first of the lines is read, and then the others
 pub lines-cut : (m l : Log) (n : ℕ) (text : List ℕ) (texts : List (List ℕ)) → with_lines m n (text ∷ texts) ≡ Ok l
@@ -190,24 +149,6 @@ log-one text l is = by (bytes_eq text (codes "maildir_log 1")) is
     by true is = lines-end empty_log l 2 is
     by false is = absurd (cc is)
 
--- what a session has read is nothing of its count of lines
-counted : (number : ℕ) (l : Log) (s : Session) (n : ℕ) → HasRead number l s → HasRead number l (record s { lines = n })
-counted number l s n read = record {
-  folders = read.folders;
-  begun = read.begun;
-  housed = read.housed;
-  told = read.told;
-  rises = read.rises;
-  above = read.above;
-  below = read.below;
-  first = read.first;
-  waits = read.waits;
-  moved = read.moved;
-  allowed = read.allowed;
-  found = read.found;
-  ordered = read.ordered;
-}
-
 none-of-some : (texts : List (List ℕ)) (text : List ℕ) → texts ++ text ∷ [] ≡ [] → ⊥
 none-of-some [] text none = cc none
 none-of-some (one ∷ texts) text none = cc none
@@ -216,49 +157,28 @@ none-of-some (one ∷ texts) text none = cc none
 pub takes-line : (given : List Clause) (texts : List (List ℕ)) (text : List ℕ) (s t : Session) (number : ℕ) → HasTaken given texts s
     → number ≡ suc (length texts)
     → (number ≤ 1 → t ≡ s)
-    → (1 < number → (l l' : Log) → HasRead number l s → with_text l number text ≡ Ok l' → HasNoTicks l' → HasRead (suc number) l' t)
     → (1 < number → (l l' : Log) → HasPlaced number l s → with_text l number text ≡ Ok l' → HasPlaced (suc number) l' t)
     → IsOk (log_by (texts ++ text ∷ []))
     → HasTaken given (texts ++ text ∷ []) (record t { lines = number })
-takes-line given [] text s t number taken is first later placed log =
+takes-line given [] text s t number taken is first placed log =
     let one : number ≡ 1 = is in
     let none : Log = with_given given empty_log in
-    let start : HasRead 2 none t = subst (λ (v : Session). HasRead 2 none v) (sym (first (omega (arith, one)))) (taken.none refl) in
+    let start : HasPlaced 2 none t = subst (λ (v : Session). HasPlaced 2 none v) (sym (first (omega (arith, one)))) (taken.none refl) in
     record {
       lines = one;
       none = λ none. absurd (none-of-some [] text none);
-      waits = λ none. absurd (none-of-some [] text none);
       log = λ some. log;
-      read = λ l has ticks.
-          subst (λ (m : Log). HasRead 2 (with_given given m) (record t { lines = number })) (log-one text l has)
-          (counted 2 none t number start);
       placed = λ l has.
           subst (λ (m : Log). HasPlaced 2 (with_given given m) (record t { lines = number })) (log-one text l has)
-          (counted-placed 2 none t number (head-placed 2 none t refl
-          (subst (λ (v : Session). v.stretch.lines.items ≡ []) (sym (first (omega (arith, one)))) (taken.waits refl)) start));
+          (counted-placed 2 none t number start);
     }
-takes-line given (head ∷ texts) text s t number taken is first later placed log =
+takes-line given (head ∷ texts) text s t number taken is first placed log =
     let long : length (texts ++ text ∷ []) ≡ length texts + 1 = length_push texts text in
     let is' : number ≡ suc (suc (length texts)) = is in
     record {
       lines = let same : number ≡ suc (length (texts ++ text ∷ [])) = omega (arith, long, is') in same;
       none = λ none. absurd (none-of-some (head ∷ texts) text none);
-      waits = λ none. absurd (none-of-some (head ∷ texts) text none);
       log = λ some. log;
-      read = λ l has ticks.
-          let more = log-more head texts l text has in
-          let here : 2 + length texts ≡ number = omega (arith, is') in
-          let next : with_text more.0 number text ≡ Ok l = subst (λ k. with_text more.0 k text ≡ Ok l) here more.2 in
-          let next' : with_text (with_given given more.0) number text ≡ Ok (with_given given l) =
-          given-text given more.0 number text ∙ ap (on-log (with_given given)) next in
-          let before : HasRead (suc (suc (length texts))) (with_given given more.0) s =
-          taken.read more.0 more.1 (λ k x at-step. ticks k x (text-before more.0 l number text next k x at-step)) in
-          let now : HasRead (suc number) (with_given given l) t =
-          later (omega (arith, is')) (with_given given more.0) (with_given given l)
-          (subst (λ k. HasRead k (with_given given more.0) s) (sym is') before) next' ticks in
-          let same : suc number ≡ suc (suc (length (texts ++ text ∷ []))) = omega (arith, long, is') in
-          subst (λ k. HasRead k (with_given given l) (record t { lines = number })) same
-          (counted (suc number) (with_given given l) t number now);
       placed = λ l has.
           let more = log-more head texts l text has in
           let here : 2 + length texts ≡ number = omega (arith, is') in

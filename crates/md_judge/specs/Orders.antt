@@ -1,12 +1,13 @@
 -- The orders in which the steps of a log whose calls overlap may take effect, and what is found in such an order.
-use Rattle.std.specs.Prelude.{ℕ, ◌≡◌, ◌≢◌, ◌<◌, ◌≤◌, ◌↔◌, ◌⊎◌, List, Option, Some, None, length, slice_get}
+use Rattle.std.specs.Prelude.{ℕ, suc, ◌≡◌, ◌≢◌, ◌<◌, ◌≤◌, ◌↔◌, ◌⊎◌, List, Option, Some, None, length, slice_get}
 use Rattle.md_log.specs.declared.clause.Clause.{Clause}
 use Rattle.md_log.specs.declared.line.Step.{Step}
 use Rattle.md_log.specs.declared.line.ticks.Ticks.{Ticks}
 use Rattle.md_judge.specs.declared.log.Finding.{Finding}
-use Rattle.md_judge.specs.Law.{turn, Breaks, NotADirectory, IsAllowed}
+use Rattle.md_law.specs.Clauses.{NotADirectory}
+use Rattle.md_law.specs.Law.{Breaks}
 use Rattle.md_judge.specs.Logs.{Log, Numbered}
-use Rattle.md_judge.specs.Verdict.{IsAmong}
+use Rattle.md_judge.specs.Verdict.{history, IsAllowed, IsAmong}
 
 -- The steps between two places of a log, these too, have ticks: they are of one stretch.
 abbrev pub AreOfOneStretch : Log → ℕ → ℕ → Type 0
@@ -37,14 +38,14 @@ pub record IsReordered (order : List ℕ) (l m : Log) : Type 0 where
 
 -- In a log directories give the reply of each step that has ticks.
 abbrev pub Fits : Log → Type 0
-Fits m = (a : ℕ) (x : Numbered) → slice_get m.steps a ≡ Some x → x.step.ticks ≢ None → NotADirectory (turn m a x.step) → ⊥
+Fits m = (a : ℕ) (x : Numbered) → slice_get m.steps a ≡ Some x → x.step.ticks ≢ None → NotADirectory (history m (suc a)) → ⊥
 
 -- A finding where the steps of the first log take effect in this order, which gives the second log: the number of a line, and a clause that
 -- is judged and that the line's step breaks where it comes.
 abbrev pub IsFindingIn : List ℕ → Log → Log → ℕ → Clause → Type 0
 IsFindingIn order l m number c = (IsAllowed l c → ⊥)
     × ((a : ℕ) × (i : ℕ) × (x : Step) × (slice_get order a ≡ Some i)
-    × (slice_get l.steps i ≡ Some (record { number = number; step = x })) × Breaks c (turn m a x))
+    × (slice_get l.steps i ≡ Some (record { number = number; step = x })) × Breaks c (history m (suc a)))
 
 -- The findings are those of the law where the steps of the log take effect in an order in which they may, each once, and in which
 -- directories give the reply of every step that has ticks.

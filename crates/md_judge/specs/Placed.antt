@@ -1,21 +1,23 @@
 -- What a session holds that has read a log in which calls may overlap.
 use Rattle.std.specs.Prelude.{ℕ, suc, ◌≡◌, ◌≢◌, ◌<◌, ◌+◌, ◌↔◌, ◌⊎◌, List, [], ◌++◌, ◌∷◌, Option, Some, None, length, slice_get}
-use Rattle.md_dirs.specs.State.{State}
 use Rattle.md_log.specs.declared.clause.Clause.{Clause}
 use Rattle.md_log.specs.declared.error.LineFault.{LineFault}
 use Rattle.md_log.specs.declared.error.LineFault.TheVariants.{NoMemory, NoOrder, TooManyOrders}
+use Rattle.md_log.specs.declared.line.Line.{Line}
+use Rattle.md_log.specs.declared.line.Line.TheVariants as line
 use Rattle.md_log.specs.declared.line.Step.{Step}
 use Rattle.md_log.specs.declared.line.ticks.Ticks.{Ticks}
 use Rattle.md_judge.specs.declared.log.Finding.{Finding}
 use Rattle.md_judge.specs.declared.session.Session.{Session}
 use Rattle.md_judge.specs.declared.stretch.Stretch.{Stretch}
 use Rattle.md_judge.specs.declared.stretch.Waiting.{Waiting}
-use Rattle.md_clauses.specs.Found.{Has, clause_index}
-use Rattle.md_judge.specs.Law.{IsAllowed}
+use Rattle.md_law.specs.History.{History, next}
+use Rattle.md_law.specs.Law.{Breaks}
+use Rattle.md_watch.specs.Watches.{Holds}
+use Rattle.md_judge.specs.Clauses.{Has, clause_index}
 use Rattle.md_judge.specs.Logs.{Log, Numbered, has_begun}
 use Rattle.md_judge.specs.Orders.{AreOfOneStretch, MayComeFirst, IsOrder, IsReordered, Fits, IsFindingIn}
-use Rattle.md_judge.specs.Verdict.{AreInOrder, Remembers, IsAmong, AreLinesOf}
-use Rattle.md_judge.specs.Recalled.{HasFolders}
+use Rattle.md_judge.specs.Verdict.{history, HasNoTicks, IsAllowed, IsAmong, AreEarlier, AreInOrder}
 
 -- the fault says nothing of a line: memory is refused, or no order is found
 abbrev pub IsUnplaced : LineFault → Type 0
@@ -59,13 +61,10 @@ AreInOrderAtLines found = (a b : ℕ) (f g : Finding) → a < b → slice_get fo
 abbrev pub AreBelowAtLine : List Finding → ℕ → ℕ → Type 0
 AreBelowAtLine found line i = (k : ℕ) (f : Finding) → slice_get found k ≡ Some f → f.line ≡ line → clause_index f.clause < i
 
--- The lines of a log's steps rise from 1 on, are before this one and are few enough, and the folders of their paths are there.
+-- The lines of a log's steps rise, and are before this one.
 pub record AreNumberedTo (number : ℕ) (l : Log) : Type 0 where
   pub rises : (a b : ℕ) (x y : Numbered) → a < b → slice_get l.steps a ≡ Some x → slice_get l.steps b ≡ Some y → x.number < y.number
-  pub above : (k : ℕ) (x : Numbered) → slice_get l.steps k ≡ Some x → 0 < x.number
   pub below : (k : ℕ) (x : Numbered) → slice_get l.steps k ≡ Some x → x.number < number
-  pub few : (k : ℕ) (x : Numbered) → slice_get l.steps k ≡ Some x → x.number < 4294967295
-  pub housed : (k : ℕ) (x : Numbered) (s : State) → slice_get l.steps k ≡ Some x → s.folders ≡ length l.folders → HasFolders s x.step.call
 
 -- The steps of a log from a place on wait: they have ticks, and the step before them has none.
 pub record AreWaiting (from : ℕ) (l : Log) (stretch : Stretch) : Type 0 where
@@ -82,12 +81,13 @@ pub record HasJudged (number : ℕ) (l : Log) (order : List ℕ) (m : Log) (s : 
   pub may : IsOrder l order
   pub same : IsReordered order l m
   pub fits : Fits m
-  pub told : (lines : ℕ → ℕ) → AreLinesOf number l lines → Remembers lines m (length order) s.judge
-  pub allowed : (c : Clause) → Has s.judge.allowed c ↔ IsAllowed l c
+  pub holds : Holds (history m (length order)) s.watch
+  pub allowed : (c : Clause) → Has s.allowed c ↔ IsAllowed l c
   pub found : (n : ℕ) (c : Clause) → IsAmong s.findings.items n c ↔ IsFindingIn order l m n c
   pub at_lines : AreInOrderAtLines s.findings.items
   pub unmoved : s.stretch.moved.entries ≡ [] → (a i : ℕ) → slice_get order a ≡ Some i → i ≡ a
   pub ordered : s.stretch.moved.entries ≡ [] → AreInOrder s.findings.items
+  pub plain : HasNoTicks l → s.stretch.moved.entries ≡ []
 
 -- The step at a place of a log may come next in an order.
 pub record MayComeNext (l : Log) (order : List ℕ) (i : ℕ) : Type 0 where
@@ -113,9 +113,7 @@ with_next m x y = record m { steps = m.steps ++ record { number = x.number; step
 pub record HasLines (number : ℕ) (l : Log) (s : Session) : Type 0 where
   pub folders : s.folders ≡ l.folders
   pub housed : l.opening.folders ≡ length l.folders
-  pub first : 0 < number
   pub numbered : AreNumberedTo number l
-  pub still : l.steps ≡ [] → s.stretch.moved.entries ≡ []
 
 -- It has judged the first steps of the log, in an order of them, and the others wait.
 pub record HasWaiting (number : ℕ) (l : Log) (s : Session) : Type 0 where
@@ -140,3 +138,40 @@ pub record HasSettled (number : ℕ) (l : Log) (s : Session) : Type 0 where
   pub all : length order ≡ length l.steps
   pub steps : s.stretch.steps.items ≡ []
   pub lines : s.stretch.lines.items ≡ []
+
+-- ---- how it goes on
+
+-- a log with one more step
+abbrev pub with_step : Log → ℕ → Step → Log
+with_step l number x = record l { steps = l.steps ++ record { number = number; step = x } ∷ [] }
+
+-- a line of the beginning
+abbrev pub IsHead : Line → Type 0
+IsHead (line.Step step) = ⊥
+IsHead other = Unit {0}
+
+-- Of the clause a finding of this line is added where this holds, and no other.
+abbrev pub AddsFinding : Clause → ℕ → Type 0 → Session → Session → Type 0
+AddsFinding c number P old new = (n : ℕ) → IsAmong new.findings.items n c ↔ (IsAmong old.findings.items n c ⊎ ((number ≡ n) × P))
+
+-- Nothing changes but what is kept and found.
+pub record KeepsHead (old new : Session) : Type 0 where
+  pub folders : new.folders ≡ old.folders
+  pub begun : new.has_begun ≡ old.has_begun
+  pub stretch : new.stretch ≡ old.stretch
+  pub allowed : new.allowed ≡ old.allowed
+
+-- A session judges a step of this line after a history.
+pub record Judges (h : History) (line : ℕ) (x : Step) (old new : Session) : Type 0 where
+  pub allowed : new.allowed ≡ old.allowed
+  pub holds : Holds (next h x) new.watch
+  pub found : (c : Clause) → AddsFinding c line (Breaks c (next h x) × (Has old.allowed c → ⊥)) old new
+  pub ordered : AreInOrder old.findings.items → AreEarlier old.findings.items line 0 → AreInOrder new.findings.items
+  pub at_lines : AreInOrderAtLines old.findings.items → AreBelowAtLine old.findings.items line 0 → AreInOrderAtLines new.findings.items
+
+-- At the beginning nothing changes but the folders and what the watch holds.
+pub record KeepsBeginning (old new : Session) : Type 0 where
+  pub begun : new.has_begun ≡ old.has_begun
+  pub stretch : new.stretch ≡ old.stretch
+  pub allowed : new.allowed ≡ old.allowed
+  pub findings : new.findings ≡ old.findings

@@ -1,17 +1,24 @@
 -- What is answered of the lines of a log, and what a session holds that has taken them in.
 use Rattle.std.specs.Prelude.{ℕ, suc, ◌≡◌, ◌≢◌, List, [], ◌++◌, take, length, Result, Ok, Err, IsOk}
 use Rattle.md_log.specs.declared.clause.Clause.{Clause}
+use Rattle.md_log.specs.declared.error.LineFault.{LineFault}
 use Rattle.md_log.specs.declared.error.LineFault.TheVariants.{NoMemory, NoOrder, TooManyOrders}
 use Rattle.md_log.specs.declared.error.LogFault.{LogFault}
 use Rattle.md_judge.specs.declared.session.Session.{Session}
 use Rattle.md_judge.specs.Logs.{Log, empty_log, log_by}
 use Rattle.md_judge.specs.Orders.{AreFoundInOrder}
-use Rattle.md_judge.specs.Verdict.{AreInOrder, HasNoTicks, HasRead}
+use Rattle.md_judge.specs.Verdict.{AreInOrder, HasNoTicks}
 use Rattle.md_judge.specs.Placed.{HasPlaced}
 
 -- no beginning of the lines is a log in which a step has ticks
 abbrev pub IsWithoutTicks : List (List ℕ) → Type 0
 IsWithoutTicks texts = (n : ℕ) (l : Log) → log_by (take n texts) ≡ Ok l → HasNoTicks l
+
+-- What is answered of a line of the beginning is what the log does: it takes the line, or it refuses it by this fault. But memory may be
+-- refused.
+abbrev pub Agrees : {A : Type 0} → Result A LineFault → Result Log LineFault → Type 0
+Agrees (Ok x) log = IsOk log
+Agrees (Err fault) log = fault ≢ NoMemory → log ≡ Err fault
 
 -- What is answered of lines is what they are: a log, or none by this first wrong line. But memory may be refused.
 abbrev pub Answers : {A : Type 0} → Result A LogFault → Result Log LogFault → Type 0
@@ -31,10 +38,8 @@ with_given given l = record l { allowed = l.allowed ++ given }
 -- read that log, of which those clauses are not judged either.
 pub record HasTaken (given : List Clause) (texts : List (List ℕ)) (s : Session) : Type 0 where
   pub lines : s.lines ≡ length texts
-  pub none : texts ≡ [] → HasRead 2 (with_given given empty_log) s
-  pub waits : texts ≡ [] → s.stretch.lines.items ≡ []
+  pub none : texts ≡ [] → HasPlaced 2 (with_given given empty_log) s
   pub log : texts ≢ [] → IsOk (log_by texts)
-  pub read : (l : Log) → log_by texts ≡ Ok l → HasNoTicks l → HasRead (suc (length texts)) (with_given given l) s
   pub placed : (l : Log) → log_by texts ≡ Ok l → HasPlaced (suc (length texts)) (with_given given l) s
 
 -- A session was told not to judge these clauses, and has taken in these lines to the end: what it found is what is found of the log that

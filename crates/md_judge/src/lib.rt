@@ -4,6 +4,7 @@
 //! The log's language and the law are in docs/JUDGE.md.
 #![tactic(auto)]
 
+mod clauses;
 mod judge;
 mod log;
 mod session;

@@ -2,9 +2,8 @@
 ghost use Rattle.std.specs.Prelude.{ℕ, ◌≡◌, ◌↔◌, [], Ok, IfOk, OnOk};
 ghost use Rattle.md_head.specs.Header.{lines_of};
 ghost use Rattle.md_log.specs.declared.clause.Clause.{Clause};
-ghost use Rattle.md_judge.specs.Law.{IsFinding};
 ghost use Rattle.md_judge.specs.Logs.{Log, log_of};
-ghost use Rattle.md_judge.specs.Verdict.{AreInOrder, HasNoTicks, IsAmong};
+ghost use Rattle.md_judge.specs.Verdict.{AreInOrder, HasNoTicks, IsAmong, IsFinding};
 ghost use Rattle.md_judge.specs.Orders.{AreFoundInOrder};
 ghost use Rattle.md_judge.specs.Taken.{IsWithoutTicks, Answers, AnswersAny, HasTaken, HasEnded};
 

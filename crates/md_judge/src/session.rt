@@ -1,26 +1,30 @@
 //! A log whose lines come one by one.
-ghost use Rattle.std.specs.Prelude.{ℕ, suc, ◌≡◌, ◌≢◌, ◌+◌, ◌<◌, ◌↔◌, List, ◌++◌, ◌∷◌, [], Some, None, Ok, is_ok, OnOk, IfOk, IfErr, length, slice_get};
-ghost use Rattle.md_dirs.specs.State.{State};
+ghost use Rattle.std.specs.Prelude.{ℕ, suc, ◌≡◌, ◌≢◌, ◌+◌, ◌<◌, ◌↔◌, List, ◌++◌, ◌∷◌, [], Some, None, Ok, Err, true, is_ok, IsTrue, OnOk, IfOk, IfErr, length, slice_get};
 ghost use Rattle.md_log.specs.declared.clause.Clause.{Clause};
 ghost use Rattle.md_log.specs.declared.clause.Clause.TheVariants.{NotADirectory};
-ghost use Rattle.md_judge.specs.declared.stretch.Waiting.{Waiting};
-ghost use Rattle.md_clauses.specs.Found.{Has, clause_index};
-ghost use Rattle.md_judge.specs.Law.{Breaks, IsFinding, turn};
 ghost use Rattle.md_log.specs.declared.error.LineFault.TheVariants.{NoMemory};
+ghost use Rattle.md_log.specs.Folders.{with_folder};
+ghost use Rattle.md_law.specs.History.{History, Moment, opening, next};
+ghost use Rattle.md_law.specs.Law.{Breaks};
+ghost use Rattle.md_watch.specs.Clauses.{breaks};
+ghost use Rattle.md_watch.specs.Watches.{Holds, PutsFile, PutsName, IsPathRefused, IsNameRefused, with_folder as with_more};
+ghost use Rattle.md_judge.specs.declared.stretch.Waiting.{Waiting};
+ghost use Rattle.md_judge.specs.Clauses.{Has, clause_index};
 ghost use Rattle.md_judge.specs.Logs.{Log, Numbered, log_by, at_line, with_line, with_text};
-ghost use Rattle.md_judge.specs.Verdict.{AreEarlier, AreInOrder, HasNoTicks, Remembers, IsAmong, HasRead, IsHeadOf, IsBroken, AddsFinding, KeepsHead};
-ghost use Rattle.md_judge.specs.Recalled.{HasFolders, Agrees};
+ghost use Rattle.md_judge.specs.Verdict.{AreEarlier, AreInOrder, HasNoTicks, IsAmong, IsFinding};
 ghost use Rattle.md_judge.specs.Orders.{AreFoundInOrder};
-ghost use Rattle.md_judge.specs.Placed.{IsUnplaced, HasLines, HasWaiting, HasPlaced, HasSettled, HasJudged, AreInOrderAtLines, AreBelowAtLine, IsNextStep, TakesAt, with_next};
-ghost use Rattle.md_judge.specs.Taken.{IsWithoutTicks, Answers, AnswersAny, HasTaken, HasEnded, with_given};
-ghost use Rattle.md_judge.specs.Told.{at};
+ghost use Rattle.md_judge.specs.Placed.{IsUnplaced, HasLines, HasWaiting, HasPlaced, HasSettled, HasJudged, AreInOrderAtLines, AreBelowAtLine, IsNextStep, TakesAt, AddsFinding, KeepsHead, KeepsBeginning, Judges, IsHead, with_next, with_step};
+ghost use Rattle.md_judge.specs.Taken.{IsWithoutTicks, Agrees, Answers, AnswersAny, HasTaken, HasEnded, with_given};
 
+use crate::clauses::Clauses;
 use crate::judge::Judge;
 use crate::log::Finding;
 use crate::stretch::{Stretch, Waiting};
 use crate::words::Passages;
+use md_dirs::Path;
 use md_log::{CLAUSES, Clause, Folders, Line, LineFault, LogFault, Step, name_folder, read_line};
 use md_text::is_passed_over;
+use md_watch::{Broken, Watch};
 use std::alloc::{AllocError, Global};
 use std::mem::replace;
 
@@ -35,6 +39,9 @@ pub struct Session {
     alloc: Global,
     folders: Folders,
     has_begun: bool,
+    watch: Watch,
+    allowed: Clauses,
+    /// It says in which order calls that overlap may have been made, and to which earlier line a finding goes back.
     judge: Judge,
     findings: Vec<Finding>,
     passages: Passages,
@@ -51,6 +58,8 @@ impl Session {
             alloc,
             folders: Folders::new(alloc),
             has_begun: false,
+            watch: Watch::new(alloc),
+            allowed: Clauses::none(),
             judge: Judge::new(alloc),
             findings: Vec::new(alloc),
             passages: Passages::new(alloc),
@@ -66,7 +75,7 @@ impl Session {
         ensures still { clause ≡ NotADirectory → self.new ≡ self.old }
     {
         if clause != Clause::NotADirectory {
-            self.judge.allow(clause);
+            self.allowed.add(clause);
         }
     }
 
@@ -170,11 +179,9 @@ impl Session {
     }
 
     fn take(&mut self, number: u64, text: &[u8]) -> Result<(), LogFault>
-        ensures read { (l l' : Log) → HasRead number l self.old → with_text l number text.now ≡ Ok l' → HasNoTicks l'
-            → OnOk result (HasRead (suc number) l' self.new) }
-        ensures answers { (l : Log) → HasRead number l self.old → Answers result (at_line number (with_text l number text.now)) }
         ensures placed { (l l' : Log) → HasPlaced number l self.old → with_text l number text.now ≡ Ok l'
             → OnOk result (HasPlaced (suc number) l' self.new) }
+        ensures answers { (l : Log) → HasPlaced number l self.old → HasNoTicks l → Answers result (at_line number (with_text l number text.now)) }
         ensures answers_any { (l : Log) → HasPlaced number l self.old → AnswersAny result (at_line number (with_text l number text.now)) }
     {
         if is_passed_over(text) {
@@ -196,37 +203,61 @@ impl Session {
         }
     }
 
+    /// A line of the beginning, which comes before the first step.
     fn take_head(&mut self, number: u64, line: Line) -> Result<(), LineFault>
-        ensures read { (l l' : Log) → HasRead number l self.old → l.steps ≡ [] → IsHeadOf l.opening line → with_line l number line ≡ Ok l'
-            → OnOk result (HasRead (suc number) l' self.new) }
-        ensures agrees { (l : Log) → HasRead number l self.old → l.steps ≡ [] → Agrees result (with_line l number line) }
-        ensures waits { self.new.stretch ≡ self.old.stretch }
+        ensures placed { (l l' : Log) → HasPlaced number l self.old → l.steps ≡ [] → IsHead line → with_line l number line ≡ Ok l'
+            → OnOk result (HasPlaced (suc number) l' self.new) }
+        ensures agrees { (l : Log) → HasPlaced number l self.old → l.steps ≡ [] → Agrees result (with_line l number line) }
     {
-        self.judge.go_to(number as usize);
         match line {
-            Line::Folder { name } => {
-                name_folder(&mut self.folders, name.as_slice())?;
-                self.judge.add_folder()?;
-                Ok(())
-            }
+            Line::Folder { name } => self.put_folder(name.as_slice()),
             Line::Allow { clause } => {
-                self.judge.allow(clause);
+                self.allowed.add(clause);
                 Ok(())
             }
-            Line::File { path, stamp } => self.judge.put_file(number as usize, &path, stamp),
-            Line::Also { path, old } => self.judge.put_name(number as usize, &path, &old),
+            Line::File { path, stamp } => self.put_file(number as usize, &path, stamp),
+            Line::Also { path, old } => self.put_name(number as usize, &path, &old),
             Line::Step(_) => Ok(()),
         }
     }
 
+    fn put_folder(&mut self, name: &[u8]) -> Result<(), LineFault>
+        ensures puts { (m : Moment) → Holds (opening m) self.old.watch → OnOk result (Holds (opening (with_more m)) self.new.watch) }
+        ensures folders { OnOk result (with_folder self.old.folders name.now ≡ Ok self.new.folders) }
+        ensures refused { IfErr result (λ fault. fault ≢ NoMemory → with_folder self.old.folders name.now ≡ Err fault) }
+        ensures keeps { KeepsBeginning self.old self.new }
+    {
+        name_folder(&mut self.folders, name)?;
+        self.watch.put_folder()?;
+        self.judge.add_folder()?;
+        Ok(())
+    }
+
+    fn put_file(&mut self, line: usize, path: &Path, stamp: u64) -> Result<(), LineFault>
+        ensures puts { (m : Moment) → Holds (opening m) self.old.watch → OnOk result (PutsFile m path.now stamp self.new.watch) }
+        ensures refused { (m : Moment) → Holds (opening m) self.old.watch
+            → IfErr result (λ fault. fault ≢ NoMemory → IsPathRefused m path.now fault) }
+        ensures keeps { KeepsBeginning self.old self.new }
+        ensures folders { self.new.folders ≡ self.old.folders }
+    {
+        self.watch.put_file(path, stamp)?;
+        known(self.judge.put_file(line, path, stamp))
+    }
+
+    fn put_name(&mut self, line: usize, path: &Path, old: &Path) -> Result<(), LineFault>
+        ensures puts { (m : Moment) → Holds (opening m) self.old.watch → OnOk result (PutsName m path.now old.now self.new.watch) }
+        ensures refused { (m : Moment) → Holds (opening m) self.old.watch
+            → IfErr result (λ fault. fault ≢ NoMemory → IsNameRefused m path.now old.now fault) }
+        ensures keeps { KeepsBeginning self.old self.new }
+        ensures folders { self.new.folders ≡ self.old.folders }
+    {
+        self.watch.put_name(path, old)?;
+        known(self.judge.put_name(line, path, old))
+    }
+
     fn take_step(&mut self, number: u64, step: Step, text: &[u8]) -> Result<(), LogFault>
-        ensures read { (l : Log) → HasRead number l self.old → step.ticks ≡ None → number < 4294967295
-            → HasFolders (at l (length l.steps)) step.call
-            → OnOk result (HasRead (suc number) (record l { steps = l.steps ++ record { number = number; step = step } ∷ [] }) self.new) }
+        ensures placed { (l : Log) → HasPlaced number l self.old → OnOk result (HasPlaced (suc number) (with_step l number step) self.new) }
         ensures refused { self.old.stretch.steps.items ≡ [] → IfErr result (λ e. e.fault ≡ NoMemory) }
-        ensures placed { (l : Log) → HasPlaced number l self.old → number < 4294967295
-            → ((s : State) → s.folders ≡ length l.folders → HasFolders s step.call)
-            → OnOk result (HasPlaced (suc number) (record l { steps = l.steps ++ record { number = number; step = step } ∷ [] }) self.new) }
         ensures unplaced { IfErr result (λ e. IsUnplaced e.fault) }
     {
         self.has_begun = true;
@@ -235,8 +266,10 @@ impl Session {
             return done_at(number, waits);
         }
         self.judge_stretch()?;
-        let judged = self.judge_step(number as usize, number, &step, text);
-        done_at(number, judged)
+        match self.judge_step(number as usize, number, &step, text) {
+            Ok(_) => Ok(()),
+            Err(AllocError) => Err(fault_at(number, LineFault::NoMemory)),
+        }
     }
 
     /// Judges the steps that wait, in an order that their ticks and replies allow.
@@ -266,7 +299,7 @@ impl Session {
     /// Judges a step that waits at a place of its stretch, by their numbers from 0. It is refused where directories don't give its reply.
     fn judge_waiting(&mut self, place: usize, at: usize) -> Result<(), LogFault>
         ensures judged { (number : ℕ) (l m : Log) (order : List ℕ) (i : ℕ) (x y : Numbered) → HasLines number l self.old
-            → HasJudged number l order m self.old → IsNextStep l order i x y place at self.old.stretch
+            → HasJudged number l order m self.old → IsNextStep l order i x y place at self.old.stretch → y.step.ticks ≢ None
             → OnOk result (HasLines number l self.new × HasJudged number l (order ++ i ∷ []) (with_next m x y) self.new) }
         ensures had { OnOk result ((w : Waiting) × (slice_get self.old.stretch.steps.items at ≡ Some (Some w))) }
         ensures takes { OnOk result (TakesAt at self.old.stretch self.new.stretch) }
@@ -283,61 +316,53 @@ impl Session {
             let Waiting { step, text } = waiting;
             self.judge_step(moment as usize, line, &step, &text)
         };
-        done_at(line, judged)?;
-        if self.judge.is_wrong() {
-            return Err(fault_at(line, LineFault::NoOrder));
+        match judged {
+            Ok(false) => Ok(()),
+            Ok(true) => Err(fault_at(line, LineFault::NoOrder)),
+            Err(AllocError) => Err(fault_at(line, LineFault::NoMemory)),
         }
-        Ok(())
     }
 
+    /// Judges the next step, and says whether directories don't give its reply.
     fn judge_step(
         &mut self,
         moment: usize,
         line: u64,
         step: &Step,
         text: &[u8],
-    ) -> Result<(), AllocError>
+    ) -> Result<bool, AllocError>
+        ensures judges { (h : History) → Holds h self.old.watch → OnOk result (Judges h line step.now self.old self.new) }
+        ensures wrong { (h : History) → Holds h self.old.watch → IfOk result (λ is_wrong. IsTrue is_wrong ↔ Breaks NotADirectory (next h step.now)) }
         ensures keeps { OnOk result (KeepsHead self.old self.new) }
-        ensures told { (lines : ℕ → ℕ) (l : Log) (i : ℕ) → Remembers lines l i self.old.judge
-            → slice_get l.steps i ≡ Some (record { number = moment; step = step.now }) → lines i ≡ moment → moment < 4294967295
-            → HasFolders (at l i) step.now.call → OnOk result (Remembers lines l (suc i) self.new.judge) }
-        ensures found { (lines : ℕ → ℕ) (l : Log) (i : ℕ) → Remembers lines l i self.old.judge
-            → slice_get l.steps i ≡ Some (record { number = moment; step = step.now }) → lines i ≡ moment → moment < 4294967295
-            → ((a b : ℕ) → a < b → lines a < lines b) → ((a : ℕ) → 0 < lines a) → HasFolders (at l i) step.now.call
-            → OnOk result ((c : Clause)
-            → AddsFinding c line (Breaks c (turn l i step.now) × (Has self.old.judge.allowed c → ⊥)) self.old self.new) }
-        ensures ordered { AreInOrder self.old.findings.items → AreEarlier self.old.findings.items line 0
-            → OnOk result (AreInOrder self.new.findings.items) }
-        ensures at_lines { AreInOrderAtLines self.old.findings.items → AreBelowAtLine self.old.findings.items line 0
-            → OnOk result (AreInOrderAtLines self.new.findings.items) }
-        ensures broken { (lines : ℕ → ℕ) (l : Log) (i : ℕ) → Remembers lines l i self.old.judge
-            → slice_get l.steps i ≡ Some (record { number = moment; step = step.now }) → lines i ≡ moment → moment < 4294967295
-            → ((a b : ℕ) → a < b → lines a < lines b) → ((a : ℕ) → 0 < lines a) → HasFolders (at l i) step.now.call
-            → OnOk result ((c : Clause) → Has self.new.judge.watch.found.broken c ↔ Breaks c (turn l i step.now)) }
     {
         self.judge.go_to(moment);
         self.judge.step(moment, step)?;
+        let broken = self.watch.step(step)?;
         for clause in CLAUSES {
-            self.note(line, clause, text)?;
+            self.note(line, clause, &broken, text)?;
         }
-        Ok(())
+        Ok(broken.breaks(Clause::NotADirectory))
     }
 
-    fn note(&mut self, line: u64, clause: Clause, text: &[u8]) -> Result<(), AllocError>
+    fn note(
+        &mut self,
+        line: u64,
+        clause: Clause,
+        broken: &Broken,
+        text: &[u8],
+    ) -> Result<(), AllocError>
         ensures keeps { OnOk result (KeepsHead self.old self.new) }
-        ensures judge { OnOk result (self.new.judge ≡ self.old.judge) }
-        ensures found { OnOk result ((c : Clause) → AddsFinding c line ((clause ≡ c) × IsBroken self.old.judge c) self.old self.new) }
+        ensures watch { OnOk result (self.new.watch ≡ self.old.watch) }
+        ensures found { OnOk result ((c : Clause)
+            → AddsFinding c line ((clause ≡ c) × ((breaks broken.now c ≡ true) × (Has self.old.allowed c → ⊥))) self.old self.new) }
         ensures ordered { OnOk result (AreInOrder self.old.findings.items → AreEarlier self.old.findings.items line (clause_index clause)
             → AreInOrder self.new.findings.items × AreEarlier self.new.findings.items line (suc (clause_index clause))) }
         ensures at_lines { OnOk result (AreInOrderAtLines self.old.findings.items
             → AreBelowAtLine self.old.findings.items line (clause_index clause)
             → AreInOrderAtLines self.new.findings.items × AreBelowAtLine self.new.findings.items line (suc (clause_index clause))) }
     {
-        if self.judge.is_broken(clause) {
-            let before = match self.judge.before(clause) {
-                None => None,
-                Some(moment) => Some(self.stretch.line_at(moment)),
-            };
+        if broken.breaks(clause) && !self.allowed.contains(clause) {
+            let before = self.before(clause);
             self.findings.push(Finding {
                 line,
                 clause,
@@ -346,6 +371,22 @@ impl Session {
             self.passages.add(text)?;
         }
         Ok(())
+    }
+
+    /// The earlier line that a finding goes back to, where there is one.
+    fn before(&self, clause: Clause) -> Option<u64> {
+        let moment = self.judge.before(clause)?;
+        Some(self.stretch.line_at(moment))
+    }
+}
+
+/// The watch has taken what is put at the beginning: it is put, or there is no memory.
+fn known(put: Result<(), LineFault>) -> Result<(), LineFault>
+    ensures { IfErr result (λ fault. fault ≡ NoMemory) }
+{
+    match put {
+        Ok(()) => Ok(()),
+        Err(_) => Err(LineFault::NoMemory),
     }
 }
 

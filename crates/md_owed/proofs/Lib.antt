@@ -1,14 +1,3 @@
-pub mod Keys
-pub mod Turning
-pub mod Counting
-pub mod Leaving
-pub mod Filing
-pub mod Touching
-pub mod Keeping
-pub mod Going
-pub mod Noticing
-pub mod Breaking
-pub mod Beginning
 pub mod Telling
 pub mod Taking
 pub mod Heading

@@ -1,36 +1,29 @@
 -- Lines that are refused are wrong, or are steps that have ticks.
-use Rattle.std.proofs.Common.{ℕ, ◌≡◌, ◌≢◌, ◌<◌, ◌≤◌, ◌+◌, List, [], ◌∷◌, ◌++◌, Some, None, Bool, true, false, not, is_some, length, Result, Ok, Err, IfErr, refl, sym, ap, subst, ◌∙◌, arith}
+use Rattle.std.proofs.Common.{ℕ, ◌≡◌, ◌≢◌, ◌<◌, ◌≤◌, ◌+◌, List, [], ◌∷◌, ◌++◌, Some, None, Bool, true, false, length, Result, Ok, Err, IfErr, refl, sym, ap, subst, ◌∙◌, arith}
 use Rattle.std.specs.Prelude.{if◌then◌else◌, codes}
 use Rattle.std.specs.Str.{bytes_eq}
 use Rattle.std.specs.Result.{IsErrAnd}
 use Rattle.std.proofs.lemmas.Result.{err_from_is_err_and}
-use Rattle.md_law.specs.History.{moment}
-use Rattle.md_dirs.specs.Calls.{with_new_file, with_path, empty_file}
-use Rattle.md_dirs.specs.State.{file_at}
-use Rattle.md_dirs.specs.declared.paths.Path.{Path}
-use Rattle.md_log.specs.Folders.{with_folder}
 use Rattle.md_log.specs.Lines.{line_of, line_by}
 use Rattle.md_log.specs.Heads.{head_of}
-use Rattle.md_log.specs.Words.{Gives, word_at}
+use Rattle.md_log.specs.Words.{word_at}
 use Rattle.md_log.specs.declared.error.LineFault.{LineFault}
-use Rattle.md_log.specs.declared.error.LineFault.TheVariants.{NoLog, NoMemory, SamePath, NoSuchPath}
+use Rattle.md_log.specs.declared.error.LineFault.TheVariants.{NoLog, NoMemory}
 use Rattle.md_log.specs.declared.error.LogFault.{LogFault}
 use Rattle.md_log.specs.declared.line.Line.{Line}
 use Rattle.md_log.specs.declared.line.Line.TheVariants as line
 use Rattle.md_log.specs.declared.line.Step.{Step}
-use Rattle.md_text.specs.Bind.{◌>>=◌, require}
+use Rattle.md_text.specs.Bind.{◌>>=◌}
 use Rattle.md_text.specs.Words.{Rest, is_passed_over}
-use Rattle.md_judge.specs.Logs.{Log, empty_log, has_begun, log_by, at_line, with_lines, with_text, with_line, with_folder_line, with_file_line, with_also_line}
+use Rattle.md_judge.specs.Logs.{Log, empty_log, has_begun, log_by, at_line, with_lines, with_text, with_line}
+use Rattle.md_judge.specs.Placed.{with_step}
+use Rattle.md_judge.proofs.Lists.{last-is}
 use Rattle.md_judge.proofs.Taken.{log-then}
-use Rattle.md_judge.proofs.Verdicts.{last-is}
 use Rattle.md_owed.specs.declared.fault.Fault.{Fault}
 use Rattle.md_owed.specs.declared.fault.Why.{Why}
 use Rattle.md_owed.specs.declared.fault.Why.TheVariants.{Wrong, Overlap}
 use Rattle.md_owed.specs.declared.session.Session.{Session}
-use Rattle.md_owed.specs.declared.watch.Watch.{Watch}
-use Rattle.md_owed.specs.Changes.{file_in}
-use Rattle.md_owed.specs.Watches.{Holds, beginning}
-use Rattle.md_owed.specs.Sessions.{HasRead, HasTaken, IsWhy, IsRefusedBy, IsRefused, IsStepRefused, with_step}
+use Rattle.md_owed.specs.Sessions.{HasRead, HasTaken, IsWhy, IsRefusedBy, IsRefused, IsStepRefused}
 
 -- ---- where memory is refused, nothing is said of the lines
 
@@ -41,29 +34,6 @@ memory-refused line why log is = subst (λ w. IsRefusedBy line w log) (sym is) (
 pub passed-on : {A E : Type 0} (r : Result A E) (e : E) (P : E → Type 0) → IsErrAnd r (λ x. x ≡ e) → P e → IfErr r P
 passed-on r e P is holds =
     let y = err_from_is_err_and r is in subst (λ (x : Result _ _). IfErr x P) (sym y.1) (subst P (sym y.2) holds)
-
--- ---- paths of the beginning
-
--- what the watch says of a path is so of the beginning
-pub there-at : (l : Log) (p : Path) (w : Watch) → Holds (beginning l) w → is_some (file_at l.opening p) ≡ is_some (file_in w.paths p)
-unfolding moment
-there-at l p w holds = ap is_some (sym (holds.paths p))
-
-pub same-path : (l : Log) (p : Path) (stamp : ℕ) → is_some (file_at l.opening p) ≡ true → with_file_line l p stamp ≡ Err SamePath
-unfolding with_file_line
-same-path l p stamp there = ap (λ b. require (not b) SamePath
-    >>= (λ u. Ok (record l { opening = with_new_file p (empty_file stamp) l.opening }))) there
-
-pub same-name : (l : Log) (p old : Path) → is_some (file_at l.opening p) ≡ true → with_also_line l p old ≡ Err SamePath
-unfolding with_also_line
-same-name l p old there = ap (λ b. require (not b) SamePath >>= (λ u. require (is_some (file_at l.opening old)) NoSuchPath
-    >>= (λ v. Ok (record l { opening = with_path p l.opening (file_at l.opening old) })))) there
-
-pub no-path : (l : Log) (p old : Path) → is_some (file_at l.opening p) ≡ false → is_some (file_at l.opening old) ≡ false
-    → with_also_line l p old ≡ Err NoSuchPath
-unfolding with_also_line
-no-path l p old free none = λ i. require (not (free i)) SamePath >>= (λ u. require (none i) NoSuchPath
-    >>= (λ v. Ok (record l { opening = with_path p l.opening (file_at l.opening old) })))
 
 -- ---- lines
 
@@ -143,13 +113,3 @@ only-refused (head ∷ texts) text number f is low refused = absurd (omega (arit
 pub none-refused : (texts : List (List ℕ)) (f : Fault) → length texts ≡ 0 → f ≡ record { line = 1; why = Wrong NoLog } → IsRefused f (log_by texts)
 none-refused [] f none is = subst (λ (g : Fault). IsRefused g (log_by [])) (sym is) (λ known. refl)
 none-refused (head ∷ texts) f none is = absurd (omega (arith, none))
-
--- ---- a folder
-
-pub folder-wrong : (l : Log) (s : Session) (name : List ℕ) {A : Type 0} (view : A → List (List ℕ)) (r : Result A LineFault) → HasRead l s
-    → Gives view r (with_folder s.folders name) → IfErr r (λ fault. fault ≢ NoMemory → with_folder_line l name ≡ Err fault)
-unfolding with_folder_line
-folder-wrong l s name view (Ok x) read gives = tt
-folder-wrong l s name view (Err e) read gives = λ known.
-    ap (λ (r : Result (List (List ℕ)) LineFault). r >>= (λ fs. Ok (record l { folders = fs; opening = record l.opening { folders = length fs } })))
-    (ap (λ fs. with_folder fs name) (sym read.folders) ∙ gives known)

@@ -15,7 +15,14 @@ unfolding with_lines
 head-alone text is = ap (λ b. if b then with_lines empty_log 2 [] else Err (record { line = 1; fault = NoLog })) is
 
 counted : (l : Log) (s : Session) (n : ℕ) → HasRead l s → HasRead l (record s { lines = n })
-counted l s n read = record { folders = read.folders; begun = read.begun; plain = read.plain; holds = read.holds; found = read.found }
+counted l s n read = record {
+  folders = read.folders;
+  housed = read.housed;
+  begun = read.begun;
+  plain = read.plain;
+  holds = read.holds;
+  found = read.found;
+}
 
 none-of-some : (texts : List (List ℕ)) (text : List ℕ) → texts ++ text ∷ [] ≡ [] → ⊥
 none-of-some texts text none =

@@ -1,77 +1,47 @@
 -- What a session has read and found, as a log gets longer.
-use Rattle.std.proofs.Common.{ℕ, suc, ◌≡◌, ◌<◌, ◌≤◌, ◌+◌, ◌↔◌, ◌⊎◌, inl, inr, List, [], ◌∷◌, ◌++◌, Some, None, true, false, nat_lt, slice_get, get_or, length, Result, Ok, refl, sym, ap, subst, ◌∙◌, arith}
-use Rattle.std.specs.Prelude.{fold, take, if◌then◌else◌}
+use Rattle.std.proofs.Common.{ℕ, suc, ◌≡◌, ◌<◌, ◌≤◌, ◌+◌, ◌↔◌, ◌⊎◌, inl, inr, List, [], ◌∷◌, Some, None, true, false, nat_lt, slice_get, get_or, length, Result, Ok, refl, sym, ap, subst, ◌∙◌, arith}
+use Rattle.std.specs.Prelude.{if◌then◌else◌}
 use Rattle.std.proofs.lemmas.Bool.{cases_lt, lt-ltb}
-use Rattle.std.proofs.lemmas.List.{take-append-le, take_all, length_push}
+use Rattle.std.proofs.lemmas.List.{length_push}
 use Rattle.std.proofs.lemmas.Option.{slice_get_within, slice_get-get_or, get_or_from_slice_get}
 use Rattle.md_log.specs.declared.error.LineFault.{LineFault}
 use Rattle.md_log.specs.declared.line.Line.{Line}
-use Rattle.md_log.specs.declared.line.Line.TheVariants as line
-use Rattle.md_log.specs.declared.line.Step.{Step}
 use Rattle.md_log.specs.Lines.{line_of}
 use Rattle.md_text.specs.Bind.{◌>>=◌}
 use Rattle.md_text.specs.Words.{is_passed_over}
 use Rattle.md_law.specs.History.{History, next}
 use Rattle.md_monitor.specs.Finds.{BreaksOwed}
 use Rattle.md_judge.specs.Logs.{Log, Numbered, empty_log, has_begun, with_text, with_line}
-use Rattle.md_judge.proofs.Longer.{same-step}
-use Rattle.md_judge.proofs.Verdicts.{last-is, first-are, begun-after}
-use Rattle.md_owed.specs.declared.clause.OwedClause.{OwedClause}
-use Rattle.md_owed.specs.declared.clause.OwedClause.TheVariants.{TwoNames, InTwoFolders, Mixed, NamedByAnother, CleanedEarly, Rewritten, MovedBack, UsedAgain, MadeAgain, WrittenLate}
+use Rattle.md_judge.specs.Verdict.{beginning, history}
+use Rattle.md_judge.proofs.Lists.{last-is, first-are, one-more, no-step}
+use Rattle.md_judge.proofs.Lines.{begun-after}
+use Rattle.md_judge.proofs.Telling.{pushed, history-same, history-next}
+use Rattle.md_watch.specs.declared.clause.OwedClause.{OwedClause}
+use Rattle.md_watch.specs.declared.clause.OwedClause.TheVariants.{TwoNames, InTwoFolders, Mixed, NamedByAnother, CleanedEarly, Rewritten, MovedBack, UsedAgain, MadeAgain, WrittenLate}
 use Rattle.md_owed.specs.declared.session.Session.{Session}
-use Rattle.md_owed.specs.declared.watch.Broken.{Broken}
-use Rattle.md_owed.specs.Clauses.{IsBroken, meant}
-use Rattle.md_owed.specs.Watches.{Holds, Finds, beginning}
-use Rattle.md_owed.specs.Sessions.{history, IsFinding, IsAmong, HasRead, Reads, IsHead, AddsFinding, AddsWhere}
+use Rattle.md_watch.specs.declared.broken.Broken.{Broken}
+use Rattle.md_watch.specs.Clauses.{IsBroken, meant}
+use Rattle.md_watch.specs.Watches.{Holds, Finds}
+use Rattle.md_owed.specs.Sessions.{IsFinding, IsAmong, HasRead, Reads, AddsFinding, AddsWhere}
 
-fold-push : {A B : Type 0} (f : A → B → A) (a : A) (xs : List B) (y : B) → fold f a (xs ++ y ∷ []) ≡ f (fold f a xs) y
-fold-push f a [] y = refl
-fold-push f a (x ∷ xs) y = fold-push f (f a x) xs y
-
--- what stands in a list with one more item stands in the list, or is the item
-one-more : {A : Type 0} (xs : List A) (y : A) (i : ℕ) (x : A) → slice_get (xs ++ y ∷ []) i ≡ Some x
-    → ((i < length xs) × (slice_get xs i ≡ Some x)) ⊎ ((i ≡ length xs) × (y ≡ x))
-one-more xs y i x is = elim (cases_lt i (length xs)) [
-  | inl low ↦ inl (low, same-step xs y i low ∙ is)
-  | inr high ↦
-      let within = slice_get_within (xs ++ y ∷ []) i x is in
-      let long = length_push xs y in
-      let last : i ≡ length xs = omega (arith, high, within, long) in
-      inr (last, (let same : Some y ≡ Some x = sym (last-is xs y) ∙ ap (slice_get (xs ++ y ∷ [])) (sym last) ∙ is in cc same))
-]
-
--- ---- histories
-
-abbrev going : History → Numbered → History
-going h x = next h x.step
+-- ---- one more step
 
 module _ (l : Log) (z : Numbered) where
-  abbrev longer : Log
-  longer = record l { steps = l.steps ++ z ∷ [] }
-
   abbrev past : History
   past = history l (length l.steps)
 
-  history-same : (i : ℕ) → i ≤ length l.steps → history longer i ≡ history l i
-  history-same i low = ap (fold going (beginning l)) (take-append-le i l.steps (z ∷ []) low)
-
-  pub history-next : history longer (suc (length l.steps)) ≡ next past z.step
-  history-next =
-      let long = length_push l.steps z in
-      ap (fold going (beginning l)) (take_all (suc (length l.steps)) (l.steps ++ z ∷ []) (omega (arith, long)))
-      ∙ fold-push going (beginning l) l.steps z
-      ∙ ap (λ xs. next (fold going (beginning l) xs) z.step) (sym (take_all (length l.steps) l.steps (omega arith)))
-
   -- the findings are those of before, and those of the step
-  finding-longer : (n : ℕ) (c : OwedClause) (who : List ℕ) → IsFinding longer n c who
+  finding-longer : (n : ℕ) (c : OwedClause) (who : List ℕ) → IsFinding (pushed l z) n c who
       ↔ (IsFinding l n c who ⊎ ((z.number ≡ n) × (z.step.actor ≡ who) × BreaksOwed (meant c) (next past z.step)))
   finding-longer n c who = (
     λ (i, x, at, by, breaks). elim (one-more l.steps z i (record { number = n; step = x }) at) [
-      | inl was ↦ let low = was.0 in inl (i, x, was.1, by, subst (BreaksOwed (meant c)) (history-same (suc i) (omega (arith, low))) breaks)
+      | inl was ↦
+          let low = slice_get_within l.steps i (record { number = n; step = x }) was in
+          inl (i, x, was, by, subst (BreaksOwed (meant c)) (history-same l z (suc i) (omega (arith, low))) breaks)
       | inr is ↦ inr (
         ap (λ (m : Numbered). m.number) is.1,
         ap (λ (m : Numbered). m.step.actor) is.1 ∙ by,
-        subst (BreaksOwed (meant c)) (ap (λ k. history longer (suc k)) is.0 ∙ history-next) breaks,
+        subst (BreaksOwed (meant c)) (ap (λ k. history (pushed l z) (suc k)) is.0 ∙ history-next l z) breaks,
       )
     ],
     λ some. elim some [
@@ -81,14 +51,14 @@ module _ (l : Log) (z : Numbered) where
             was.1,
             first-are l.steps z was.0 (record { number = n; step = was.1 }) was.2,
             was.3,
-            subst (BreaksOwed (meant c)) (sym (history-same (suc was.0) (omega (arith, low)))) was.4,
+            subst (BreaksOwed (meant c)) (sym (history-same l z (suc was.0) (omega (arith, low)))) was.4,
           )
       | inr is ↦ (
         length l.steps,
         z.step,
         last-is l.steps z ∙ ap (λ k. Some (record z { number = k })) is.0,
         is.1,
-        subst (BreaksOwed (meant c)) (sym history-next) is.2,
+        subst (BreaksOwed (meant c)) (sym (history-next l z)) is.2,
       )
     ],
   )
@@ -97,15 +67,16 @@ module _ (l : Log) (z : Numbered) where
       → Holds (next past z.step) t.watch
       → ((n : ℕ) (c : OwedClause) (who : List ℕ) → IsAmong t.findings.items n c who
       ↔ (IsAmong s.findings.items n c who ⊎ ((z.number ≡ n) × (z.step.actor ≡ who) × BreaksOwed (meant c) (next past z.step))))
-      → HasRead longer t
+      → HasRead (pushed l z) t
   step-read s t read plain folders begun holds found = record {
     folders = folders ∙ read.folders;
+    housed = read.housed;
     begun = begun ∙ sym (begun-after l.steps z);
     plain = λ k x at. elim (one-more l.steps z k x at) [
-      | inl was ↦ read.plain k x was.1
+      | inl was ↦ read.plain k x was
       | inr is ↦ ap (λ (m : Numbered). m.step.ticks) (sym is.1) ∙ plain
     ];
-    holds = subst (λ h. Holds h t.watch) (sym (ap (history longer) (length_push l.steps z ∙ plus-one (length l.steps)) ∙ history-next)) holds;
+    holds = subst (λ h. Holds h t.watch) (sym (ap (history (pushed l z)) (length_push l.steps z ∙ plus-one (length l.steps)) ∙ history-next l z)) holds;
     found = λ n c who. (
       λ among. elim ((found n c who).0 among) [
         | inl was ↦ (finding-longer n c who).1 (inl ((read.found n c who).0 was))
@@ -231,15 +202,16 @@ reads-line l number text s t line over read has reads = (
 
 -- Where no step was read, a line of the beginning that leaves none is read, if the watch holds what it makes.
 pub head-read : (l l' : Log) (s t : Session) → HasRead l s → s.has_begun ≡ false → l'.steps ≡ l.steps → t.folders ≡ l'.folders
-    → t.has_begun ≡ s.has_begun → Holds (beginning l') t.watch → t.findings ≡ s.findings → HasRead l' t
-head-read l l' s t read begun steps folders same holds found = record {
+    → l'.opening.folders ≡ length l'.folders → t.has_begun ≡ s.has_begun → Holds (beginning l') t.watch → t.findings ≡ s.findings → HasRead l' t
+head-read l l' s t read begun steps folders housed same holds found = record {
   folders = folders;
+  housed = housed;
   begun = same ∙ read.begun ∙ ap (λ xs. nat_lt 0 (length xs)) (sym steps);
-  plain = λ k x at. absurd (no-step k x at);
-  holds = subst (λ xs. Holds (fold going (beginning l') (take (length xs) xs)) t.watch) (sym none') holds;
+  plain = λ k x at. absurd (no-step l'.steps none' k x at);
+  holds = subst (λ (xs : List Numbered). Holds (history (record l' { steps = xs }) (length xs)) t.watch) (sym none') holds;
   found = λ n c who. (
     λ among. absurd (was n c who (subst (λ fs. IsAmong fs n c who) (ap (λ (v : _). v.items) found) among)),
-    λ is. absurd (no-step is.0 (record { number = n; step = is.1 }) is.2),
+    λ is. absurd (no-step l'.steps none' is.0 (record { number = n; step = is.1 }) is.2),
   );
 }
   where
@@ -249,34 +221,28 @@ head-read l l' s t read begun steps folders same holds found = record {
     none' : l'.steps ≡ []
     none' = steps ∙ none
 
-    no-step : (k : ℕ) (x : Numbered) → slice_get l'.steps k ≡ Some x → ⊥
-    no-step k x at = let empty : slice_get [] k ≡ Some x = ap (λ xs. slice_get xs k) (sym none') ∙ at in cc empty
-
     was : (n : ℕ) (c : OwedClause) (who : List ℕ) → IsAmong s.findings.items n c who → ⊥
     was n c who among =
-        let is = (read.found n c who).0 among in
-        let at : slice_get [] is.0 ≡ Some (record { number = n; step = is.1 }) = ap (λ xs. slice_get xs is.0) (sym none) ∙ is.2 in cc at
+        let is = (read.found n c who).0 among in no-step l.steps none is.0 (record { number = n; step = is.1 }) is.2
 
 -- before the first step the watch holds the beginning
 pub held : (l : Log) (s : Session) → HasRead l s → s.has_begun ≡ false → Holds (beginning l) s.watch
 held l s read begun =
     let none = no-steps l.steps (sym read.begun ∙ begun) in
-    subst (λ xs. Holds (fold going (beginning l) (take (length xs) xs)) s.watch) none read.holds
+    subst (λ (xs : List Numbered). Holds (history (record l { steps = xs }) (length xs)) s.watch) none read.holds
 
 -- ---- no line
-
-none-at : {A : Type 0} (k : ℕ) (x : A) → slice_get [] k ≡ Some x → ⊥
-none-at k x is = cc is
 
 pub nothing-read : (s : Session) → s.folders ≡ [] → s.has_begun ≡ false → Holds (beginning empty_log) s.watch → s.findings.items ≡ [] → HasRead empty_log s
 nothing-read s folders begun holds none = record {
   folders = folders;
+  housed = refl;
   begun = begun;
-  plain = λ k x at. absurd (none-at k x at);
+  plain = λ k x at. absurd (no-step [] refl k x at);
   holds = holds;
   found = λ n c who. (
-    λ among. absurd (none-at among.0 among.1 (subst (λ fs. slice_get fs among.0 ≡ Some among.1) none among.2)),
-    λ is. absurd (none-at is.0 (record { number = n; step = is.1 }) is.2),
+    λ among. absurd (no-step s.findings.items none among.0 among.1 among.2),
+    λ is. absurd (no-step [] refl is.0 (record { number = n; step = is.1 }) is.2),
   );
 }
 
@@ -293,7 +259,3 @@ adds-broken P number c actor old new holds adds = record {
     λ some. elim some [ inl was ↦ (adds.found m d who).1 (inl was) | inr is ↦ (adds.found m d who).1 (inr (is.0, is.1, is.2)) ],
   );
 }
-
-pub is-head : (v : Line) → ((x : Step) → v ≡ line.Step x → ⊥) → IsHead v
-is-head (line.Step x) other = other x refl
-is-head v other = tt

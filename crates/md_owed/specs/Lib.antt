@@ -1,9 +1,1 @@
-pub mod Tables
-pub mod Changes
-pub mod Files
-pub mod Messages
-pub mod Drafts
-pub mod Clauses
-pub mod Found
-pub mod Watches
 pub mod Sessions

@@ -1,29 +1,22 @@
 -- What a session has taken in, and what it has found.
-use Rattle.std.specs.Prelude.{ℕ, suc, ◌≡◌, ◌≢◌, ◌↔◌, ◌⊎◌, ◌++◌, ◌∷◌, [], List, Some, None, Result, Ok, Err, fold, take, length, slice_get}
+use Rattle.std.specs.Prelude.{ℕ, suc, ◌≡◌, ◌≢◌, ◌↔◌, ◌⊎◌, [], List, Some, None, Result, Ok, Err, length, slice_get}
 use Rattle.md_log.specs.declared.error.LineFault.{LineFault}
 use Rattle.md_log.specs.declared.error.LineFault.TheVariants.{NoMemory}
 use Rattle.md_log.specs.declared.error.LogFault.{LogFault}
-use Rattle.md_log.specs.declared.line.Line.{Line}
-use Rattle.md_log.specs.declared.line.Line.TheVariants as line
 use Rattle.md_log.specs.declared.line.Step.{Step}
-use Rattle.md_law.specs.History.{History, next}
 use Rattle.md_monitor.specs.Finds.{BreaksOwed}
-use Rattle.md_judge.specs.Logs.{Log, Numbered, empty_log, has_begun, log_by}
-use Rattle.md_judge.specs.Verdict.{HasNoTicks}
-use Rattle.md_owed.specs.declared.clause.OwedClause.{OwedClause}
+use Rattle.md_watch.specs.declared.clause.OwedClause.{OwedClause}
+use Rattle.md_watch.specs.Clauses.{meant}
+use Rattle.md_watch.specs.Watches.{Holds}
+use Rattle.md_judge.specs.Logs.{Log, empty_log, has_begun, log_by}
+use Rattle.md_judge.specs.Verdict.{history, HasNoTicks}
 use Rattle.md_owed.specs.declared.fault.Fault.{Fault}
 use Rattle.md_owed.specs.declared.fault.Why.{Why}
 use Rattle.md_owed.specs.declared.fault.Why.TheVariants.{Wrong, Overlap}
 use Rattle.md_owed.specs.declared.session.Finding.{Finding}
 use Rattle.md_owed.specs.declared.session.Session.{Session}
-use Rattle.md_owed.specs.Clauses.{meant}
-use Rattle.md_owed.specs.Watches.{Holds, beginning}
 
--- ---- logs as histories
-
--- the history that a log tells, up to a step
-abbrev pub history : Log → ℕ → History
-history l i = fold (λ h (x : Numbered). next h x.step) (beginning l) (take i l.steps)
+-- ---- findings
 
 -- the step of this line is the actor's, and breaks the clause
 abbrev pub IsFinding : Log → ℕ → OwedClause → List ℕ → Type 0
@@ -40,6 +33,7 @@ IsAmong found number c actor =
 -- A session has read this log, in which no step has ticks, and has found what its steps break.
 pub record HasRead (l : Log) (s : Session) : Type 0 where
   pub folders : s.folders ≡ l.folders
+  pub housed : l.opening.folders ≡ length l.folders
   pub begun : s.has_begun ≡ has_begun l
   pub plain : HasNoTicks l
   pub holds : Holds (history l (length l.steps)) s.watch
@@ -78,14 +72,6 @@ IsStepRefused (Wrong fault) x = fault ≡ NoMemory
 IsStepRefused Overlap x = x.ticks ≢ None
 
 -- ---- how it goes on
-
-abbrev pub with_step : Log → ℕ → Step → Log
-with_step l number x = record l { steps = l.steps ++ record { number = number; step = x } ∷ [] }
-
--- a line of the beginning
-abbrev pub IsHead : Line → Type 0
-IsHead (line.Step step) = ⊥
-IsHead other = Unit {0}
 
 -- a finding is added, and nothing else changes
 pub record AddsFinding (number : ℕ) (c : OwedClause) (actor : List ℕ) (old new : Session) : Type 0 where

@@ -2,18 +2,22 @@
 ghost use Rattle.std.specs.Prelude.{◌≡◌, ◌≢◌, ◌+◌, ◌<◌, ◌≤◌, ◌↔◌, ◌++◌, ◌∷◌, [], ℕ, List, Ok, Err, true, false, OnOk, IfOk, IfErr, codes};
 ghost use Rattle.std.specs.Str.{bytes_eq};
 ghost use Rattle.md_log.specs.declared.error.LineFault.TheVariants.{NoMemory};
+ghost use Rattle.md_log.specs.Folders.{with_folder};
+ghost use Rattle.md_law.specs.History.{Moment, opening};
+ghost use Rattle.md_watch.specs.declared.clause.OwedClause.{OwedClause};
+ghost use Rattle.md_watch.specs.Clauses.{IsBroken};
+ghost use Rattle.md_watch.specs.Watches.{Holds, with_folder as with_more};
 ghost use Rattle.md_judge.specs.Logs.{Log, log_by, at_line, with_line, with_text};
-ghost use Rattle.md_owed.specs.declared.clause.OwedClause.{OwedClause};
+ghost use Rattle.md_judge.specs.Placed.{IsHead, with_step};
+ghost use Rattle.md_judge.specs.Taken.{Agrees};
 ghost use Rattle.md_owed.specs.declared.fault.Why.TheVariants.{Wrong};
-ghost use Rattle.md_owed.specs.Clauses.{IsBroken};
-ghost use Rattle.md_owed.specs.Sessions.{HasTaken, HasRead, Reads, IsAmong, IsFinding, IsHead, IsRefused, IsWhy, IsStepRefused, AddsFinding, AddsWhere, with_step};
+ghost use Rattle.md_owed.specs.Sessions.{HasTaken, HasRead, Reads, IsAmong, IsFinding, IsRefused, IsWhy, IsStepRefused, AddsFinding, AddsWhere};
 
-use crate::clause::{OWED, OwedClause};
 use crate::fault::{Fault, Why};
-use crate::watch::{Broken, Watch};
 use md_dirs::Bytes;
 use md_log::{Folders, Line, LineFault, Step, name_folder, read_line};
 use md_text::{cut, is_passed_over};
+use md_watch::{Broken, OWED, OwedClause, Watch};
 use std::alloc::{AllocError, Global};
 
 const HEAD: &[u8] = b"maildir_log 1";
@@ -122,16 +126,28 @@ impl Session {
     fn take_head(&mut self, line: Line) -> Result<(), LineFault>
         ensures reads { (l : Log) (number : ℕ) → HasRead l self.old → self.old.has_begun ≡ false → IsHead line
             → OnOk result (Reads (with_line l number line) self.new) }
-        ensures refused { (l : Log) (number : ℕ) → HasRead l self.old → self.old.has_begun ≡ false
-            → IfErr result (λ fault. fault ≢ NoMemory → with_line l number line ≡ Err fault) }
+        ensures agrees { (l : Log) (number : ℕ) → HasRead l self.old → self.old.has_begun ≡ false
+            → Agrees result (with_line l number line) }
     {
         match line {
-            Line::Folder { name } => name_folder(&mut self.folders, name.as_slice()),
+            Line::Folder { name } => self.put_folder(name.as_slice()),
             Line::File { path, stamp } => self.watch.put_file(&path, stamp),
             Line::Also { path, old } => self.watch.put_name(&path, &old),
             Line::Allow { .. } => Ok(()),
             Line::Step(_) => Ok(()),
         }
+    }
+
+    fn put_folder(&mut self, name: &[u8]) -> Result<(), LineFault>
+        ensures puts { (m : Moment) → Holds (opening m) self.old.watch → OnOk result (Holds (opening (with_more m)) self.new.watch) }
+        ensures folders { OnOk result (with_folder self.old.folders name.now ≡ Ok self.new.folders) }
+        ensures refused { IfErr result (λ fault. fault ≢ NoMemory → with_folder self.old.folders name.now ≡ Err fault) }
+        ensures begun { self.new.has_begun ≡ self.old.has_begun }
+        ensures findings { self.new.findings ≡ self.old.findings }
+    {
+        name_folder(&mut self.folders, name)?;
+        self.watch.put_folder()?;
+        Ok(())
     }
 
     fn take_step(&mut self, number: u64, step: &Step, text: &[u8]) -> Result<(), Why>

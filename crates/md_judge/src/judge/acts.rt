@@ -1,26 +1,10 @@
 //! Calls on paths: what they are defined to answer, and what they do.
-ghost use Rattle.std.specs.Prelude.{◌≡◌, ◌≢◌, ◌↔◌, ◌<◌, ◌+◌, ◌⊎◌, ℕ, suc, List, Some, IsTrue, IsSome, OnOk, true, false, is_some, length};
-ghost use Rattle.md_dirs.specs.State.{State, file_at, has_folder};
-ghost use Rattle.md_dirs.specs.declared.paths.Path.{Path};
-ghost use Rattle.md_law.specs.History.{ask_at, ask_between};
-ghost use Rattle.md_log.specs.declared.line.Deed.TheVariants as deed;
-ghost use Rattle.md_log.specs.declared.clause.Clause.TheVariants as clause;
-ghost use Rattle.md_judge.specs.Law.{turn, IsWrongReply, reply_by};
-ghost use Rattle.md_clauses.specs.Found.{Keeps, NotesOne, NotesFiles, KeepsAnswers};
-ghost use Rattle.md_judge.specs.Acts.{UnlinksPath, IsOlder, Leads};
-ghost use Rattle.md_judge.specs.Filed.{AreFiled, IsJudged, BrokenByFiles};
-ghost use Rattle.md_judge.specs.Logs.{Log};
-ghost use Rattle.md_judge.specs.Mailed.{KeepsPresent, TellsMail, NotesMessages, AreTimed};
-ghost use Rattle.md_judge.specs.Actors.{KeepsDeeds, MarksChange, NotesActs, NotesMoves, GoesWith, ActsByPath, IsActed, acted_by, acted_at, reply_to_name, reply_to_target};
-ghost use Rattle.md_log.specs.declared.line.Step.{Step};
-ghost use Rattle.md_judge.specs.Known.{EachSpot, IsBelow};
-ghost use Rattle.md_clauses.specs.declared.changes.Spot.{Spot};
 
 use super::about::Actors;
+use super::clauses::{Change, NO_CHANGE, Spot, is_wrong};
 use super::filing::Caller;
 use super::known::{Act, Known};
 use super::watch::Watch;
-use md_clauses::{Change, NO_CHANGE, Spot, is_wrong};
 use md_log::{Call, Clause, Deed, Naming, Reply};
 use std::alloc::AllocError;
 
@@ -32,32 +16,7 @@ impl Watch {
         actor: u32,
         call: &Call,
         act: &Act,
-    ) -> Result<(), AllocError>
-        ensures wrong { OnOk result (NotesOne clause.NotADirectory (IsTrue act.now.is_wrong) self.old.found self.new.found) }
-        ensures overwrites { OnOk result (NotesOne clause.Overwritten (IsSome act.now.change.turned) self.old.found self.new.found) }
-        ensures filed { (path : Spot → Path) (who : ℕ → List ℕ) (many i : ℕ) (l : Log) (x : Step) → AreFiled who many l i self.old.files.all.items
-            → IsJudged path who many l i x actor call.now known.now act.now → OnOk result (AreFiled who many l (suc i) self.new.files.all.items) }
-        ensures finds { (path : Spot → Path) (who : ℕ → List ℕ) (many i : ℕ) (l : Log) (x : Step) → AreFiled who many l i self.old.files.all.items
-            → IsJudged path who many l i x actor call.now known.now act.now
-            → OnOk result (NotesFiles (BrokenByFiles (turn l i x)) self.old.found self.new.found) }
-        ensures mailed { (path : Spot → Path) (who : ℕ → List ℕ) (many i : ℕ) (l : Log) (x : Step) → TellsMail known.now.names l i self.old.mail
-            → IsJudged path who many l i x actor call.now known.now act.now → OnOk result (TellsMail known.now.names l (suc i) self.new.mail) }
-        ensures timed { (path : Spot → Path) (who : ℕ → List ℕ) (many i : ℕ) (l : Log) (x : Step) (lines : ℕ → ℕ)
-            → TellsMail known.now.names l i self.old.mail → IsJudged path who many l i x actor call.now known.now act.now
-            → AreTimed lines known.now.names l i self.old.mail → ((a b : ℕ) → a < b → lines a < lines b) → self.old.now ≡ lines i
-            → self.old.now < 4294967295 → OnOk result (AreTimed lines known.now.names l (suc i) self.new.mail) }
-        ensures added { (path : Spot → Path) (who : ℕ → List ℕ) (many i : ℕ) (l : Log) (x : Step) → TellsMail known.now.names l i self.old.mail
-            → IsJudged path who many l i x actor call.now known.now act.now → OnOk result (NotesMessages (turn l i x) self.old.found self.new.found) }
-        ensures acts { self.old.now < 4294967296
-            → OnOk result (NotesActs actor self.old.now (ActsByPath known.now.names act.now call.now) self.old.actors self.new.actors) }
-        ensures moves { OnOk result
-            (NotesMoves actor self.old.now (GoesWith known.now.names act.now.change.taken self.new.mail) self.old.actors self.new.actors) }
-        ensures answers { OnOk result (KeepsAnswers self.old.found self.new.found) }
-        ensures unlisted { OnOk result (Keeps clause.Unlisted self.old.found self.new.found) }
-        ensures present { OnOk result (KeepsPresent self.old.mail self.new.mail) }
-        ensures deeds { OnOk result
-            (MarksChange known.now.names actor act.now.change self.old.mail self.new.mail self.old.actors self.new.actors) }
-    {
+    ) -> Result<(), AllocError> {
         self.found
             .note(act.is_wrong, Clause::NotADirectory, act.wrong_before);
         let by = Caller {
@@ -79,12 +38,7 @@ impl Actors {
         now: usize,
         call: &Call,
         act: &Act,
-    ) -> Result<(), AllocError>
-        ensures acts { now < 4294967296
-            → OnOk result (NotesActs actor now (ActsByPath known.now.names act.now call.now) self.old self.new) }
-        ensures moved { OnOk result (self.new.moved ≡ self.old.moved) }
-        ensures deeds { OnOk result (KeepsDeeds self.old self.new) }
-    {
+    ) -> Result<(), AllocError> {
         self.note_path(known, actor, now, act.spot, reply_to_name(call))?;
         self.note_path(known, actor, now, act.target, reply_to_target(call))
     }
@@ -97,12 +51,7 @@ impl Actors {
         now: usize,
         spot: Option<Spot>,
         reply: Option<Reply>,
-    ) -> Result<(), AllocError>
-        ensures acts { now < 4294967296
-            → OnOk result (NotesActs actor now (IsActed (acted_by known.now.names spot reply)) self.old self.new) }
-        ensures moved { OnOk result (self.new.moved ≡ self.old.moved) }
-        ensures deeds { OnOk result (KeepsDeeds self.old self.new) }
-    {
+    ) -> Result<(), AllocError> {
         let Some(spot) = spot else {
             return Ok(());
         };
@@ -119,12 +68,7 @@ impl Actors {
         now: usize,
         spot: Spot,
         reply: Reply,
-    ) -> Result<(), AllocError>
-        ensures acts { now < 4294967296
-            → OnOk result (NotesActs actor now (IsActed (acted_at known.now.names spot (Some reply))) self.old self.new) }
-        ensures moved { OnOk result (self.new.moved ≡ self.old.moved) }
-        ensures deeds { OnOk result (KeepsDeeds self.old self.new) }
-    {
+    ) -> Result<(), AllocError> {
         if let Some(unique) = known.unique_at(spot) {
             let key = (spot.folder, unique);
             let mut about = self.done(actor, key);
@@ -135,16 +79,12 @@ impl Actors {
     }
 }
 
-fn is_refused(reply: Reply) -> bool
-    ensures { IsTrue result ↔ (reply ≢ Reply.Ok) }
-{
+fn is_refused(reply: Reply) -> bool {
     reply != Reply::Ok
 }
 
 /// The reply to a call that acts on a message by a name of it which it names first.
-fn reply_to_name(call: &Call) -> Option<Reply>
-    ensures { result ≡ reply_to_name call.now }
-{
+fn reply_to_name(call: &Call) -> Option<Reply> {
     match call {
         Call::At {
             deed: Deed::Unlink,
@@ -157,9 +97,7 @@ fn reply_to_name(call: &Call) -> Option<Reply>
 }
 
 /// The reply to a call that acts on a message by a name of it which it names second: a link or rename that is done.
-fn reply_to_target(call: &Call) -> Option<Reply>
-    ensures { result ≡ reply_to_target call.now }
-{
+fn reply_to_target(call: &Call) -> Option<Reply> {
     match call {
         Call::Between {
             reply: Reply::Ok,
@@ -170,25 +108,16 @@ fn reply_to_target(call: &Call) -> Option<Reply>
 }
 
 /// Whether a call on one path answers what it is not defined to answer.
-pub(super) fn is_wrong_at(deed: Deed, is_there: bool, reply: Reply) -> bool
-    ensures { (p : Path) (now : ℕ) (s : State) → has_folder s p ≡ true → is_some (file_at s p) ≡ is_there
-        → IsTrue result ↔ IsWrongReply reply ((ask_at deed p now).refusal s) }
-{
+pub(super) fn is_wrong_at(deed: Deed, is_there: bool, reply: Reply) -> bool {
     is_wrong(reply, defined_at(deed, is_there))
 }
 
 /// Whether a call on two paths, of which the old and the new are there or not, answers what it is not defined to answer.
-pub(super) fn is_wrong_between(naming: Naming, are_there: (bool, bool), reply: Reply) -> bool
-    ensures { (old new : Path) (s : State) → has_folder s new ≡ true → is_some (file_at s old) ≡ are_there.0
-        → is_some (file_at s new) ≡ are_there.1 → IsTrue result ↔ IsWrongReply reply ((ask_between naming old new).refusal s) }
-{
+pub(super) fn is_wrong_between(naming: Naming, are_there: (bool, bool), reply: Reply) -> bool {
     is_wrong(reply, defined_between(naming, are_there.0, are_there.1))
 }
 
-pub(super) fn defined_at(deed: Deed, is_there: bool) -> Reply
-    ensures { (p : Path) (now : ℕ) (s : State) → has_folder s p ≡ true → is_some (file_at s p) ≡ is_there
-        → result ≡ reply_by ((ask_at deed p now).refusal s) }
-{
+pub(super) fn defined_at(deed: Deed, is_there: bool) -> Reply {
     match (deed, is_there) {
         (Deed::Create, true) => Reply::Exists,
         (Deed::Create, false) => Reply::Ok,
@@ -197,10 +126,7 @@ pub(super) fn defined_at(deed: Deed, is_there: bool) -> Reply
     }
 }
 
-pub(super) fn defined_between(naming: Naming, is_old_there: bool, is_new_there: bool) -> Reply
-    ensures { (old new : Path) (s : State) → has_folder s new ≡ true → is_some (file_at s old) ≡ is_old_there
-        → is_some (file_at s new) ≡ is_new_there → result ≡ reply_by ((ask_between naming old new).refusal s) }
-{
+pub(super) fn defined_between(naming: Naming, is_old_there: bool, is_new_there: bool) -> Reply {
     match (naming, is_old_there, is_new_there) {
         (_, false, _) => Reply::NotFound,
         (Naming::Link, true, true) => Reply::Exists,
@@ -209,13 +135,7 @@ pub(super) fn defined_between(naming: Naming, is_old_there: bool, is_new_there: 
 }
 
 /// What a create does that was made, of a file that none was before.
-pub(super) fn create_change(spot: Spot, there: Option<u32>, file: u32) -> Change
-    ensures leads { (path : Spot → Path) (s : State) (now : ℕ) → file_at s (path spot) ≡ there → file ≡ length s.files → IsOlder there file
-        → Leads path result s ((ask_at deed.Create (path spot) now).after s) }
-    ensures spots { EachSpot (λ q. q ≡ spot) result }
-    ensures below { IsBelow (file + 1) result }
-    ensures unlinks { UnlinksPath result.taken result.is_unlink deed.Create Reply.Ok }
-{
+pub(super) fn create_change(spot: Spot, there: Option<u32>, file: u32) -> Change {
     match there {
         None => Change {
             taken: None,
@@ -232,13 +152,7 @@ pub(super) fn create_change(spot: Spot, there: Option<u32>, file: u32) -> Change
     }
 }
 
-pub(super) fn unlink_change(spot: Spot, file: u32) -> Change
-    ensures leads { (path : Spot → Path) (s : State) (now : ℕ) → file_at s (path spot) ≡ Some file
-        → Leads path result s ((ask_at deed.Unlink (path spot) now).after s) }
-    ensures spots { EachSpot (λ q. q ≡ spot) result }
-    ensures below { (bound : ℕ) → IsBelow bound result }
-    ensures unlinks { UnlinksPath result.taken result.is_unlink deed.Unlink Reply.Ok }
-{
+pub(super) fn unlink_change(spot: Spot, file: u32) -> Change {
     Change {
         taken: Some((spot, file)),
         added: None,
@@ -254,13 +168,7 @@ pub(super) fn naming_change(
     new: Spot,
     file: u32,
     there: Option<u32>,
-) -> Change
-    ensures leads { (path : Spot → Path) (s : State) → file_at s (path old) ≡ Some file → file_at s (path new) ≡ there
-        → Leads path result s ((ask_between naming (path old) (path new)).after s) }
-    ensures spots { EachSpot (λ q. (q ≡ old) ⊎ (q ≡ new)) result }
-    ensures below { (bound : ℕ) → file < bound → IsBelow bound result }
-    ensures unlinks { result.is_unlink ≡ false }
-{
+) -> Change {
     let taken = match naming {
         Naming::Link => None,
         Naming::Rename => Some((old, file)),

@@ -1,5 +1,5 @@
 //! Steps by numbers, as far as directories answer them, and which of them have to do with one another.
-use md_clauses::{Name, Spot};
+use super::clauses::{Name, Spot};
 use md_dirs::Place;
 use md_log::{Deed, Naming, Reply, Ticks};
 

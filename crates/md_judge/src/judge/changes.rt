@@ -1,54 +1,22 @@
 //! Changes of paths: the clauses that they break, and what is kept of them.
-ghost use Rattle.std.specs.Prelude.{◌≡◌, ◌+◌, ◌↔◌, ℕ, suc, Some, IsSome, OnOk, true};
-ghost use Rattle.md_dirs.specs.declared.paths.Path.{Path};
-ghost use Rattle.md_log.specs.declared.clause.Clause.TheVariants as clause;
-ghost use Rattle.md_log.specs.declared.line.Call.TheVariants as call;
-ghost use Rattle.md_log.specs.declared.line.Deed.TheVariants as deed;
-ghost use Rattle.md_log.specs.declared.line.Reply.TheVariants as reply;
-ghost use Rattle.md_log.specs.declared.line.Step.{Step};
-ghost use Rattle.md_clauses.specs.declared.changes.Change.{Change};
-ghost use Rattle.md_clauses.specs.declared.changes.Spot.{Spot};
-ghost use Rattle.md_judge.specs.Actors.{GoesBy, GoesWith, KeepsActs, NotesMoves, IsOfMessage, IsOfMissing, OnPath, OnTurned, Unlinks, MarksDeeds, MarksChange, nothing};
-ghost use Rattle.md_judge.specs.Acts.{IsDone, Leads};
-ghost use Rattle.md_judge.specs.Files.{unique_in};
-ghost use Rattle.md_clauses.specs.Found.{Keeps, NotesOne, KeepsPaths, KeepsFiles, KeepsAnswers};
-ghost use Rattle.md_judge.specs.Known.{EachSpot};
-ghost use Rattle.md_judge.specs.Law.{turn, Gone};
-ghost use Rattle.md_judge.specs.Logs.{Log};
-ghost use Rattle.md_judge.specs.Listings.{message_of};
-ghost use Rattle.md_clauses.specs.Befores.{kept_moment};
-ghost use Rattle.md_judge.specs.Mailed.{CameAt, TurnedAt, WentAt, MakesTimes, AddAt, AddStep, TurnAt, TurnStep, TakeAt, TakeStep, MakeStep, TellsMail, NotesAdded, NotesMessages};
-ghost use Rattle.md_judge.specs.Recalled.{IsSpotOf};
-ghost use Rattle.md_judge.specs.Told.{at};
 
 use super::about::Actors;
+use super::clauses::{Change, Going, Spot, line_before, moment_of};
 use super::known::{Act, Known};
 use super::mail::{Mail, Move};
 use super::messages::{check_added, check_taken, leaving};
 use super::watch::Watch;
-use md_clauses::{Change, Going, Spot, line_before, moment_of};
 use md_log::Clause;
 use std::alloc::AllocError;
 
 impl Watch {
     /// Judges a change of paths that was made, and keeps what it does to messages.
-    pub(super) fn change(&mut self, known: &Known, actor: u32, act: &Act) -> Result<(), AllocError>
-        ensures wrong { OnOk result (Keeps clause.NotADirectory self.old.found self.new.found) }
-        ensures overwrites { OnOk result (NotesOne clause.Overwritten (IsSome act.now.change.turned) self.old.found self.new.found) }
-        ensures others { OnOk result (KeepsFiles self.old.found self.new.found) }
-        ensures answers { OnOk result (KeepsAnswers self.old.found self.new.found) }
-        ensures unlisted { OnOk result (Keeps clause.Unlisted self.old.found self.new.found) }
-        ensures files { OnOk result (self.new.files ≡ self.old.files) }
-        ensures mailed { OnOk result (MakeStep known.now.names act.now.change self.old.mail self.new.mail) }
-        ensures times { OnOk result (MakesTimes known.now.names self.old.now act.now.change self.old.mail self.new.mail) }
-        ensures added { (path : Spot → Path) (l : Log) (i : ℕ) (x : Step) → IsDone path known.now.names (turn l i x) act.now
-            → TellsMail known.now.names l i self.old.mail → OnOk result (NotesMessages (turn l i x) self.old.found self.new.found) }
-        ensures acts { OnOk result (KeepsActs self.old.actors self.new.actors) }
-        ensures moves { OnOk result
-            (NotesMoves actor self.old.now (GoesWith known.now.names act.now.change.taken self.new.mail) self.old.actors self.new.actors) }
-        ensures deeds { OnOk result
-            (MarksChange known.now.names actor act.now.change self.old.mail self.new.mail self.old.actors self.new.actors) }
-    {
+    pub(super) fn change(
+        &mut self,
+        known: &Known,
+        actor: u32,
+        act: &Act,
+    ) -> Result<(), AllocError> {
         let change = act.change;
         self.found.note(
             change.turned_from().is_some(),
@@ -62,15 +30,7 @@ impl Watch {
     }
 
     /// A path, where there is one, is to be added: whether its message is there, or was.
-    fn check_coming(&mut self, known: &Known, change: &Change)
-        ensures paths { KeepsPaths self.old.found self.new.found }
-        ensures others { KeepsFiles self.old.found self.new.found }
-        ensures rest { self.new ≡ record self.old { found = self.new.found } }
-        ensures law { (path : Spot → Path) (l : Log) (i : ℕ) (x : Step) → Leads path change.now (at l i) (at l (suc i))
-            → EachSpot (λ q. IsSpotOf known.now.names (path q) q) change.now → TellsMail known.now.names l i self.old.mail
-            → NotesAdded (turn l i x) self.old.found self.new.found }
-        ensures gone { Keeps clause.Gone self.old.found self.new.found }
-    {
+    fn check_coming(&mut self, known: &Known, change: &Change) {
         let Some((spot, file)) = change.added else {
             return;
         };
@@ -83,35 +43,14 @@ impl Watch {
     }
 
     /// A path, where there is one, was taken: whether it was a message's that may not go so.
-    fn check_going(&mut self, known: &Known, change: &Change)
-        ensures paths { KeepsPaths self.old.found self.new.found }
-        ensures others { KeepsFiles self.old.found self.new.found }
-        ensures two { Keeps clause.TwoNames self.old.found self.new.found }
-        ensures again { Keeps clause.UsedAgain self.old.found self.new.found }
-        ensures rest { self.new ≡ record self.old { found = self.new.found } }
-        ensures law { (path : Spot → Path) (l : Log) (i : ℕ) (x : Step) → Leads path change.now (at l i) (at l (suc i))
-            → ((q : Spot) → (path q).place ≡ q.place) → EachSpot (λ q. IsSpotOf known.now.names (path q) q) change.now
-            → ((q : Spot) (n : ℕ) → change.now.taken ≡ Some (q, n)
-            → (change.now.is_unlink ≡ true) ↔ (x.call ≡ call.At deed.Unlink (path q) reply.Ok))
-            → TellsMail known.now.names l (suc i) self.old.mail → NotesOne clause.Gone (Gone (turn l i x)) self.old.found self.new.found }
-    {
+    fn check_going(&mut self, known: &Known, change: &Change) {
         if let Some((spot, file)) = change.taken {
             self.check_taken(known, spot, file, change.is_unlink);
         }
     }
 
     /// A path was taken: whether it was a message's that may not go so.
-    fn check_taken(&mut self, known: &Known, spot: Spot, file: u32, is_unlink: bool)
-        ensures paths { KeepsPaths self.old.found self.new.found }
-        ensures others { KeepsFiles self.old.found self.new.found }
-        ensures two { Keeps clause.TwoNames self.old.found self.new.found }
-        ensures again { Keeps clause.UsedAgain self.old.found self.new.found }
-        ensures rest { self.new ≡ record self.old { found = self.new.found } }
-        ensures law { (path : Spot → Path) (l : Log) (i : ℕ) (x : Step) (c : Change) → Leads path c (at l i) (at l (suc i))
-            → ((q : Spot) → (path q).place ≡ q.place) → EachSpot (λ q. IsSpotOf known.now.names (path q) q) c → c.taken ≡ Some (spot, file)
-            → ((is_unlink ≡ true) ↔ (x.call ≡ call.At deed.Unlink (path spot) reply.Ok))
-            → TellsMail known.now.names l (suc i) self.old.mail → NotesOne clause.Gone (Gone (turn l i x)) self.old.found self.new.found }
-    {
+    fn check_taken(&mut self, known: &Known, spot: Spot, file: u32, is_unlink: bool) {
         let Some(unique) = known.unique_at(spot) else {
             return;
         };
@@ -130,15 +69,7 @@ impl Watch {
     }
 
     /// Keeps what a change does to messages. The new name comes first, so that a message that is renamed in its folder is there all the while.
-    fn make(&mut self, known: &Known, actor: u32, change: Change) -> Result<(), AllocError>
-        ensures found { OnOk result (self.new.found ≡ self.old.found) }
-        ensures files { OnOk result (self.new.files ≡ self.old.files) }
-        ensures mailed { OnOk result (MakeStep known.now.names change self.old.mail self.new.mail) }
-        ensures acts { OnOk result (KeepsActs self.old.actors self.new.actors) }
-        ensures moves { OnOk result (NotesMoves actor self.old.now (GoesWith known.now.names change.taken self.new.mail) self.old.actors self.new.actors) }
-        ensures times { OnOk result (MakesTimes known.now.names self.old.now change self.old.mail self.new.mail) }
-        ensures deeds { OnOk result (MarksChange known.now.names actor change self.old.mail self.new.mail self.old.actors self.new.actors) }
-    {
+    fn make(&mut self, known: &Known, actor: u32, change: Change) -> Result<(), AllocError> {
         self.add(known, actor, change.added)?;
         self.turn(known, actor, change.turned)?;
         self.take(known, actor, change.taken, change.is_unlink)
@@ -149,18 +80,7 @@ impl Watch {
         known: &Known,
         actor: u32,
         added: Option<(Spot, u32)>,
-    ) -> Result<(), AllocError>
-        ensures found { OnOk result (self.new.found ≡ self.old.found) }
-        ensures files { OnOk result (self.new.files ≡ self.old.files) }
-        ensures mailed { OnOk result (AddStep known.now.names added self.old.mail self.new.mail) }
-        ensures acts { OnOk result (KeepsActs self.old.actors self.new.actors) }
-        ensures moved { OnOk result (self.new.actors.moved ≡ self.old.actors.moved) }
-        ensures times { OnOk result ((folder u : ℕ) → CameAt known.now.names (kept_moment (self.old.now + 1)) added folder u
-            (message_of self.old.mail folder u) (message_of self.new.mail folder u)) }
-        ensures now { OnOk result (self.new.now ≡ self.old.now) }
-        ensures deeds { OnOk result (MarksDeeds actor (OnPath (IsOfMissing known.now.names self.old.mail) added)
-            (OnPath (IsOfMessage known.now.names) added) nothing self.old.actors self.new.actors) }
-    {
+    ) -> Result<(), AllocError> {
         let Some((spot, file)) = added else {
             return Ok(());
         };
@@ -175,18 +95,7 @@ impl Watch {
         known: &Known,
         actor: u32,
         turned: Option<(Spot, u32, u32)>,
-    ) -> Result<(), AllocError>
-        ensures found { OnOk result (self.new.found ≡ self.old.found) }
-        ensures files { OnOk result (self.new.files ≡ self.old.files) }
-        ensures mailed { OnOk result (TurnStep known.now.names turned self.old.mail self.new.mail) }
-        ensures acts { OnOk result (KeepsActs self.old.actors self.new.actors) }
-        ensures moved { OnOk result (self.new.actors.moved ≡ self.old.actors.moved) }
-        ensures times { OnOk result ((folder u : ℕ) → TurnedAt known.now.names turned folder u
-            (message_of self.old.mail folder u) (message_of self.new.mail folder u)) }
-        ensures now { OnOk result (self.new.now ≡ self.old.now) }
-        ensures deeds { OnOk result
-            (MarksDeeds actor nothing (OnTurned (IsOfMessage known.now.names) turned) nothing self.old.actors self.new.actors) }
-    {
+    ) -> Result<(), AllocError> {
         let Some((spot, old, new)) = turned else {
             return Ok(());
         };
@@ -199,17 +108,7 @@ impl Watch {
         actor: u32,
         taken: Option<(Spot, u32)>,
         is_unlink: bool,
-    ) -> Result<(), AllocError>
-        ensures found { OnOk result (self.new.found ≡ self.old.found) }
-        ensures files { OnOk result (self.new.files ≡ self.old.files) }
-        ensures mailed { OnOk result (TakeStep known.now.names taken self.old.mail self.new.mail) }
-        ensures acts { OnOk result (KeepsActs self.old.actors self.new.actors) }
-        ensures moves { OnOk result (NotesMoves actor self.old.now (GoesWith known.now.names taken self.new.mail) self.old.actors self.new.actors) }
-        ensures times { OnOk result ((folder u : ℕ) → WentAt known.now.names self.old.now taken folder u
-            (message_of self.old.mail folder u) (message_of self.new.mail folder u)) }
-        ensures deeds { OnOk result (MarksDeeds actor nothing (OnPath (IsOfMessage known.now.names) taken)
-            (Unlinks known.now.names self.new.mail taken is_unlink) self.old.actors self.new.actors) }
-    {
+    ) -> Result<(), AllocError> {
         let Some((spot, file)) = taken else {
             return Ok(());
         };
@@ -225,17 +124,7 @@ impl Watch {
         spot: Spot,
         old: u32,
         new: u32,
-    ) -> Result<(), AllocError>
-        ensures found { OnOk result (self.new.found ≡ self.old.found) }
-        ensures files { OnOk result (self.new.files ≡ self.old.files) }
-        ensures now { OnOk result (self.new.now ≡ self.old.now) }
-        ensures mailed { OnOk result (TurnAt (unique_in known.now.names spot) spot old new self.old.mail self.new.mail) }
-        ensures acts { OnOk result (KeepsActs self.old.actors self.new.actors) }
-        ensures moved { OnOk result (self.new.actors.moved ≡ self.old.actors.moved) }
-        ensures times { OnOk result ((folder u : ℕ) → TurnedAt known.now.names (Some (spot, old, new)) folder u
-            (message_of self.old.mail folder u) (message_of self.new.mail folder u)) }
-        ensures deeds { OnOk result (MarksDeeds actor nothing (IsOfMessage known.now.names spot) nothing self.old.actors self.new.actors) }
-    {
+    ) -> Result<(), AllocError> {
         let Some(unique) = known.unique_at(spot) else {
             return Ok(());
         };
@@ -257,12 +146,7 @@ impl Actors {
         actor: u32,
         now: usize,
         spot: Spot,
-    ) -> Result<(), AllocError>
-        ensures acts { OnOk result (KeepsActs self.old self.new) }
-        ensures moved { OnOk result (self.new.moved ≡ self.old.moved) }
-        ensures deeds { OnOk result (MarksDeeds actor (IsOfMissing known.now.names mail.now spot) (IsOfMessage known.now.names spot)
-            nothing self.old self.new) }
-    {
+    ) -> Result<(), AllocError> {
         if let Some(unique) = known.unique_at(spot) {
             let key = (spot.folder, unique);
             let is_added = mail.count(key) == 0;
@@ -282,12 +166,7 @@ impl Actors {
         now: usize,
         spot: Spot,
         is_unlink: bool,
-    ) -> Result<(), AllocError>
-        ensures acts { OnOk result (KeepsActs self.old self.new) }
-        ensures moves { OnOk result (NotesMoves actor now (GoesBy known.now.names spot mail.now) self.old self.new) }
-        ensures deeds { OnOk result (MarksDeeds actor nothing (IsOfMessage known.now.names spot)
-            (λ k. IsOfMissing known.now.names mail.now spot k × (is_unlink ≡ true)) self.old self.new) }
-    {
+    ) -> Result<(), AllocError> {
         let Some(unique) = known.unique_at(spot) else {
             return Ok(());
         };
@@ -316,11 +195,7 @@ impl Mail {
         at: usize,
         spot: Spot,
         file: u32,
-    ) -> Result<(), AllocError>
-        ensures mailed { OnOk result (AddAt (unique_in known.now.names spot) spot file self.old self.new) }
-        ensures times { OnOk result ((folder u : ℕ) → CameAt known.now.names (kept_moment at) (Some (spot, file)) folder u
-            (message_of self.old folder u) (message_of self.new folder u)) }
-    {
+    ) -> Result<(), AllocError> {
         let Some(unique) = known.unique_at(spot) else {
             return Ok(());
         };
@@ -337,11 +212,7 @@ impl Mail {
         at: usize,
         spot: Spot,
         file: u32,
-    ) -> Result<(), AllocError>
-        ensures mailed { OnOk result (TakeAt (unique_in known.now.names spot) spot file self.old self.new) }
-        ensures times { OnOk result ((folder u : ℕ) → WentAt known.now.names at (Some (spot, file)) folder u
-            (message_of self.old folder u) (message_of self.new folder u)) }
-    {
+    ) -> Result<(), AllocError> {
         let Some(unique) = known.unique_at(spot) else {
             return Ok(());
         };

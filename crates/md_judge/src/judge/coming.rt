@@ -1,7 +1,7 @@
 //! The steps that may come next, and which of them go first or touch a path.
 use super::asked::{Asked, Deal};
+use super::clauses::{Name, Spot};
 use super::search::Way;
-use md_clauses::{Name, Spot};
 use std::alloc::{AllocError, Global};
 use std::collections::BTreeSet;
 

@@ -1,6 +1,4 @@
 //! Which messages files are copies of.
-ghost use Rattle.std.specs.Prelude.{◌≡◌, ◌↔◌, ◌<◌, ℕ, IsTrue, IfOk, OnOk, slice_get, true};
-ghost use Rattle.md_judge.specs.Mailed.{copies_by, copies_of, is_place, Recounts, one_more, one_fewer};
 
 use std::alloc::{AllocError, Global};
 use std::collections::BTreeMap;
@@ -24,18 +22,14 @@ pub(super) struct Copied {
 }
 
 impl Copied {
-    pub(super) fn new(alloc: Global) -> Self
-        ensures { (n u : ℕ) → copies_of result n u ≡ 0 }
-    {
+    pub(super) fn new(alloc: Global) -> Self {
         Copied {
             first: Vec::new(alloc),
             others: BTreeMap::new(alloc),
         }
     }
 
-    pub(super) fn has(&self, file: u32, unique: u32) -> bool
-        ensures { IsTrue result ↔ (0 < copies_of self.now file unique) }
-    {
+    pub(super) fn has(&self, file: u32, unique: u32) -> bool {
         if self.first_count(file, unique) > 0 {
             return true;
         }
@@ -45,9 +39,7 @@ impl Copied {
         }
     }
 
-    fn first_count(&self, file: u32, unique: u32) -> u32
-        ensures { result ≡ copies_by (slice_get self.now.first.items file) unique }
-    {
+    fn first_count(&self, file: u32, unique: u32) -> u32 {
         match self.first.get(file as usize) {
             Some(first) if first.unique == unique => first.count,
             _ => 0,
@@ -55,9 +47,7 @@ impl Copied {
     }
 
     /// One path more. Where the place of the first unique name is free, any name takes it.
-    pub(super) fn add(&mut self, file: u32, unique: u32) -> Result<(), AllocError>
-        ensures { OnOk result (Recounts file unique one_more self.old self.new) }
-    {
+    pub(super) fn add(&mut self, file: u32, unique: u32) -> Result<(), AllocError> {
         self.make_room(file)?;
         if self.is_place(file, unique) {
             return self.add_first(file, unique);
@@ -68,18 +58,14 @@ impl Copied {
     }
 
     /// Whether the file's first place is that of the unique name, or free.
-    fn is_place(&self, file: u32, unique: u32) -> bool
-        ensures { result ≡ is_place (slice_get self.now.first.items file) unique }
-    {
+    fn is_place(&self, file: u32, unique: u32) -> bool {
         match self.first.get(file as usize) {
             None => false,
             Some(first) => first.unique == unique || first.count == 0,
         }
     }
 
-    fn add_first(&mut self, file: u32, unique: u32) -> Result<(), AllocError>
-        ensures { is_place (slice_get self.old.first.items file) unique ≡ true → OnOk result (Recounts file unique one_more self.old self.new) }
-    {
+    fn add_first(&mut self, file: u32, unique: u32) -> Result<(), AllocError> {
         if let Some(first) = self.first.get_mut(file as usize) {
             first.unique = unique;
             first.count = one_more(first.count)?;
@@ -87,18 +73,14 @@ impl Copied {
         Ok(())
     }
 
-    fn make_room(&mut self, file: u32) -> Result<(), AllocError>
-        ensures { OnOk result ((n u : ℕ) → copies_of self.new n u ≡ copies_of self.old n u) }
-    {
+    fn make_room(&mut self, file: u32) -> Result<(), AllocError> {
         for _ in self.first.len()..=file as usize {
             self.first.push(NO_COPIES)?;
         }
         Ok(())
     }
 
-    pub(super) fn remove(&mut self, file: u32, unique: u32)
-        ensures { Recounts file unique one_fewer self.old self.new }
-    {
+    pub(super) fn remove(&mut self, file: u32, unique: u32) {
         if self.first_count(file, unique) == 0 {
             self.remove_other(file, unique);
         } else {
@@ -106,17 +88,13 @@ impl Copied {
         }
     }
 
-    fn remove_first(&mut self, file: u32, unique: u32)
-        ensures { 0 < copies_by (slice_get self.old.first.items file) unique → Recounts file unique one_fewer self.old self.new }
-    {
+    fn remove_first(&mut self, file: u32, unique: u32) {
         if let Some(first) = self.first.get_mut(file as usize) {
             first.count = first.count.saturating_sub(1);
         }
     }
 
-    fn remove_other(&mut self, file: u32, unique: u32)
-        ensures { copies_by (slice_get self.old.first.items file) unique ≡ 0 → Recounts file unique one_fewer self.old self.new }
-    {
+    fn remove_other(&mut self, file: u32, unique: u32) {
         if let Some(count) = self.others.get_mut(&(file, unique)) {
             *count = count.saturating_sub(1);
         }
@@ -124,9 +102,7 @@ impl Copied {
 }
 
 /// A count with one more. More than 4,294,967,295 are not counted.
-fn one_more(count: u32) -> Result<u32, AllocError>
-    ensures { IfOk result (λ more. more ≡ one_more count) }
-{
+fn one_more(count: u32) -> Result<u32, AllocError> {
     match count {
         u32::MAX => Err(AllocError),
         count => Ok(count + 1),

@@ -1,15 +1,7 @@
 //! The names that are in directories.
-ghost use Rattle.std.specs.Prelude.{◌≡◌, [], Some, None, OnOk, slice_get, unwrap_or};
-ghost use Rattle.std.specs.Option.{option_copied};
-ghost use Rattle.std.specs.Ordering.{nat_cmp};
-ghost use Rattle.std.specs.BTreeMap.{IsOrdered};
-ghost use Rattle.md_dirs.specs.Index.{directory_number};
-ghost use Rattle.md_judge.specs.Known.{file_in, Puts, Makes, since_in, was_in, AddsEmpty, PutsMoments, MakesMoments};
-ghost use Rattle.md_judge.specs.Listings.{was_of};
-ghost use Rattle.md_clauses.specs.Befores.{kept_moment};
 
+use super::clauses::{Change, Moment, Name, Spot, line_before, moment_of};
 use super::mixed::mixed_name;
-use md_clauses::{Change, Moment, Name, Spot, line_before, moment_of};
 use md_dirs::Place;
 use std::alloc::{AllocError, Global};
 use std::collections::BTreeMap;
@@ -30,17 +22,13 @@ pub(super) struct Directory {
 }
 
 impl Directory {
-    pub(super) fn was(&self, name: Name) -> Option<Moment>
-        ensures { result ≡ was_of self.now name }
-    {
+    pub(super) fn was(&self, name: Name) -> Option<Moment> {
         self.was.get(&mixed_name(name)).copied()
     }
 
     /// Nothing is done: the names are in order.
     #[inline(always)]
-    pub(super) fn are_in_order(&self)
-        ensures { IsOrdered nat_cmp self.now.names }
-    {
+    pub(super) fn are_in_order(&self) {
         let _ = self.names.len();
     }
 
@@ -61,27 +49,21 @@ pub(super) struct Directories {
 }
 
 impl Directories {
-    pub(super) fn new(alloc: Global) -> Self
-        ensures { result.all.items ≡ [] }
-    {
+    pub(super) fn new(alloc: Global) -> Self {
         Directories {
             alloc,
             all: Vec::new(alloc),
         }
     }
 
-    pub(super) fn add_folder(&mut self) -> Result<(), AllocError>
-        ensures { OnOk result (AddsEmpty 3 self.old.all.items self.new.all.items) }
-    {
+    pub(super) fn add_folder(&mut self) -> Result<(), AllocError> {
         for _ in 0..3u8 {
             self.add_directory()?;
         }
         Ok(())
     }
 
-    fn add_directory(&mut self) -> Result<(), AllocError>
-        ensures { OnOk result (AddsEmpty 1 self.old.all.items self.new.all.items) }
-    {
+    fn add_directory(&mut self) -> Result<(), AllocError> {
         self.all.push(Directory {
             names: BTreeMap::new(self.alloc),
             was: BTreeMap::new(self.alloc),
@@ -89,15 +71,11 @@ impl Directories {
         Ok(())
     }
 
-    pub(super) fn directory(&self, folder: u32, place: Place) -> Option<&Directory>
-        ensures { option_copied result ≡ slice_get self.now.all.items (directory_number folder place) }
-    {
+    pub(super) fn directory(&self, folder: u32, place: Place) -> Option<&Directory> {
         self.all.get(number_of(folder, place))
     }
 
-    pub(super) fn file_at(&self, spot: Spot) -> Option<u32>
-        ensures { result ≡ file_in self.now.all.items spot }
-    {
+    pub(super) fn file_at(&self, spot: Spot) -> Option<u32> {
         let directory = self.directory(spot.folder, spot.place)?;
         let named = directory.names.get(&spot.name)?;
         Some(named.file)
@@ -118,18 +96,12 @@ impl Directories {
     }
 
     /// A path is there from the moment `at` on.
-    pub(super) fn add(&mut self, at: usize, spot: Spot, file: u32) -> Result<(), AllocError>
-        ensures files { OnOk result (Puts spot (Some file) self.old.all.items self.new.all.items) }
-        ensures moments { OnOk result (PutsMoments spot (Some (kept_moment at)) (was_in self.old.all.items spot) self.old.all.items self.new.all.items) }
-    {
+    pub(super) fn add(&mut self, at: usize, spot: Spot, file: u32) -> Result<(), AllocError> {
         let since = moment_of(at);
         self.put(spot, Named { file, since })
     }
 
-    fn put(&mut self, spot: Spot, named: Named) -> Result<(), AllocError>
-        ensures files { OnOk result (Puts spot (Some named.file) self.old.all.items self.new.all.items) }
-        ensures moments { OnOk result (PutsMoments spot (Some named.since) (was_in self.old.all.items spot) self.old.all.items self.new.all.items) }
-    {
+    fn put(&mut self, spot: Spot, named: Named) -> Result<(), AllocError> {
         if let Some(directory) = self.all.get_mut(number_of(spot.folder, spot.place)) {
             directory.names.insert(spot.name, named)?;
         }
@@ -137,28 +109,19 @@ impl Directories {
     }
 
     /// A path, which is there, names another file.
-    fn turn(&mut self, at: usize, spot: Spot, file: u32) -> Result<(), AllocError>
-        ensures files { OnOk result (Puts spot (Some file) self.old.all.items self.new.all.items) }
-        ensures moments { OnOk result (PutsMoments spot (Some (unwrap_or (since_in self.old.all.items spot) (kept_moment at))) (was_in self.old.all.items spot)
-            self.old.all.items self.new.all.items) }
-    {
+    fn turn(&mut self, at: usize, spot: Spot, file: u32) -> Result<(), AllocError> {
         let since = self.since(spot).unwrap_or(moment_of(at));
         self.put(spot, Named { file, since })
     }
 
-    fn since(&self, spot: Spot) -> Option<Moment>
-        ensures { result ≡ since_in self.now.all.items spot }
-    {
+    fn since(&self, spot: Spot) -> Option<Moment> {
         let directory = self.directory(spot.folder, spot.place)?;
         let named = directory.names.get(&spot.name)?;
         Some(named.since)
     }
 
     /// A path was there for the last time at the moment `at`.
-    fn take(&mut self, at: usize, spot: Spot) -> Result<(), AllocError>
-        ensures files { OnOk result (Puts spot None self.old.all.items self.new.all.items) }
-        ensures moments { OnOk result (PutsMoments spot None (Some (kept_moment at)) self.old.all.items self.new.all.items) }
-    {
+    fn take(&mut self, at: usize, spot: Spot) -> Result<(), AllocError> {
         if let Some(directory) = self.all.get_mut(number_of(spot.folder, spot.place)) {
             directory.names.remove(&spot.name);
             let name = mixed_name(spot.name);
@@ -167,10 +130,7 @@ impl Directories {
         Ok(())
     }
 
-    pub(super) fn make(&mut self, line: usize, change: Change) -> Result<(), AllocError>
-        ensures files { OnOk result (Makes change self.old.all.items self.new.all.items) }
-        ensures moments { OnOk result (MakesMoments change line self.old.all.items self.new.all.items) }
-    {
+    pub(super) fn make(&mut self, line: usize, change: Change) -> Result<(), AllocError> {
         let next = line.saturating_add(1);
         if let Some((spot, _)) = change.taken {
             self.take(line, spot)?;
@@ -185,8 +145,6 @@ impl Directories {
     }
 }
 
-fn number_of(folder: u32, place: Place) -> usize
-    ensures { result ≡ directory_number folder place }
-{
+fn number_of(folder: u32, place: Place) -> usize {
     folder as usize * 3 + place as usize
 }

@@ -1,11 +1,6 @@
 //! The files, with what was done to them.
-ghost use Rattle.std.specs.Prelude.{◌≡◌, [], OnOk};
-ghost use Rattle.std.specs.Option.{option_map};
-ghost use Rattle.md_judge.specs.declared.judge.files.Filed.{Filed};
-ghost use Rattle.md_clauses.specs.Facts.{made, written, flushed, shown, hidden};
-ghost use Rattle.md_judge.specs.Files.{facts_at, Changes, Adds};
 
-use md_clauses::{FileFacts, Mark, NO_MARK};
+use super::clauses::{FileFacts, Mark, NO_MARK};
 use md_log::Reply;
 use std::alloc::{AllocError, Global};
 
@@ -59,9 +54,7 @@ pub(super) struct Files {
 }
 
 impl Files {
-    pub(super) fn new(alloc: Global) -> Self
-        ensures { result.all.items ≡ [] }
-    {
+    pub(super) fn new(alloc: Global) -> Self {
         Files {
             all: Vec::new(alloc),
         }
@@ -72,9 +65,7 @@ impl Files {
         line: Mark,
         maker: Option<u32>,
         stamp: u64,
-    ) -> Result<(), AllocError>
-        ensures { OnOk result (Adds (made maker stamp) self.old.all.items self.new.all.items) }
-    {
+    ) -> Result<(), AllocError> {
         if self.all.len() >= MOST_FILES as usize {
             return Err(AllocError);
         }
@@ -85,32 +76,24 @@ impl Files {
         Ok(())
     }
 
-    pub(super) fn file(&self, file: u32) -> Option<Filed>
-        ensures { option_map (λ (f : Filed). f.facts) result ≡ facts_at self.now.all.items file }
-    {
+    pub(super) fn file(&self, file: u32) -> Option<Filed> {
         self.all.get(file as usize).copied()
     }
 
-    pub(super) fn write(&mut self, line: Mark, file: u32, reply: Reply, now: u64)
-        ensures { Changes file (written reply now) self.old.all.items self.new.all.items }
-    {
+    pub(super) fn write(&mut self, line: Mark, file: u32, reply: Reply, now: u64) {
         if let Some(filed) = self.all.get_mut(file as usize) {
             filed.facts.write(reply, now);
             filed.lines.write(line, reply);
         }
     }
 
-    pub(super) fn flush(&mut self, file: u32, reply: Reply)
-        ensures { Changes file (flushed reply) self.old.all.items self.new.all.items }
-    {
+    pub(super) fn flush(&mut self, file: u32, reply: Reply) {
         if let Some(filed) = self.all.get_mut(file as usize) {
             filed.facts.flush(reply);
         }
     }
 
-    pub(super) fn show(&mut self, line: Mark, file: u32, in_cur: bool) -> Result<(), AllocError>
-        ensures { OnOk result (Changes file (shown in_cur) self.old.all.items self.new.all.items) }
-    {
+    pub(super) fn show(&mut self, line: Mark, file: u32, in_cur: bool) -> Result<(), AllocError> {
         if let Some(filed) = self.all.get_mut(file as usize) {
             filed.lines.show(line, &filed.facts, in_cur);
             filed.facts.show(in_cur)?;
@@ -118,9 +101,7 @@ impl Files {
         Ok(())
     }
 
-    pub(super) fn hide(&mut self, file: u32)
-        ensures { Changes file hidden self.old.all.items self.new.all.items }
-    {
+    pub(super) fn hide(&mut self, file: u32) {
         if let Some(filed) = self.all.get_mut(file as usize) {
             filed.facts.hide();
         }

@@ -1,14 +1,10 @@
 //! Which readings are looks at a folder. Who was refused, and looks again, has not given up.
-ghost use Rattle.std.specs.Prelude.{◌≡◌};
-ghost use Rattle.md_judge.specs.Actors.{is_look, looked_after};
 
 use md_dirs::Place;
 use md_log::Reply;
 
 /// Whether a part of a reading, which answers so, is a look at the folder: it shows names of new or cur.
-fn is_look(place: Place, reply: Reply) -> bool
-    ensures { result ≡ is_look place reply }
-{
+fn is_look(place: Place, reply: Reply) -> bool {
     match place {
         Place::Tmp => false,
         _ => matches!(reply, Reply::Ok | Reply::More),
@@ -21,9 +17,7 @@ pub(super) fn looked_after(
     reply: Reply,
     line: usize,
     last: Option<usize>,
-) -> Option<usize>
-    ensures { result ≡ looked_after place reply line last }
-{
+) -> Option<usize> {
     if is_look(place, reply) {
         Some(line)
     } else {

@@ -1,13 +1,7 @@
 //! The messages of folders.
-ghost use Rattle.std.specs.Prelude.{◌≡◌, ◌↔◌, ◌⊎◌, ◌+◌, ◌-◌, ◌<◌, ◌++◌, ◌∷◌, ℕ, [], Some, None, IsTrue, IsSome, OnOk, IfOk, is_some, slice_get, slice_set};
-ghost use Rattle.std.specs.Option.{option_copied};
-ghost use Rattle.md_judge.specs.Messages.{WasFile};
-ghost use Rattle.md_judge.specs.Listings.{is_of, times_of, was_in, was_through, message_of, present_in, IsIn};
-ghost use Rattle.md_judge.specs.Mailed.{copies_of, count_of, count_after, IsBy, Moves, MovesOne, MakesOne, Prepares, KeepsOthers, is_free, is_first, fresh, begun, Recounts, one_more, one_fewer, TimedBy, KeepsSets, AddsFolder};
-ghost use Rattle.md_judge.specs.Said.{presence_by};
 
+use super::clauses::{Moment, Presence, line_before, moment_of};
 use super::copied::Copied;
-use md_clauses::{Moment, Presence, line_before, moment_of};
 use std::alloc::{AllocError, Global};
 use std::collections::{BTreeMap, BTreeSet};
 
@@ -48,9 +42,7 @@ pub(super) enum Move {
 }
 
 impl Message {
-    fn new(folder: u32, since: Moment, file: u32) -> Self
-        ensures { result ≡ fresh folder since file }
-    {
+    fn new(folder: u32, since: Moment, file: u32) -> Self {
         Message {
             folder,
             count: 0,
@@ -60,18 +52,11 @@ impl Message {
         }
     }
 
-    fn is_of(&self, folder: u32) -> bool
-        ensures { result ≡ is_of self.now folder }
-    {
+    fn is_of(&self, folder: u32) -> bool {
         self.folder == folder && folder != NO_FOLDER
     }
 
-    fn begin_past(&mut self, alloc: Global) -> Result<(), AllocError>
-        ensures more { OnOk result (self.new ≡ record self.old { more = self.new.more }) }
-        ensures files { OnOk result ((n : ℕ) → WasFile self.new n ↔ WasFile self.old n) }
-        ensures some { OnOk result (IsSome self.new.more) }
-        ensures times { OnOk result (times_of self.new ≡ times_of self.old) }
-    {
+    fn begin_past(&mut self, alloc: Global) -> Result<(), AllocError> {
         if self.more.is_none() {
             let past = Past {
                 times: Vec::new(alloc),
@@ -83,9 +68,7 @@ impl Message {
     }
 
     /// Whether it was there from a moment to another, which is no later than now.
-    pub(super) fn was_there(&self, first: usize, last: usize) -> bool
-        ensures { result ≡ was_in self.now first last }
-    {
+    pub(super) fn was_there(&self, first: usize, last: usize) -> bool {
         if self.count > 0 && self.since as usize <= first {
             return true;
         }
@@ -100,9 +83,7 @@ impl Message {
         Some(past.times.last()?.1)
     }
 
-    pub(super) fn was_file(&self, file: u32) -> bool
-        ensures { IsTrue result ↔ WasFile self.now file }
-    {
+    pub(super) fn was_file(&self, file: u32) -> bool {
         if self.file == file {
             return true;
         }
@@ -112,11 +93,7 @@ impl Message {
         }
     }
 
-    fn make(&mut self, alloc: Global, step: Move) -> Result<(), AllocError>
-        ensures moves { OnOk result (Moves (count_after step) (IsBy step) (Some self.old) (Some self.new)) }
-        ensures folder { OnOk result (self.new.folder ≡ self.old.folder) }
-        ensures times { OnOk result (TimedBy step (Some self.old) (Some self.new)) }
-    {
+    fn make(&mut self, alloc: Global, step: Move) -> Result<(), AllocError> {
         match step {
             Move::Comes { since, file } => {
                 self.come(since)?;
@@ -128,11 +105,7 @@ impl Message {
     }
 
     /// It has one more path, from a moment on. More than 4,294,967,295 are not counted.
-    fn come(&mut self, since: Moment) -> Result<(), AllocError>
-        ensures rest { OnOk result (self.new ≡ record self.old { count = self.old.count + 1; since = self.new.since }) }
-        ensures begins { OnOk result (self.old.count ≡ 0 → self.new.since ≡ since) }
-        ensures goes_on { OnOk result (0 < self.old.count → self.new.since ≡ self.old.since) }
-    {
+    fn come(&mut self, since: Moment) -> Result<(), AllocError> {
         if self.count == u32::MAX {
             return Err(AllocError);
         }
@@ -143,11 +116,7 @@ impl Message {
         Ok(())
     }
 
-    fn be(&mut self, alloc: Global, file: u32) -> Result<(), AllocError>
-        ensures more { OnOk result (self.new ≡ record self.old { more = self.new.more }) }
-        ensures files { OnOk result ((n : ℕ) → WasFile self.new n ↔ (WasFile self.old n ⊎ (n ≡ file))) }
-        ensures times { OnOk result (times_of self.new ≡ times_of self.old) }
-    {
+    fn be(&mut self, alloc: Global, file: u32) -> Result<(), AllocError> {
         if self.was_file(file) {
             return Ok(());
         }
@@ -159,14 +128,7 @@ impl Message {
     }
 
     /// It has one path fewer: where it has none, the moment was its last.
-    fn go(&mut self, alloc: Global, last: usize) -> Result<(), AllocError>
-        ensures count { OnOk result (self.new.count ≡ self.old.count - 1) }
-        ensures folder { OnOk result (self.new.folder ≡ self.old.folder) }
-        ensures files { OnOk result ((n : ℕ) → WasFile self.new n ↔ WasFile self.old n) }
-        ensures since { OnOk result (self.new.since ≡ self.old.since) }
-        ensures ends { OnOk result (self.new.count ≡ 0 → times_of self.new ≡ times_of self.old ++ (self.old.since, last) ∷ []) }
-        ensures stays { OnOk result (0 < self.new.count → times_of self.new ≡ times_of self.old) }
-    {
+    fn go(&mut self, alloc: Global, last: usize) -> Result<(), AllocError> {
         self.count = self.count.saturating_sub(1);
         if self.count > 0 {
             return Ok(());
@@ -180,9 +142,7 @@ impl Message {
 }
 
 /// Whether one of some times, each after the other, goes from a moment to another.
-fn was_through(times: &[(usize, usize)], first: usize, last: usize) -> bool
-    ensures { result ≡ was_through times.now first last }
-{
+fn was_through(times: &[(usize, usize)], first: usize, last: usize) -> bool {
     for at in (0..times.len()).rev() {
         let (begin, end) = times[at];
         if end < last {
@@ -206,11 +166,7 @@ pub(super) struct Mail {
 }
 
 impl Mail {
-    pub(super) fn new(alloc: Global) -> Self
-        ensures messages { (folder u : ℕ) → message_of result folder u ≡ None }
-        ensures present { result.present.items ≡ [] }
-        ensures copies { (n u : ℕ) → copies_of result.copied n u ≡ 0 }
-    {
+    pub(super) fn new(alloc: Global) -> Self {
         Mail {
             alloc,
             first: Vec::new(alloc),
@@ -220,38 +176,25 @@ impl Mail {
         }
     }
 
-    pub(super) fn add_folder(&mut self) -> Result<(), AllocError>
-        ensures rest { self.new ≡ record self.old { present = self.new.present } }
-        ensures present { OnOk result (AddsFolder self.old self.new) }
-    {
+    pub(super) fn add_folder(&mut self) -> Result<(), AllocError> {
         self.present.push(BTreeSet::new(self.alloc))?;
         Ok(())
     }
 
-    pub(super) fn message(&self, key: Key) -> Option<&Message>
-        ensures { option_copied result ≡ message_of self.now key.0 key.1 }
-    {
+    pub(super) fn message(&self, key: Key) -> Option<&Message> {
         match self.first.get(key.1 as usize) {
             Some(first) if first.is_of(key.0) => Some(first),
             _ => self.others.get(&key),
         }
     }
 
-    pub(super) fn make(&mut self, key: Key, step: Move) -> Result<(), AllocError>
-        ensures moves { OnOk result (MovesOne key.0 key.1 (count_after step) (IsBy step) self.old self.new) }
-        ensures copied { OnOk result (self.new.copied ≡ self.old.copied) }
-        ensures times { OnOk result (TimedBy step (message_of self.old key.0 key.1) (message_of self.new key.0 key.1)) }
-    {
+    pub(super) fn make(&mut self, key: Key, step: Move) -> Result<(), AllocError> {
         self.prepare(key, step)?;
         self.make_message(key, step)?;
         self.keep_present(key, step)
     }
 
-    fn prepare(&mut self, key: Key, step: Move) -> Result<(), AllocError>
-        ensures prepares { OnOk result (Prepares step key.0 key.1 self.old self.new) }
-        ensures present { OnOk result (self.new.present ≡ self.old.present) }
-        ensures copied { OnOk result (self.new.copied ≡ self.old.copied) }
-    {
+    fn prepare(&mut self, key: Key, step: Move) -> Result<(), AllocError> {
         match step {
             Move::Comes { since, file } => self.begin(since, key, file),
             Move::Turns { .. } => Ok(()),
@@ -259,13 +202,7 @@ impl Mail {
         }
     }
 
-    fn make_message(&mut self, key: Key, step: Move) -> Result<(), AllocError>
-        ensures moves { OnOk result (MakesOne key.0 key.1 step self.old self.new) }
-        ensures present { OnOk result (self.new.present ≡ self.old.present) }
-        ensures copied { OnOk result (self.new.copied ≡ self.old.copied) }
-        ensures times { OnOk result (IsSome (message_of self.old key.0 key.1)
-            → TimedBy step (message_of self.old key.0 key.1) (message_of self.new key.0 key.1)) }
-    {
+    fn make_message(&mut self, key: Key, step: Move) -> Result<(), AllocError> {
         let alloc = self.alloc;
         if self.is_first(key) {
             if let Some(first) = self.first.get_mut(key.1 as usize) {
@@ -277,10 +214,7 @@ impl Mail {
         Ok(())
     }
 
-    fn keep_present(&mut self, key: Key, step: Move) -> Result<(), AllocError>
-        ensures rest { OnOk result (self.new ≡ record self.old { present = self.new.present }) }
-        ensures present { OnOk result (KeepsSets key.0 key.1 step (count_of (message_of self.old key.0 key.1)) self.old self.new) }
-    {
+    fn keep_present(&mut self, key: Key, step: Move) -> Result<(), AllocError> {
         let count = self.count(key);
         let Some(present) = self.present.get_mut(key.0 as usize) else {
             return Ok(());
@@ -298,15 +232,11 @@ impl Mail {
         Ok(())
     }
 
-    fn has(&self, key: Key) -> bool
-        ensures { result ≡ is_some (message_of self.now key.0 key.1) }
-    {
+    fn has(&self, key: Key) -> bool {
         self.message(key).is_some()
     }
 
-    fn is_first(&self, key: Key) -> bool
-        ensures { result ≡ is_first (slice_get self.now.first.items key.1) key.0 }
-    {
+    fn is_first(&self, key: Key) -> bool {
         match self.first.get(key.1 as usize) {
             None => false,
             Some(first) => first.is_of(key.0),
@@ -314,12 +244,7 @@ impl Mail {
     }
 
     /// Where the message never was in its folder, there comes one that has no path yet.
-    fn begin(&mut self, since: Moment, key: Key, file: u32) -> Result<(), AllocError>
-        ensures message { OnOk result (message_of self.new key.0 key.1 ≡ Some (begun (fresh key.0 since file) (message_of self.old key.0 key.1))) }
-        ensures others { OnOk result (KeepsOthers key.0 key.1 self.old self.new) }
-        ensures present { OnOk result (self.new.present ≡ self.old.present) }
-        ensures copied { OnOk result (self.new.copied ≡ self.old.copied) }
-    {
+    fn begin(&mut self, since: Moment, key: Key, file: u32) -> Result<(), AllocError> {
         if self.has(key) {
             return Ok(());
         }
@@ -327,11 +252,7 @@ impl Mail {
         self.put(key, Message::new(key.0, since, file))
     }
 
-    fn make_room(&mut self, unique: u32) -> Result<(), AllocError>
-        ensures messages { OnOk result ((f v : ℕ) → message_of self.new f v ≡ message_of self.old f v) }
-        ensures present { OnOk result (self.new.present ≡ self.old.present) }
-        ensures copied { OnOk result (self.new.copied ≡ self.old.copied) }
-    {
+    fn make_room(&mut self, unique: u32) -> Result<(), AllocError> {
         for _ in self.first.len()..=unique as usize {
             self.first.push(Message::new(NO_FOLDER, 0, 0))?;
         }
@@ -339,13 +260,7 @@ impl Mail {
     }
 
     /// Puts a message that is not there: first of its unique name, where the place is free.
-    fn put(&mut self, key: Key, message: Message) -> Result<(), AllocError>
-        ensures message { message_of self.old key.0 key.1 ≡ None → message.folder ≡ key.0
-            → OnOk result (message_of self.new key.0 key.1 ≡ Some message) }
-        ensures others { message_of self.old key.0 key.1 ≡ None → message.folder ≡ key.0 → OnOk result (KeepsOthers key.0 key.1 self.old self.new) }
-        ensures present { OnOk result (self.new.present ≡ self.old.present) }
-        ensures copied { OnOk result (self.new.copied ≡ self.old.copied) }
-    {
+    fn put(&mut self, key: Key, message: Message) -> Result<(), AllocError> {
         if self.is_free(key) {
             self.put_first(key.1, message);
             return Ok(());
@@ -355,36 +270,27 @@ impl Mail {
     }
 
     /// Whether the unique name's first place is free, and the folder may take it.
-    fn is_free(&self, key: Key) -> bool
-        ensures { result ≡ is_free (slice_get self.now.first.items key.1) key.0 }
-    {
+    fn is_free(&self, key: Key) -> bool {
         match self.first.get(key.1 as usize) {
             None => false,
             Some(first) => key.0 != NO_FOLDER && first.folder == NO_FOLDER,
         }
     }
 
-    fn put_first(&mut self, unique: u32, message: Message)
-        ensures first { self.new.first.items ≡ slice_set self.old.first.items unique message }
-        ensures rest { self.new ≡ record self.old { first = self.new.first } }
-    {
+    fn put_first(&mut self, unique: u32, message: Message) {
         if let Some(first) = self.first.get_mut(unique as usize) {
             *first = message;
         }
     }
 
-    pub(super) fn count(&self, key: Key) -> u32
-        ensures { result ≡ count_of (message_of self.now key.0 key.1) }
-    {
+    pub(super) fn count(&self, key: Key) -> u32 {
         match self.message(key) {
             None => 0,
             Some(message) => message.count,
         }
     }
 
-    pub(super) fn presence(&self, key: Key) -> Option<Presence>
-        ensures { result ≡ presence_by self.now key }
-    {
+    pub(super) fn presence(&self, key: Key) -> Option<Presence> {
         let message = self.message(key)?;
         Some(Presence {
             count: message.count,
@@ -397,21 +303,15 @@ impl Mail {
         line_before(self.message(key)?.since as usize)
     }
 
-    pub(super) fn present(&self, folder: u32) -> Option<&BTreeSet<u32>>
-        ensures { option_copied result ≡ slice_get self.now.present.items folder }
-    {
+    pub(super) fn present(&self, folder: u32) -> Option<&BTreeSet<u32>> {
         self.present.get(folder as usize)
     }
 
-    pub(super) fn is_copied(&self, file: u32, unique: u32) -> bool
-        ensures { IsTrue result ↔ (0 < copies_of self.now.copied file unique) }
-    {
+    pub(super) fn is_copied(&self, file: u32, unique: u32) -> bool {
         self.copied.has(file, unique)
     }
 
-    pub(super) fn folders_with(&self, unique: u32) -> Result<Vec<u32>, AllocError>
-        ensures { IfOk result (λ folders. (f : ℕ) → IsIn folders.items f ↔ IsIn (present_in self.now f) unique) }
-    {
+    pub(super) fn folders_with(&self, unique: u32) -> Result<Vec<u32>, AllocError> {
         let Ok(many) = u32::try_from(self.present.len()) else {
             return Err(AllocError);
         };
@@ -424,26 +324,18 @@ impl Mail {
         Ok(folders)
     }
 
-    fn is_present(&self, key: Key) -> bool
-        ensures { IsTrue result ↔ IsIn (present_in self.now key.0) key.1 }
-    {
+    fn is_present(&self, key: Key) -> bool {
         match self.present(key.0) {
             None => false,
             Some(present) => present.contains(&key.1),
         }
     }
 
-    pub(super) fn copy(&mut self, file: u32, unique: u32) -> Result<(), AllocError>
-        ensures copied { OnOk result (Recounts file unique one_more self.old.copied self.new.copied) }
-        ensures messages { self.new ≡ record self.old { copied = self.new.copied } }
-    {
+    pub(super) fn copy(&mut self, file: u32, unique: u32) -> Result<(), AllocError> {
         self.copied.add(file, unique)
     }
 
-    pub(super) fn uncopy(&mut self, file: u32, unique: u32)
-        ensures copied { Recounts file unique one_fewer self.old.copied self.new.copied }
-        ensures messages { self.new ≡ record self.old { copied = self.new.copied } }
-    {
+    pub(super) fn uncopy(&mut self, file: u32, unique: u32) {
         self.copied.remove(file, unique);
     }
 }

@@ -2,17 +2,12 @@
 //!
 //! The leaves of a tree are half full where its keys come in rising order, and some two thirds full where they come in no order. So tables
 //! whose order nothing goes by have the keys of what is numbered as it comes mixed.
-ghost use Rattle.std.specs.Prelude.{◌≡◌, ◌<◌, ◌^◌, ℕ};
-ghost use Rattle.md_judge.specs.Mixed.{mixed, mixed_name};
 
+use super::clauses::Name;
 use super::tables::{ENDINGS, name_of};
-use md_clauses::Name;
 
 /// A number that stands for another, so that rising numbers come in no order.
-#[tactic(auto, unfolding(crate::specs::Mixed::mixed))]
-pub(super) fn mixed(number: u32) -> u32
-    ensures { result ≡ mixed number }
-{
+pub(super) fn mixed(number: u32) -> u32 {
     let folded = number ^ (number >> 16);
     let turned = folded.wrapping_mul(0x85eb_ca6b);
     let folded = turned ^ (turned >> 13);
@@ -22,10 +17,6 @@ pub(super) fn mixed(number: u32) -> u32
 
 /// A name that stands for another: the number of its first part is mixed. Two names have two, since each step can be undone: a shift by half
 /// of the bits or some fewer that is added without carry, and a product with an odd number.
-#[tactic(auto, unfolding(crate::specs::Mixed::mixed_name))]
-pub(super) fn mixed_name(name: Name) -> Name
-    ensures value { result ≡ mixed_name name }
-    ensures apart { (other : ℕ) → other < 2 ^ 64 → mixed_name other ≡ result → other ≡ name }
-{
+pub(super) fn mixed_name(name: Name) -> Name {
     name_of(mixed((name / ENDINGS) as u32), (name % ENDINGS) as u32)
 }

@@ -4,10 +4,10 @@
 //! that fits, those that have to do with it. Only steps that may come before the one that ends first are looked at. So until a needed step
 //! comes, none that doesn't fit will fit, and each that fits does the same as now.
 use super::asked::{ALL, Asked, LOOKS_A_TRY, Misfit};
+use super::clauses::{Name, Spot};
 use super::coming::touch;
 use super::left::Left;
 use super::trial::{Trial, later};
-use md_clauses::{Name, Spot};
 use std::alloc::{AllocError, Global};
 use std::collections::BTreeSet;
 

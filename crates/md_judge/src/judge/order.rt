@@ -1,16 +1,14 @@
 //! An order of steps whose calls overlap, in which directories give their replies.
-ghost use Rattle.std.specs.Prelude.{◌≡◌, ℕ, OnOk};
-ghost use Rattle.md_judge.specs.Logs.{Log};
+
 ghost use Rattle.md_judge.specs.Placed.{IsUnplaced};
-ghost use Rattle.md_judge.specs.Verdict.{Remembers};
 
 use super::Judge;
 use super::asked::{ALL, ANSWER, Asked, Deal, LOOKS_A_TRY};
+use super::clauses::{Name, Spot};
 use super::readings::mark_alone;
 use super::search::{Search, Way};
 use super::trial::Trial;
 use crate::stretch::Waiting;
-use md_clauses::{Name, Spot};
 use md_dirs::Path;
 use md_log::{Call, LineFault, Step};
 use std::alloc::{AllocError, Global};
@@ -74,10 +72,7 @@ impl Judge {
         &mut self,
         steps: &[Option<Waiting>],
         moments: &[usize],
-    ) -> Result<Vec<usize>, NoOrder>
-        ensures told { (lines : ℕ → ℕ) (l : Log) (i : ℕ) → Remembers lines l i self.old → OnOk result (Remembers lines l i self.new) }
-        ensures allowed { OnOk result (self.new.allowed ≡ self.old.allowed) }
-    {
+    ) -> Result<Vec<usize>, NoOrder> {
         let mut names = Vec::new(self.alloc);
         let mut all = Vec::new(self.alloc);
         for (at, waiting) in steps.iter().enumerate() {
@@ -153,10 +148,7 @@ impl Judge {
         all: &mut Vec<Asked>,
         names: &mut Vec<Name>,
         waiting: &Option<Waiting>,
-    ) -> Result<(), AllocError>
-        ensures told { (lines : ℕ → ℕ) (l : Log) (i : ℕ) → Remembers lines l i self.old → OnOk result (Remembers lines l i self.new) }
-        ensures allowed { OnOk result (self.new.allowed ≡ self.old.allowed) }
-    {
+    ) -> Result<(), AllocError> {
         let Some(Waiting { step, .. }) = waiting else {
             return Ok(());
         };
@@ -164,10 +156,7 @@ impl Judge {
         Ok(())
     }
 
-    fn asked(&mut self, names: &mut Vec<Name>, step: &Step) -> Result<Asked, AllocError>
-        ensures told { (lines : ℕ → ℕ) (l : Log) (i : ℕ) → Remembers lines l i self.old → OnOk result (Remembers lines l i self.new) }
-        ensures allowed { OnOk result (self.new.allowed ≡ self.old.allowed) }
-    {
+    fn asked(&mut self, names: &mut Vec<Name>, step: &Step) -> Result<Asked, AllocError> {
         let answer = Asked {
             ticks: step.ticks.unwrap_or(ANSWER.ticks),
             ..ANSWER
@@ -222,19 +211,12 @@ impl Judge {
         }
     }
 
-    fn spot(&mut self, path: &Path) -> Result<Spot, AllocError>
-        ensures told { (lines : ℕ → ℕ) (l : Log) (i : ℕ) → Remembers lines l i self.old → OnOk result (Remembers lines l i self.new) }
-        ensures allowed { OnOk result (self.new.allowed ≡ self.old.allowed) }
-    {
+    fn spot(&mut self, path: &Path) -> Result<Spot, AllocError> {
         self.known.spot(path)
     }
 
-    fn actor(&mut self, actor: &[u8]) -> Result<u32, AllocError>
-        ensures told { (lines : ℕ → ℕ) (l : Log) (i : ℕ) → Remembers lines l i self.old → OnOk result (Remembers lines l i self.new) }
-        ensures allowed { OnOk result (self.new.allowed ≡ self.old.allowed) }
-    {
+    fn actor(&mut self, actor: &[u8]) -> Result<u32, AllocError> {
         let (number, _) = self.actor_names.number(actor)?;
-        self.actor_names.are_apart();
         Ok(number)
     }
 }

@@ -1,24 +1,15 @@
 //! Words by numbers.
-ghost use Rattle.std.specs.Prelude.{◌≡◌, ◌≢◌, ◌<◌, ◌≤◌, ◌+◌, ◌*◌, ◌/◌, ◌%◌, ◌++◌, ◌∷◌, [], ℕ, List, Some, None, length, slice_get, if◌then◌else◌, IsTrue, IfOk, IfSome, IfNone, OnOk, OnErr};
-ghost use Rattle.std.specs.Option.{option_copied};
-ghost use Rattle.md_name.specs.Names.{split_of, info_of, flags_of};
-ghost use Rattle.md_judge.specs.Files.{unique_number, is_trashed_in};
-ghost use Rattle.md_judge.specs.Words.{hash_of, AreApart, Finds};
-ghost use Rattle.md_judge.specs.Names.{StandFor, IsNumber, AreNumbered, KeepNumbers, GrowsUniques, AreMarked, has_trashed, alike_in, AddsAlike, NotesAlike, IsUnique};
 
+use super::clauses::Name;
 use super::texts::Words;
-use md_clauses::Name;
 use md_name::{Info, split};
 use std::alloc::{AllocError, Global};
 use std::collections::BTreeMap;
 use std::hash::{FoldHasher, Hasher};
-use std::marker::Model;
 
 const MOST_WORDS: usize = 4_000_000_000;
 
-fn hash_of(word: &[u8]) -> u32
-    ensures { result ≡ hash_of word.now }
-{
+fn hash_of(word: &[u8]) -> u32 {
     let mut hasher = FoldHasher::default();
     hasher.write(word);
     (hasher.finish() % 4_294_967_296) as u32
@@ -43,11 +34,7 @@ impl Index {
     }
 
     /// Puts a number for a word that has this hash. Other words keep theirs, also where memory is refused.
-    fn put(&mut self, hash: u32, word: &[u8], number: u32) -> Result<(), AllocError>
-        requires { hash ≡ hash_of word.now }
-        ensures keeps { (other : List ℕ) (n : ℕ) → other ≢ word.now → Finds self.old other n → Finds self.new other n }
-        ensures put { OnOk result (Finds self.new word.now number) }
-    {
+    fn put(&mut self, hash: u32, word: &[u8], number: u32) -> Result<(), AllocError> {
         if !self.by_hash.contains_key(&hash) {
             self.by_hash.insert(hash, number)?;
             return Ok(());
@@ -58,11 +45,7 @@ impl Index {
     }
 
     /// The number of a word that has this hash: it is put for it, and it is the word's.
-    fn find(&self, hash: u32, words: &Words, word: &[u8]) -> Option<u32>
-        requires { hash ≡ hash_of word.now }
-        ensures there { IfSome result (λ n. slice_get words.now n ≡ Some word.now) }
-        ensures none { IfNone result ((n : ℕ) → Finds self.now word.now n → slice_get words.now n ≡ Some word.now → ⊥) }
-    {
+    fn find(&self, hash: u32, words: &Words, word: &[u8]) -> Option<u32> {
         match checked(words, self.by_hash.get(&hash), word) {
             None => checked(words, self.others.get(word), word),
             Some(number) => Some(number),
@@ -70,10 +53,7 @@ impl Index {
     }
 }
 
-fn checked(words: &Words, number: Option<&u32>, word: &[u8]) -> Option<u32>
-    ensures there { IfSome result (λ n. slice_get words.now n ≡ Some word.now) }
-    ensures none { IfNone result ((n : ℕ) → option_copied number.entry ≡ Some n → slice_get words.now n ≡ Some word.now → ⊥) }
-{
+fn checked(words: &Words, number: Option<&u32>, word: &[u8]) -> Option<u32> {
     match number {
         Some(number) if words.is_at(*number, word) => Some(*number),
         _ => None,
@@ -87,21 +67,8 @@ pub(super) struct Table {
     index: Index,
 }
 
-impl Model for Table {
-    ghost use Rattle.std.specs.Prelude.{ℕ, List};
-    ghost use Rattle.md_judge.specs.Words.{IsTable};
-
-    ghost Value = { List (List ℕ) };
-
-    ghost view = { λ t. t.words };
-
-    ghost invariant = { λ t. IsTable t.words t.index };
-}
-
 impl Table {
-    pub(super) fn new(alloc: Global) -> Self
-        ensures { result ≡ [] }
-    {
+    pub(super) fn new(alloc: Global) -> Self {
         Table {
             words: Words::new(alloc),
             index: Index::new(alloc),
@@ -109,13 +76,7 @@ impl Table {
     }
 
     /// The number of a word, and whether it is new. It takes about log n in the words. Where memory is refused, the words are as they were.
-    pub(super) fn number(&mut self, word: &[u8]) -> Result<(u32, bool), AllocError>
-        ensures found { IfOk result (λ r. slice_get self.new r.0 ≡ Some word.now) }
-        ensures grows { IfOk result (λ r. self.new ≡ (if r.1 then self.old ++ word.now ∷ [] else self.old)) }
-        ensures is_new { IfOk result (λ r. IsTrue r.1 → r.0 ≡ length self.old) }
-        ensures few { IfOk result (λ r. r.0 < 4000000000) }
-        ensures refused { OnErr result (self.new ≡ self.old) }
-    {
+    pub(super) fn number(&mut self, word: &[u8]) -> Result<(u32, bool), AllocError> {
         let hash = hash_of(word);
         if let Some(number) = self.find(hash, word) {
             return Ok((number, false));
@@ -123,33 +84,12 @@ impl Table {
         Ok((self.add(hash, word)?, true))
     }
 
-    /// Nothing is done: two words have two numbers, and there are not too many.
-    #[inline(always)]
-    pub(super) fn are_apart(&self)
-        ensures apart { AreApart self.now }
-        ensures few { length self.now ≤ 4000000000 }
-    {
-        let _ = &self.words;
-    }
-
-    fn find(&self, hash: u32, word: &[u8]) -> Option<u32>
-        requires { hash ≡ hash_of word.now }
-        ensures there { IfSome result (λ n. slice_get self.now n ≡ Some word.now) }
-        ensures few { IfSome result (λ n. n < 4000000000) }
-        ensures none { IfNone result ((n : ℕ) → slice_get self.now n ≡ Some word.now → ⊥) }
-    {
+    fn find(&self, hash: u32, word: &[u8]) -> Option<u32> {
         self.index.find(hash, &self.words, word)
     }
 
     /// Numbers a word that has this hash and no number.
-    fn add(&mut self, hash: u32, word: &[u8]) -> Result<u32, AllocError>
-        requires hashed { hash ≡ hash_of word.now }
-        requires is_new { (n : ℕ) → slice_get self.old n ≡ Some word.now → ⊥ }
-        ensures ok { OnOk result (self.new ≡ self.old ++ word.now ∷ []) }
-        ensures number { IfOk result (λ n. n ≡ length self.old) }
-        ensures few { IfOk result (λ n. n < 4000000000) }
-        ensures err { OnErr result (self.new ≡ self.old) }
-    {
+    fn add(&mut self, hash: u32, word: &[u8]) -> Result<u32, AllocError> {
         let count = self.words.len();
         if count >= MOST_WORDS {
             return Err(AllocError);
@@ -180,10 +120,7 @@ pub(super) struct Names {
 }
 
 impl Names {
-    pub(super) fn new(alloc: Global) -> Self
-        ensures words { (result.uniques ≡ []) × (result.endings ≡ []) × (result.others ≡ []) }
-        ensures marked { AreMarked result }
-    {
+    pub(super) fn new(alloc: Global) -> Self {
         Names {
             alloc,
             uniques: Table::new(alloc),
@@ -195,67 +132,35 @@ impl Names {
     }
 
     /// The number of a unique name. Where memory is refused, no number stands for another name than before.
-    pub(super) fn unique(&mut self, unique: &[u8]) -> Result<u32, AllocError>
-        ensures number { IfOk result (λ u. slice_get self.new.uniques u ≡ Some unique.now) }
-        ensures endings { self.new.endings ≡ self.old.endings }
-        ensures keeps { KeepNumbers self.old self.new }
-        ensures uniques { OnOk result (GrowsUniques self.old self.new) }
-        ensures numbered { OnOk result (AreNumbered self.new) }
-    {
+    pub(super) fn unique(&mut self, unique: &[u8]) -> Result<u32, AllocError> {
         let (number, _) = self.uniques.number(unique)?;
-        self.are_numbered();
         Ok(number)
     }
 
     /// The number of a name, for ever: two names have two, and a name has one. Where memory is refused, no number stands for another name than before.
-    pub(super) fn number(&mut self, name: &[u8]) -> Result<Name, AllocError>
-        ensures number { IfOk result (λ n. IsNumber self.new name.now n) }
-        ensures keeps { KeepNumbers self.old self.new }
-        ensures uniques { OnOk result (GrowsUniques self.old self.new) }
-        ensures facts { IfOk result (λ n. IsUnique self.new (split_of name.now) (unique_number self.new n)) }
-        ensures numbered { OnOk result (AreNumbered self.new) }
-    {
+    pub(super) fn number(&mut self, name: &[u8]) -> Result<Name, AllocError> {
         let number = self.number_of(name)?;
-        self.are_numbered();
         Ok(number)
     }
 
-    fn number_of(&mut self, name: &[u8]) -> Result<Name, AllocError>
-        ensures number { IfOk result (λ n. IsNumber self.new name.now n) }
-        ensures keeps { KeepNumbers self.old self.new }
-        ensures uniques { OnOk result (GrowsUniques self.old self.new) }
-    {
+    fn number_of(&mut self, name: &[u8]) -> Result<Name, AllocError> {
         match split(name) {
             None => self.other(name),
             Some((unique, info)) => self.message(name, unique, info),
         }
     }
 
-    fn other(&mut self, name: &[u8]) -> Result<Name, AllocError>
-        ensures number { IfOk result (λ n. StandFor self.new name.now None (n / 4294967296) (n % 4294967296)) }
-        ensures keeps { KeepNumbers self.old self.new }
-        ensures rest { self.new ≡ record self.old { others = self.new.others } }
-    {
+    fn other(&mut self, name: &[u8]) -> Result<Name, AllocError> {
         let (number, _) = self.others.number(name)?;
         Ok(name_of(number, NO_ENDING))
     }
 
-    fn message(&mut self, name: &[u8], unique: &[u8], info: Info) -> Result<Name, AllocError>
-        ensures number { IfOk result (λ n. StandFor self.new name.now (Some (unique.now, info)) (n / 4294967296) (n % 4294967296)) }
-        ensures keeps { KeepNumbers self.old self.new }
-        ensures uniques { split_of name.now ≡ Some (unique.now, info) → OnOk result (GrowsUniques self.old self.new) }
-    {
+    fn message(&mut self, name: &[u8], unique: &[u8], info: Info) -> Result<Name, AllocError> {
         let ending = self.ending(name.get(unique.len()..).unwrap_or(&[]), info)?;
         Ok(name_of(self.unique(unique)?, ending))
     }
 
-    fn ending(&mut self, ending: &[u8], info: Info) -> Result<u32, AllocError>
-        ensures number { IfOk result (λ n. slice_get self.new.endings n ≡ Some ending.now) }
-        ensures few { IfOk result (λ n. n < 4294967295) }
-        ensures keeps { KeepNumbers self.old self.new }
-        ensures uniques { self.new.uniques ≡ self.old.uniques }
-        ensures marked { info ≡ info_of ending.now → AreMarked self.old → OnOk result (AreMarked self.new) }
-    {
+    fn ending(&mut self, ending: &[u8], info: Info) -> Result<u32, AllocError> {
         let (number, is_new) = self.endings.number(ending)?;
         if is_new {
             self.note_flags(number, info)?;
@@ -263,11 +168,7 @@ impl Names {
         Ok(number)
     }
 
-    fn note_flags(&mut self, number: u32, info: Info) -> Result<(), AllocError>
-        ensures words { (self.new.uniques ≡ self.old.uniques) × (self.new.endings ≡ self.old.endings) × (self.new.others ≡ self.old.others) }
-        ensures trashed { OnOk result (self.new.trashed.items ≡ self.old.trashed.items ++ has_trashed (flags_of info) ∷ []) }
-        ensures alike { OnOk result (NotesAlike (flags_of info) number self.old self.new) }
-    {
+    fn note_flags(&mut self, number: u32, info: Info) -> Result<(), AllocError> {
         match info.flags() {
             None => {
                 self.trashed.push(false)?;
@@ -280,10 +181,7 @@ impl Names {
         }
     }
 
-    fn note_alike(&mut self, number: u32, flags: u64) -> Result<(), AllocError>
-        ensures rest { self.new ≡ record self.old { alike = self.new.alike } }
-        ensures alike { OnOk result (AddsAlike flags number self.old self.new) }
-    {
+    fn note_alike(&mut self, number: u32, flags: u64) -> Result<(), AllocError> {
         let none = Vec::new(self.alloc);
         let mut endings = self.alike.remove(&flags).unwrap_or(none);
         endings.push(number)?;
@@ -291,36 +189,20 @@ impl Names {
         Ok(())
     }
 
-    /// Nothing is done: numbers are those of names.
-    #[inline(always)]
-    pub(super) fn are_numbered(&self)
-        ensures { AreNumbered self.now }
-    {
-        self.uniques.are_apart();
-        self.endings.are_apart();
-        self.others.are_apart();
-    }
-
-    pub(super) fn alike(&self, flags: u64) -> &[u32]
-        ensures { result.now ≡ alike_in self.now flags }
-    {
+    pub(super) fn alike(&self, flags: u64) -> &[u32] {
         match self.alike.get(&flags) {
             None => &[],
             Some(endings) => endings.as_slice(),
         }
     }
 
-    pub(super) fn is_trashed(&self, name: Name) -> bool
-        ensures { result ≡ is_trashed_in self.now name }
-    {
+    pub(super) fn is_trashed(&self, name: Name) -> bool {
         let ending = name % ENDINGS;
         self.trashed.get(ending as usize).copied().unwrap_or(false)
     }
 
     /// The number of a name's unique part, where it is a message's.
-    pub(super) fn unique_number(&self, name: Name) -> Option<u32>
-        ensures { result ≡ unique_number self.now name }
-    {
+    pub(super) fn unique_number(&self, name: Name) -> Option<u32> {
         let ending = (name % ENDINGS) as u32;
         if ending == NO_ENDING {
             return None;
@@ -330,8 +212,6 @@ impl Names {
 }
 
 /// A name by the numbers of its two parts: that of the unique part, or of a name that is no message's, times `ENDINGS`, and that of its end.
-pub(super) fn name_of(front: u32, ending: u32) -> Name
-    ensures { result ≡ front * 4294967296 + ending }
-{
+pub(super) fn name_of(front: u32, ending: u32) -> Name {
     front as u64 * ENDINGS + ending as u64
 }

@@ -3,10 +3,10 @@
 //! What a call did stands under its moment, so taking it out undoes the call.
 use super::acts::{is_wrong_at, is_wrong_between};
 use super::asked::{ALL, Asked, Deal, Misfit};
+use super::clauses::{Change, Moment, Name, Spot, moment_of};
 use super::directories::{Directories, Named};
 use super::known::{change_at, change_between};
 use super::listing::{Listings, Reading, is_there_since};
-use md_clauses::{Change, Moment, Name, Spot, moment_of};
 use md_log::{Naming, Reply};
 use std::alloc::{AllocError, Global};
 use std::collections::{BTreeMap, BTreeSet};

@@ -1,8 +1,7 @@
 use Rattle.std.proofs.Common.{◌↔◌, List, sym, subst}
 use Rattle.md_judge.specs.declared.log.Finding.{Finding}
-use Rattle.md_judge.specs.Law.{IsFinding}
 use Rattle.md_judge.specs.Orders.{AreFoundInOrder}
-use Rattle.md_judge.specs.Verdict.{AreInOrder, IsAmong}
+use Rattle.md_judge.specs.Verdict.{AreInOrder, IsAmong, IsFinding}
 use Rattle.md_judge.proofs.Taken.{found-all, ordered-all, placed-all}
 use Rattle.md_judge.proofs.log.judge_log.Goals as goal
 

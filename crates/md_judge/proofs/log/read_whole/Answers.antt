@@ -3,7 +3,7 @@ use Rattle.std.proofs.lemmas.Result.{err_from_is_err_and}
 use Rattle.md_head.specs.Header.{lines_of}
 use Rattle.md_judge.specs.declared.session.Session.{Session}
 use Rattle.md_judge.specs.Taken.{Answers, AnswersAny, HasTaken}
-use Rattle.md_judge.proofs.Sparing.{ok-then}
+use Rattle.md_judge.proofs.Answering.{ok-then}
 use Rattle.md_judge.proofs.Taken.{takes-next, taken-all, text-stays, text-stays-any, log-is}
 use Rattle.md_judge.proofs.log.read_whole.Goals as goal
 

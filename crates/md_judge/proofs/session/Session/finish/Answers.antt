@@ -1,5 +1,5 @@
 use Rattle.md_judge.proofs.Placed.{found-settled}
-use Rattle.md_judge.proofs.Verdicts.{on-ok-by, on-ok-same}
+use Rattle.md_judge.proofs.Answering.{on-ok-by, on-ok-same}
 use Rattle.md_judge.proofs.session.Session.finish.Goals as goal
 
 pub returns-then-is_in_order-clause-found : goal.returns-then-is_in_order-clause-found

@@ -1,19 +1,33 @@
-use Rattle.std.proofs.Common.{suc, ◌↔◌, sym, subst, ◌∙◌}
+use Rattle.std.proofs.Common.{◌≡◌, get_or, true, refl, sym, ap, subst, ◌∙◌}
+use Rattle.md_law.specs.History.{next}
+use Rattle.md_law.specs.Law.{Breaks}
 use Rattle.md_log.specs.declared.clause.Clause.{Clause}
-use Rattle.md_judge.specs.declared.judge.Judge.{Judge}
 use Rattle.md_log.specs.declared.clause.Clause.TheVariants as clause
-use Rattle.md_clauses.specs.Found.{Has}
-use Rattle.md_judge.specs.Law.{turn, Breaks}
-use Rattle.md_judge.specs.Verdict.{Remembers, AreInOrder, AreEarlier}
-use Rattle.md_judge.specs.Placed.{AreInOrderAtLines, AreBelowAtLine}
+use Rattle.md_watch.specs.Clauses.{breaks}
+use Rattle.md_watch.specs.Watches.{Holds}
+use Rattle.md_judge.specs.declared.clauses.Clauses.{Clauses}
+use Rattle.md_judge.specs.declared.session.Session.{Session}
+use Rattle.md_judge.specs.Clauses.{Has}
+use Rattle.md_judge.specs.Placed.{AreInOrderAtLines, AreBelowAtLine, AddsFinding}
+use Rattle.md_judge.specs.Verdict.{AreInOrder, AreEarlier}
+use Rattle.md_judge.proofs.Adding.{clauses, clauses-numbered, adds-first, adds-next, adds-all}
 use Rattle.md_judge.proofs.Ordered.{clause-next}
-use Rattle.md_judge.proofs.Verdicts.{clauses, clauses-numbered, adds-next, adds-all}
 use Rattle.md_judge.proofs.session.Session.judge_step.Goals as goal
+
+pub loop-clause-init : goal.loop-clause-init
+loop-clause-init c = record {
+  keeps = record { folders = refl; begun = refl; stretch = refl; allowed = refl };
+  watch = refl;
+  found = λ o. adds-first o c.args.line clauses _ (record c.args.self.now { judge = c.step.new.self; watch = c.step-2.new.self });
+  ordered = λ order earlier. (order, earlier);
+  at_lines = λ order below. (order, below);
+}
 
 pub loop-clause-preserved : goal.loop-clause-preserved
 loop-clause-preserved c =
     let before = c.loop-clause.invariant in
     let after = c.in_ok-note.ensures in
+    let s : Session = record c.args.self.now { judge = c.step.new.self; watch = c.step-2.new.self } in
     record {
       keeps = record {
         folders = after.keeps.folders ∙ before.keeps.folders;
@@ -21,10 +35,13 @@ loop-clause-preserved c =
         stretch = after.keeps.stretch ∙ before.keeps.stretch;
         allowed = after.keeps.allowed ∙ before.keeps.allowed;
       };
-      judge = after.judge ∙ before.judge;
-      found = λ o. adds-next o c.args.line clauses c.loop-clause.clause-index clause.NotADirectory c.step.new.self
-          (record c.args.self.now { judge = c.step.new.self }) c.loop-clause.self c.note.new.self c.loop-clause-test.true before.judge
-          (before.found o) (after.found o);
+      watch = after.watch ∙ before.watch;
+      found = λ o. adds-next o c.args.line clauses c.loop-clause.clause-index clause.NotADirectory
+          ((breaks c.in_ok-broken.broken o ≡ true) × (Has s.allowed o → ⊥)) s c.loop-clause.self c.note.new.self c.loop-clause-test.true
+          (before.found o)
+          (subst (λ (a : Clauses). AddsFinding o c.args.line ((get_or clauses c.loop-clause.clause-index clause.NotADirectory ≡ o)
+          × ((breaks c.in_ok-broken.broken o ≡ true) × (Has a o → ⊥))) c.loop-clause.self c.note.new.self)
+          before.keeps.allowed (after.found o));
       ordered = λ order earlier.
           let was = before.ordered order earlier in
           clause-next AreInOrder AreEarlier clauses c.args.line c.loop-clause.clause-index clause.NotADirectory c.loop-clause.self.findings.items
@@ -35,26 +52,28 @@ loop-clause-preserved c =
           c.note.new.self.findings.items clauses-numbered c.loop-clause-test.true was.0 was.1 after.at_lines;
     }
 
-pub returns-clause-told : goal.returns-clause-told
-returns-clause-told c = λ lines l i told is here short there.
-    subst (λ (j : Judge). Remembers lines l (suc i) j) (sym c.loop-clause.invariant.judge)
-    (c.in_ok-step.ensures.told lines l i (c.go_to.ensures.told lines l i told) is here short c.go_to.ensures.now there)
+pub returns-clause-judges : goal.returns-clause-judges
+returns-clause-judges c = λ h holds.
+    let s = c.args.self.now in
+    let kept = c.loop-clause.invariant in
+    let law = c.in_ok-broken.ensures.law h holds in
+    record {
+      allowed = kept.keeps.allowed;
+      holds = subst (λ w. Holds (next h c.args.step.now) w) (sym kept.watch) (c.in_ok-broken.ensures.holds h holds);
+      found = λ o. adds-all o c.args.line c.loop-clause.clause-index ((breaks c.in_ok-broken.broken o ≡ true) × (Has s.allowed o → ⊥))
+          (Breaks o (next h c.args.step.now) × (Has s.allowed o → ⊥)) (record s { judge = c.step.new.self; watch = c.step-2.new.self }) c.loop-clause.self
+          c.loop-clause-test.false (λ both. ((law o).0 both.0, both.1), λ both. ((law o).1 both.0, both.1)) (kept.found o);
+      ordered = λ order earlier. (kept.ordered order earlier).0;
+      at_lines = λ order below. (kept.at_lines order below).0;
+    }
 
-pub returns-clause-ordered : goal.returns-clause-ordered
-returns-clause-ordered c = λ order earlier. (c.loop-clause.invariant.ordered order earlier).0
+pub returns-clause-keeps : goal.returns-clause-keeps
+returns-clause-keeps c =
+    let kept = c.loop-clause.invariant.keeps in
+    record { folders = kept.folders; begun = kept.begun; stretch = kept.stretch; allowed = kept.allowed }
 
-pub returns-clause-at_lines : goal.returns-clause-at_lines
-returns-clause-at_lines c = λ order below. (c.loop-clause.invariant.at_lines order below).0
-
-pub returns-clause-broken : goal.returns-clause-broken
-returns-clause-broken c = λ lines l i told is here short rises above there.
-    subst (λ (j : Judge). (o : Clause) → Has j.watch.found.broken o ↔ Breaks o (turn l i c.args.step.now)) (sym c.loop-clause.invariant.judge)
-    (c.in_ok-step.ensures.broken lines l i (c.go_to.ensures.told lines l i told) is here short c.go_to.ensures.now rises above there)
-
-pub returns-clause-found : goal.returns-clause-found
-returns-clause-found c = λ lines l i told is here short rises above there o.
-    adds-all o c.args.line c.loop-clause.clause-index c.step.new.self c.args.self.now.judge.allowed (Breaks o (turn l i c.args.step.now))
-    (record c.args.self.now { judge = c.step.new.self }) c.loop-clause.self c.loop-clause-test.false
-    (c.in_ok-step.ensures.allowed ∙ c.go_to.ensures.allowed)
-    (c.in_ok-step.ensures.broken lines l i (c.go_to.ensures.told lines l i told) is here short c.go_to.ensures.now rises above there o)
-    (c.loop-clause.invariant.found o)
+pub returns-clause-wrong : goal.returns-clause-wrong
+returns-clause-wrong c = λ h holds.
+    let law = c.in_ok-broken.ensures.law h holds clause.NotADirectory in
+    let is = c.breaks.ensures in
+    (λ wrong. law.0 (sym is ∙ wrong), λ wrong. is ∙ law.1 wrong)

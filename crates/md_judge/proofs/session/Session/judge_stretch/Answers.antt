@@ -2,7 +2,7 @@ use Rattle.std.proofs.Common.{◌≡◌, ◌∙◌, ℕ, ◌+◌, List, length, 
 use Rattle.std.proofs.lemmas.Option.{slice_get-get_or}
 use Rattle.md_judge.specs.declared.session.Session.{Session}
 use Rattle.md_judge.specs.Placed.{KeepsTicks}
-use Rattle.md_judge.proofs.Placing.{settled-none, places-none, waits-on, judged-on, is-next, places-next, all-placed}
+use Rattle.md_judge.proofs.Placing.{settled-none, places-none, waits-on, judged-on, has-ticks, is-next, places-next, all-placed}
 use Rattle.md_judge.proofs.session.Session.judge_stretch.Goals as goal
 
 pub returns-then-is_empty-clause-settled : goal.returns-then-is_empty-clause-settled
@@ -14,10 +14,7 @@ loop-place-init c = record {
       let s = c.args.self.now in
       let t : Session = record s { judge = c.order.new.self } in
       places-none number l c.deref-at-items.result.now t
-      (waits-on number l s t refl refl
-      (λ order m judged.
-      judged-on number l order m s t (λ lines k i told. c.in-Ok.ensures.told lines k i told) c.in-Ok.ensures.allowed refl refl judged)
-      w);
+      (waits-on number l s t refl refl (λ order m judged. judged-on number l order m s t refl refl refl refl judged) w);
   begun = refl;
 }
 
@@ -37,7 +34,8 @@ loop-place-preserved c = record {
       let at = get_or chosen k 0 in
       let is : slice_get chosen k ≡ Some at = slice_get-get_or chosen k 0 c.loop-place-test.true in
       let next = is-next number l many stretch w.waits chosen kept all k at c.loop-place.self is p call.had.0 call.had.1 in
-      let now = call.judged number l p.log p.order (many + at) _ _ p.read p.judged next in
+      let now = call.judged number l p.log p.order (many + at) _ _ p.read p.judged next
+      (has-ticks number l many stretch w.waits chosen kept all k at c.loop-place.self is p call.had.0 call.had.1) in
       places-next number l many stretch w.waits chosen kept all k at c.loop-place.self is p call.had.0 call.had.1 c.judge_waiting.new.self
       call.takes now.0 now.1;
   begun = c.in_ok-judge_waiting.ensures.begun ∙ c.loop-place.invariant.begun;
@@ -49,5 +47,5 @@ returns-clause-settled c = λ number l w.
     let same = c.deref-at-items.ensures.value ∙ sym c.deref.ensures.value in
     let all = ap length same ∙ c.if-not-allows.ensures.many refl in
     all-placed number l (length w.order) c.loop-place.place c.args.self.now.stretch c.deref-at-items.result.now c.loop-place.self _ w.waits
-    (let end = c.loop-place-test.false in let to = c.loop-place.auto.place-end in omega (arith, end, to, all)) p refl refl refl c.clear.ensures.moved
+    (let end = c.loop-place-test.false in let to = c.loop-place.auto.place-end in omega (arith, end, to, all)) p refl refl refl refl c.clear.ensures.moved
     c.clear.ensures.steps c.clear.ensures.lines

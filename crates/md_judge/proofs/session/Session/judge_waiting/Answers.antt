@@ -1,49 +1,51 @@
-use Rattle.std.proofs.Common.{◌≡◌, List, Option, Some, slice_get, sym, ap, ◌∙◌}
+use Rattle.std.proofs.Common.{◌≡◌, ◌↔◌, List, Option, Some, length, slice_get, refl, sym, ap, subst, ◌∙◌}
 use Rattle.std.specs.Prelude.{unwrap_or}
+use Rattle.std.specs.Prelude.{IsTrue}
+use Rattle.std.proofs.lemmas.Result.{IfOk-at_ok}
+use Rattle.md_law.specs.Clauses.{NotADirectory}
+use Rattle.md_law.specs.Law.{Breaks}
+use Rattle.md_log.specs.declared.clause.Clause.TheVariants as clause
+use Rattle.md_law.specs.History.{next as going}
+use Rattle.md_log.specs.declared.line.Step.{Step}
+use Rattle.md_judge.specs.declared.session.Session.{Session}
 use Rattle.md_judge.specs.declared.stretch.Waiting.{Waiting}
-use Rattle.md_judge.specs.Verdict.{KeepsHead}
-use Rattle.md_judge.proofs.Judging.{holds-ok, judged-waiting}
-use Rattle.md_judge.proofs.Verdicts.{no-step}
+use Rattle.md_judge.specs.Placed.{Judges}
+use Rattle.md_judge.specs.Verdict.{history}
+use Rattle.md_judge.proofs.Answering.{holds-ok, holds-at}
+use Rattle.md_judge.proofs.Judging.{judged-next}
 use Rattle.md_judge.proofs.session.Session.judge_waiting.Goals as goal
 
-pub returns-clause-had : goal.returns-clause-had
-returns-clause-had c = (
+pub returns-in-Ok-false-clause-had : goal.returns-in-Ok-false-clause-had
+returns-in-Ok-false-clause-had c = (
   c.in-Some.waiting,
   ap (λ (ws : List (Option Waiting)). slice_get ws c.args.at) (sym (λ i. (c.place.ensures.steps i).items)) ∙ c.in-Some.ensures.had,
 )
 
-pub returns-clause-judged : goal.returns-clause-judged
-returns-clause-judged c = λ number l m order i x y read judged next.
+pub returns-in-Ok-false-clause-judged : goal.returns-in-Ok-false-clause-judged
+returns-in-Ok-false-clause-judged c = λ number l m order i x y read judged next ticks.
     let s = c.args.self.now in
+    let s' : Session = record s { stretch = c.take.new.self } in
     let t = c.judge_step-judged.new.self in
     let r = c.judge_step-judged.result in
     let call = c.judge_step-judged.ensures in
-    let done = c.in_ok-done_at-2.ensures.variant in
-    let keeps : KeepsHead (record s { stretch = c.take.new.self }) t = holds-ok _ r done call.keeps in
-    let stretch : t.stretch ≡ c.take.new.self = keeps.stretch in
+    let past = history m (length order) in
+    let keeps = holds-at r c.in-Ok-false.field-0 c.in-Ok-false.is call.keeps in
     let had : slice_get s.stretch.steps.items c.args.at ≡ Some (Some c.in-Some.waiting) =
     ap (λ (ws : List (Option Waiting)). slice_get ws c.args.at) (sym (λ i. (c.place.ensures.steps i).items)) ∙ c.in-Some.ensures.had in
     let moment : c.line-moment.result ≡ x.number = c.line-moment.ensures ∙ ap (λ o. unwrap_or o 0) next.moment in
-    let line : c.line-line.result ≡ y.number = c.line-line.ensures ∙ ap (λ o. unwrap_or o 0) next.line in (
-      record {
-        folders = keeps.folders ∙ read.folders;
-        housed = read.housed;
-        first = read.first;
-        numbered = read.numbered;
-        still = λ none. absurd (no-step l.steps none i y next.there);
-      },
-      judged-waiting number l m order i x y s read judged next.here next.there next.comes c.line-moment.result c.line-line.result
-          c.in-Some.waiting.step t moment line (next.waits c.in-Some.waiting had) keeps.allowed
-          (λ lines k j told is at-line few there. holds-ok _ r done (call.told lines k j told is at-line few there))
-          (λ lines k j told is at-line few rises above there. holds-ok _ r done (call.found lines k j told is at-line few rises above there))
-          (λ lines k j told is at-line few rises above there. holds-ok _ r done (call.broken lines k j told is at-line few rises above there))
-          (λ order below. holds-ok _ r done (call.at_lines order below))
-          (λ order earlier. holds-ok _ r done (call.ordered order earlier))
+    let line : c.line-line.result ≡ y.number = c.line-line.ensures ∙ ap (λ o. unwrap_or o 0) next.line in
+    let step : c.in-Some.waiting.step ≡ y.step = next.waits c.in-Some.waiting had in
+    let told : Judges past c.line-line.result c.in-Some.waiting.step s' t =
+    holds-at r c.in-Ok-false.field-0 c.in-Ok-false.is (call.judges past judged.holds) in
+    let judges = subst (λ (z : Step). Judges past y.number z s' t) step (subst (λ n. Judges past n c.in-Some.waiting.step s' t) line told) in (
+      record { folders = keeps.folders ∙ read.folders; housed = read.housed; numbered = read.numbered },
+      judged-next number l m order i x y s read judged next.here next.there next.comes t
+          (record { allowed = judges.allowed; holds = judges.holds; found = judges.found; ordered = judges.ordered; at_lines = judges.at_lines })
           (λ none.
-          holds-ok _ c.place.result c.in_ok-done_at.ensures.variant c.place.ensures.moved
-          ((λ i. (sym c.take.ensures.moved i).entries) ∙ (λ i. (sym stretch i).moved.entries) ∙ none))
-          (λ has. let true' = c.is_wrong.ensures.1 has in let false' = c.if-is_wrong.false in cc (true', false')),
+          let before = holds-ok c.place.result c.in_ok-done_at.ensures.variant c.place.ensures.moved
+          ((λ k. (sym c.take.ensures.moved k).entries) ∙ (λ k. (sym keeps.stretch k).moved.entries) ∙ none) in
+          (sym moment ∙ before.0 ∙ line, before.1))
+          (λ _ wrong. let is = (IfOk-at_ok (λ w. IsTrue w ↔ Breaks clause.NotADirectory (going past c.in-Some.waiting.step)) c.in-Ok-false.is (call.wrong past judged.holds)).1
+          (subst (λ (z : Step). NotADirectory (going past z)) (sym step) wrong) in let not = c.in-Ok-false.field-0-test in cc (is, not))
+          (λ plain. absurd (ticks (plain i y next.there))),
     )
-
-pub returns-clause-begun : goal.returns-clause-begun
-returns-clause-begun c = (holds-ok _ c.judge_step-judged.result c.in_ok-done_at-2.ensures.variant c.judge_step-judged.ensures.keeps).begun

@@ -6,7 +6,6 @@ use Rattle.md_judge.specs.declared.session.Session.{Session}
 use Rattle.md_judge.specs.Logs.{log_by}
 use Rattle.md_judge.specs.Placed.{HasPlaced}
 use Rattle.md_judge.specs.Taken.{HasTaken}
-use Rattle.md_judge.specs.Verdict.{HasRead}
 use Rattle.md_judge.proofs.Taken.{answers-line, any-line, head-is}
 use Rattle.md_judge.proofs.Whole.{takes-line}
 use Rattle.md_judge.proofs.session.Session.line.Goals as goal
@@ -22,7 +21,7 @@ returns-in_err-take-clause-answers c =
     let one : number ≡ suc (length texts) = omega (arith, next, has) in
     answers-line c.from_residual-in_err-take.result given texts c.args.text.now c.args.self.now number taken one
     (λ low. absurd (let high = c.if-line-gt1.true in omega (arith, low, high)))
-    (λ high l read. rw (p.1, p.2) (c.in_err-take.ensures.answers l read)) none
+    (λ high l placed plain. rw (p.1, p.2) (c.in_err-take.ensures.answers l placed plain)) none
 
 pub returns-in_err-take-clause-answers_any : goal.returns-in_err-take-clause-answers_any
 returns-in_err-take-clause-answers_any c =
@@ -47,11 +46,6 @@ returns c = record {
       (λ low. elim c.if-line-gt1.branch [
         | then-line-gt1+in_ok-take w ↦ absurd (let high = w.if-line-gt1.true in omega (arith, low, high))
         | else-line-gt1+else-ne w ↦ w.self-is
-      ])
-      (λ high. elim c.if-line-gt1.branch [
-        | then-line-gt1+in_ok-take w ↦ λ l l' read is ticks.
-            subst (λ (v : Session). HasRead (suc number) l' v) (sym w.self-is) (w.in_ok-take.ensures.read l l' read is ticks)
-        | else-line-gt1+else-ne w ↦ absurd (let low = w.if-line-gt1.false in omega (arith, low, high))
       ])
       (λ high. elim c.if-line-gt1.branch [
         | then-line-gt1+in_ok-take w ↦ λ l l' placed is.

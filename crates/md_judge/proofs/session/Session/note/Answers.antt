@@ -1,13 +1,17 @@
-use Rattle.std.proofs.Common.{refl}
+use Rattle.std.proofs.Common.{◌≡◌, true, refl, sym, ◌∙◌}
+use Rattle.md_watch.specs.Clauses.{breaks}
+use Rattle.md_judge.specs.Clauses.{Has}
 use Rattle.md_judge.proofs.AtLines.{one-at-lines}
 use Rattle.md_judge.proofs.Ordered.{one-ordered}
-use Rattle.md_judge.proofs.Verdicts.{adds-one}
+use Rattle.md_judge.proofs.Adding.{adds-one, adds-none}
 use Rattle.md_judge.proofs.session.Session.note.Goals as goal
 
 pub returns-in_ok-add-clause-found : goal.returns-in_ok-add-clause-found
 returns-in_ok-add-clause-found c = λ o.
-    adds-one c.args.clause o c.args.line _ c.args.self.now.findings.items c.push.new.self.items c.args.self.now.judge
-    (c.if-is_broken.ensures.0 refl) c.in_ok-push.ensures.items
+    adds-one c.args.clause o c.args.line _ c.args.self.now.findings.items c.push.new.self.items
+    (λ k. (breaks c.args.broken.now k ≡ true) × (Has c.args.self.now.allowed k → ⊥))
+    (sym c.breaks.ensures ∙ c.if-breaks.true, λ has. let is = c.contains.ensures.1 has in let not = c.if-not-contains.true in cc (is, not))
+    c.in_ok-push.ensures.items
 
 pub returns-in_ok-add-clause-ordered : goal.returns-in_ok-add-clause-ordered
 returns-in_ok-add-clause-ordered c =

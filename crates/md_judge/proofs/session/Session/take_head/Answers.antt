@@ -1,79 +1,68 @@
-use Rattle.std.proofs.Common.{ℕ, ◌≡◌, ◌↔◌, ◌⊎◌, List, Result, Ok, IsOk, refl, sym, ap, subst, ◌∙◌}
-use Rattle.std.proofs.lemmas.Result.{err_from_is_err_and}
-use Rattle.md_log.specs.Folders.{with_folder}
-use Rattle.md_log.specs.declared.error.LineFault.{LineFault}
+use Rattle.std.proofs.Common.{suc, ◌≡◌, ◌∷◌, Ok, OnOk, IsOk, refl, sym, ap, subst, ◌∙◌}
 use Rattle.md_log.specs.declared.line.Line.{Line}
-use Rattle.md_log.specs.declared.clause.Clause.{Clause}
-use Rattle.md_clauses.specs.declared.clauses.Clauses.{Clauses}
-use Rattle.md_clauses.specs.Found.{Has}
-use Rattle.md_judge.specs.Logs.{with_line}
-use Rattle.md_judge.specs.Recalled.{Agrees}
-use Rattle.md_judge.specs.Verdict.{IsHeadOf}
-use Rattle.md_judge.proofs.Housed.{folders-after}
-use Rattle.md_judge.proofs.Taken.{folder-ok, folder-wrong, remembers-head}
-use Rattle.md_judge.proofs.Verdicts.{allow-read, folder-read, path-read, file-rest, also-rest}
+use Rattle.md_log.specs.Folders.{with_folder}
+use Rattle.md_judge.specs.declared.session.Session.{Session}
+use Rattle.md_judge.specs.Logs.{Log, with_line, with_folder_line}
+use Rattle.md_judge.specs.Placed.{HasPlaced}
+use Rattle.md_judge.specs.Taken.{Agrees}
+use Rattle.md_judge.proofs.Answering.{ok-one, ok-both}
+use Rattle.md_judge.proofs.Beginning.{placed-beginning, beginning-placed, allows}
+use Rattle.md_judge.proofs.Heading.{held, first, folder-head, file-head, name-head, file-agrees, name-agrees, folder-agrees}
 use Rattle.md_judge.proofs.session.Session.take_head.Goals as goal
 
-pub returns-in_err-name_folder-in-Folder-clause-agrees : goal.returns-in_err-name_folder-in-Folder-clause-agrees
-returns-in_err-name_folder-in-Folder-clause-agrees c =
-    let p = err_from_is_err_and c.from_residual.result c.from_residual.ensures.1 in
-    λ l read none. rw (p.1, p.2) (λ known. ap (with_line l c.args.number) c.in-Folder.is
-    ∙ folder-wrong c.args.number l c.args.self.now c.in-Folder.name _ read
-    (ap (λ (name : List ℕ). with_folder c.args.self.now.folders name) (sym c.as_slice.ensures) ∙ c.in_err-name_folder-in-Folder.ensures.folders known))
+pub returns-in-Folder-clause-placed : goal.returns-in-Folder-clause-placed
+returns-in-Folder-clause-placed c = λ l l' p none head is.
+    let s = c.args.self.now in
+    let puts = c.put_folder.ensures.puts (first l) (held c.args.number l s p none) in
+    let named = c.as_slice.ensures in
+    ok-both c.put_folder.result c.put_folder.ensures.folders puts (λ folders holds.
+    folder-head c.args.number l s p none l' c.put_folder.new.self c.put_folder.ensures.keeps c.in-Folder.name
+    (ap (λ n. with_folder s.folders n) (sym named) ∙ folders) holds
+    (subst (λ (x : Line). with_line l c.args.number x ≡ Ok l') c.in-Folder.is is))
 
-pub returns-in-Folder : goal.returns-in-Folder
-returns-in-Folder c = let named = ap (λ (name : List ℕ). with_folder c.args.self.now.folders name) (sym c.as_slice.ensures) in record {
-  read = λ l l' read none head is.
-      let done : Result (Unit {0}) LineFault = Ok tt in
-      folder-read c.args.number l l' c.args.self.now (record c.args.self.now { folders = c.name_folder.new.folders; judge = c.add_folder.new.self }) read none refl
-      refl refl c.go_to.new.self c.go_to.ensures.told c.go_to.ensures.allowed done
-      c.in_ok-add_folder-in-Folder.ensures.allowed c.in-Folder.name (named ∙ c.in_ok-name_folder-in-Folder.ensures.folders)
-      (subst (λ (x : Line). with_line l c.args.number x ≡ Ok l') c.in-Folder.is is) c.in_ok-add_folder-in-Folder.ensures.told;
-  waits = refl;
-  agrees = λ l read none.
-      subst (λ (x : Line). IsOk (with_line l c.args.number x)) (sym c.in-Folder.is)
-      (folder-ok c.args.number l c.args.self.now c.in-Folder.name _ read (named ∙ c.in_ok-name_folder-in-Folder.ensures.folders));
-}
+pub returns-in-Folder-clause-agrees : goal.returns-in-Folder-clause-agrees
+returns-in-Folder-clause-agrees c = λ l p none.
+    subst (λ (x : Line). Agrees c.put_folder.result (with_line l c.args.number x)) (sym c.in-Folder.is)
+    (subst (λ n. Agrees c.put_folder.result (with_folder_line l n)) c.as_slice.ensures
+    (folder-agrees l c.put_folder.result c.args.self.now.folders c.put_folder.new.self.folders c.as_slice.result.now p.waiting.read.folders
+    c.put_folder.ensures.folders c.put_folder.ensures.refused))
 
-pub returns-in-Allow : goal.returns-in-Allow
-returns-in-Allow c = record {
-  read = λ l l' read none head is.
-      let is' = subst (λ (x : Line). with_line l c.args.number x ≡ Ok l') c.in-Allow.is is in
-      allow-read c.args.number l l' c.args.self.now (record c.args.self.now { judge = c.allow.new.self }) c.in-Allow.clause read none (cc is') refl refl
-      refl refl (λ lines m i told. c.allow.ensures.told lines m i (c.go_to.ensures.told lines m i told))
-      (subst (λ (a : Clauses). (o : Clause) → Has c.allow.new.self.allowed o ↔ (Has a o ⊎ (o ≡ c.in-Allow.clause))) c.go_to.ensures.allowed c.allow.ensures.allowed);
-  waits = refl;
-  agrees = λ l read none. subst (λ (x : Line). IsOk (with_line l c.args.number x)) (sym c.in-Allow.is) refl;
-}
+pub returns-in-Allow-clause-placed : goal.returns-in-Allow-clause-placed
+returns-in-Allow-clause-placed c = λ l l' p none head is.
+    let is' = subst (λ (x : Line). with_line l c.args.number x ≡ Ok l') c.in-Allow.is is in
+    let same : record l { allowed = c.in-Allow.clause ∷ l.allowed } ≡ l' = cc is' in
+    let t : Session = record c.args.self.now { allowed = c.add.new.self } in
+    subst (λ (m : Log). HasPlaced (suc c.args.number) m t) same
+    (beginning-placed (suc c.args.number) (record l { allowed = c.in-Allow.clause ∷ l.allowed }) t
+    (allows l c.args.self.now t c.in-Allow.clause (placed-beginning c.args.number l c.args.self.now none p) refl refl refl refl refl c.add.ensures))
 
-pub returns-in-File : goal.returns-in-File
-returns-in-File c = record {
-  read = λ l l' read none head is.
-      let is' = subst (λ (x : Line). with_line l c.args.number x ≡ Ok l') c.in-File.is is in
-      let head' = subst (IsHeadOf l.opening) c.in-File.is head in
-      path-read c.args.number l l' c.args.self.now (record c.args.self.now { judge = c.put_file.new.self }) read none refl refl refl
-      c.go_to.new.self c.go_to.ensures.told c.go_to.ensures.allowed c.put_file.result c.put_file.ensures.allowed
-      (file-rest l l' c.in-File.path c.in-File.stamp is') (folders-after l l' c.args.number c.args.line read.housed is) refl
-      (λ lines told low. c.put_file.ensures.told lines l l' told is' low head');
-  waits = refl;
-  agrees = λ l read none.
-      subst (λ (x : Line). Agrees c.put_file.result (with_line l c.args.number x)) (sym c.in-File.is)
-      (c.put_file.ensures.agrees (λ _. c.args.number) l
-      (c.go_to.ensures.told (λ _. c.args.number) l 0 (remembers-head c.args.number l c.args.self.now read none)));
-}
+pub returns-in-Allow-clause-agrees : goal.returns-in-Allow-clause-agrees
+returns-in-Allow-clause-agrees c = λ l p none. subst (λ (x : Line). IsOk (with_line l c.args.number x)) (sym c.in-Allow.is) refl
 
-pub returns-in-Also : goal.returns-in-Also
-returns-in-Also c = record {
-  read = λ l l' read none head is.
-      let is' = subst (λ (x : Line). with_line l c.args.number x ≡ Ok l') c.in-Also.is is in
-      let head' = subst (IsHeadOf l.opening) c.in-Also.is head in
-      path-read c.args.number l l' c.args.self.now (record c.args.self.now { judge = c.put_name.new.self }) read none refl refl refl
-      c.go_to.new.self c.go_to.ensures.told c.go_to.ensures.allowed c.put_name.result c.put_name.ensures.allowed
-      (also-rest l l' c.in-Also.path c.in-Also.old is') (folders-after l l' c.args.number c.args.line read.housed is) refl
-      (λ lines told low. c.put_name.ensures.told lines l l' told is' low head');
-  waits = refl;
-  agrees = λ l read none.
-      subst (λ (x : Line). Agrees c.put_name.result (with_line l c.args.number x)) (sym c.in-Also.is)
-      (c.put_name.ensures.agrees (λ _. c.args.number) l
-      (c.go_to.ensures.told (λ _. c.args.number) l 0 (remembers-head c.args.number l c.args.self.now read none)));
-}
+pub returns-in-File-clause-placed : goal.returns-in-File-clause-placed
+returns-in-File-clause-placed c = λ l l' p none head is.
+    let s = c.args.self.now in
+    ok-one c.put_file.result (c.put_file.ensures.puts (first l) (held c.args.number l s p none)) (λ puts.
+    file-head c.args.number l s p none l' c.put_file.new.self c.put_file.ensures.keeps c.in-File.path c.in-File.stamp c.put_file.ensures.folders puts
+    (subst (λ (x : Line). with_line l c.args.number x ≡ Ok l') c.in-File.is is))
+
+pub returns-in-File-clause-agrees : goal.returns-in-File-clause-agrees
+returns-in-File-clause-agrees c = λ l p none.
+    let holds = held c.args.number l c.args.self.now p none in
+    subst (λ (x : Line). Agrees c.put_file.result (with_line l c.args.number x)) (sym c.in-File.is)
+    (file-agrees l c.put_file.result c.put_file.new.self.watch c.in-File.path c.in-File.stamp (c.put_file.ensures.puts (first l) holds)
+    (c.put_file.ensures.refused (first l) holds))
+
+pub returns-in-Also-clause-placed : goal.returns-in-Also-clause-placed
+returns-in-Also-clause-placed c = λ l l' p none head is.
+    let s = c.args.self.now in
+    ok-one c.put_name.result (c.put_name.ensures.puts (first l) (held c.args.number l s p none)) (λ puts.
+    name-head c.args.number l s p none l' c.put_name.new.self c.put_name.ensures.keeps c.in-Also.path c.in-Also.old c.put_name.ensures.folders puts
+    (subst (λ (x : Line). with_line l c.args.number x ≡ Ok l') c.in-Also.is is))
+
+pub returns-in-Also-clause-agrees : goal.returns-in-Also-clause-agrees
+returns-in-Also-clause-agrees c = λ l p none.
+    let holds = held c.args.number l c.args.self.now p none in
+    subst (λ (x : Line). Agrees c.put_name.result (with_line l c.args.number x)) (sym c.in-Also.is)
+    (name-agrees l c.put_name.result c.put_name.new.self.watch c.in-Also.path c.in-Also.old (c.put_name.ensures.puts (first l) holds)
+    (c.put_name.ensures.refused (first l) holds))

@@ -1,6 +1,6 @@
 use Rattle.std.proofs.Common.{sym, ◌∙◌}
-use Rattle.md_owed.specs.Clauses.{IsBroken}
-use Rattle.md_owed.proofs.Keys.{then}
+use Rattle.md_watch.specs.Clauses.{IsBroken}
+use Rattle.md_watch.proofs.Keys.{then}
 use Rattle.md_owed.proofs.Telling.{adds-broken}
 use Rattle.md_owed.proofs.session.Session.note_broken.Goals as goal
 

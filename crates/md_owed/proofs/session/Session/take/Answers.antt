@@ -1,12 +1,14 @@
 use Rattle.std.proofs.Common.{Ok, refl, sym, ap, ◌∙◌}
 use Rattle.std.proofs.lemmas.Result.{IfErr-weaker}
 use Rattle.md_log.specs.declared.line.Line.TheVariants as line
-use Rattle.md_owed.specs.Sessions.{IsWhy, with_step}
+use Rattle.md_watch.proofs.Keys.{then}
 use Rattle.md_judge.specs.Logs.{with_text}
+use Rattle.md_judge.specs.Placed.{with_step}
+use Rattle.md_judge.proofs.Lines.{is-head}
+use Rattle.md_owed.specs.Sessions.{IsWhy}
 use Rattle.md_owed.specs.declared.fault.Why.TheVariants.{Wrong}
-use Rattle.md_owed.proofs.Keys.{then}
 use Rattle.md_owed.proofs.Refusing.{passed-on, heads-early, line-wrong, head-wrong, step-wrong}
-use Rattle.md_owed.proofs.Telling.{reads-over, reads-line, is-head}
+use Rattle.md_owed.proofs.Telling.{reads-over, reads-line}
 use Rattle.md_owed.proofs.session.Session.take.Goals as goal
 
 pub returns-then-is_passed_over-clause-reads : goal.returns-then-is_passed_over-clause-reads
@@ -47,5 +49,5 @@ returns-in_err-take_head-in_default-clause-refused c = λ l read.
     (λ why. IsWhy why (with_text l c.args.number c.args.text.now)) c.from_residual-in_err-take_head-in_default.ensures.1
     (head-wrong l c.args.number c.args.text.now c.args.self.now read (sym c.is_passed_over.ensures ∙ c.if-is_passed_over.false)
     c.in_ok-head.head c.in_ok-head.ensures c.in_err-take_head-in_default.field-0.0
-    (c.in_err-take_head-in_default.ensures.refused l c.args.number read
+    (c.in_err-take_head-in_default.ensures.agrees l c.args.number read
     (heads-early c.args.self.now.folders c.args.self.now.has_begun c.args.text.now c.in_ok-head.head c.in_default.not-Step c.in_ok-head.ensures)))

@@ -1,11 +1,11 @@
 use Rattle.std.proofs.Common.{true, refl, sym, subst, ◌∙◌, length}
 use Rattle.md_law.specs.History.{next}
+use Rattle.md_watch.specs.Watches.{Holds}
+use Rattle.md_watch.specs.declared.clause.OwedClause.TheVariants.{TwoNames}
+use Rattle.md_watch.proofs.Keys.{none-of}
 use Rattle.md_judge.specs.Logs.{Numbered}
-use Rattle.md_owed.specs.Sessions.{history}
-use Rattle.md_owed.specs.Watches.{Holds}
-use Rattle.md_owed.specs.declared.clause.OwedClause.TheVariants.{TwoNames}
+use Rattle.md_judge.specs.Verdict.{history}
 use Rattle.md_owed.specs.declared.session.Session.{Session}
-use Rattle.md_owed.proofs.Keys.{none-of}
 use Rattle.md_owed.proofs.Telling.{owed, adds-none, adds-next, adds-all, step-read}
 use Rattle.md_owed.proofs.session.Session.take_step.Goals as goal
 

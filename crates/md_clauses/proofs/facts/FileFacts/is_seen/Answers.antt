@@ -1,5 +1,0 @@
-use Rattle.std.proofs.Common.{rules}
-use Rattle.md_clauses.proofs.facts.FileFacts.is_seen.Goals as goal
-
-pub returns : goal.returns
-returns c = search rules

@@ -1,6 +1,0 @@
-pub mod Found
-pub mod Befores
-pub mod Facts
-pub mod Changes
-pub mod Goings
-pub mod Claims

@@ -1,0 +1,40 @@
+//! Sets of clauses.
+ghost use Rattle.std.specs.Prelude.{◌≡◌, ◌<◌, ◌↔◌, ◌⊎◌, IsTrue};
+ghost use Rattle.md_log.specs.declared.clause.Clause.{Clause};
+ghost use Rattle.md_judge.specs.Clauses.{Has, clause_index};
+
+use md_log::Clause;
+
+/// A set of clauses.
+#[derive(Clone, Copy)]
+pub(crate) struct Clauses {
+    has: [bool; 13],
+}
+
+impl Clauses {
+    pub(crate) fn none() -> Self
+        ensures { (c : Clause) → Has result c → ⊥ }
+    {
+        Clauses { has: [false; 13] }
+    }
+
+    pub(crate) fn add(&mut self, clause: Clause)
+        ensures { (c : Clause) → Has self.new c ↔ (Has self.old c ⊎ (c ≡ clause)) }
+    {
+        self.has[number_of(clause)] = true;
+    }
+
+    pub(crate) fn contains(&self, clause: Clause) -> bool
+        ensures { IsTrue result ↔ Has self.now clause }
+    {
+        self.has[number_of(clause)]
+    }
+}
+
+/// The number of a clause in the order of the law.
+pub(crate) fn number_of(clause: Clause) -> usize
+    ensures exact { result ≡ clause_index clause }
+    ensures few { result < 13 }
+{
+    clause as usize
+}

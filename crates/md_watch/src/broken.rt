@@ -1,0 +1,97 @@
+//! Which clauses a step breaks.
+ghost use Rattle.std.specs.Prelude.{◌≡◌};
+ghost use Rattle.md_watch.specs.Clauses.{is_broken, breaks};
+
+use crate::clause::OwedClause;
+use crate::memory::Heard;
+use md_log::Clause;
+
+/// Which clauses a step breaks: those that are found when its change was made, and those that are found before.
+#[derive(Clone, Copy)]
+pub struct Broken {
+    pub(crate) two_names: bool,
+    pub(crate) in_two_folders: bool,
+    pub(crate) gone: bool,
+    pub(crate) cleaned_early: bool,
+    pub(crate) law: LawBefore,
+    pub(crate) owed: OwedBefore,
+    pub(crate) heard: Heard,
+}
+
+/// What is found before a step's change is made: of what the directories after it tell, what it needs of before.
+#[derive(Clone, Copy)]
+pub(crate) struct Before {
+    /// A path of a message is added.
+    pub(crate) adds: bool,
+    /// The step unlinks a path in cur that shows the flag T.
+    pub(crate) empties_trash: bool,
+    /// A path of tmp leaves a young file that another made: the one that is taken, and the one that is turned.
+    pub(crate) takes_early: bool,
+    pub(crate) turns_early: bool,
+    pub(crate) law: LawBefore,
+    pub(crate) owed: OwedBefore,
+}
+
+/// Which clauses of the law are found to be broken before the change is made.
+#[derive(Clone, Copy)]
+pub(crate) struct LawBefore {
+    pub(crate) not_a_directory: bool,
+    pub(crate) overwritten: bool,
+    pub(crate) seen_before_whole: bool,
+    pub(crate) mixed: bool,
+    pub(crate) not_flushed: bool,
+    pub(crate) used_again: bool,
+    pub(crate) moved_back: bool,
+}
+
+/// Which of those that are owed beside it.
+#[derive(Clone, Copy)]
+pub(crate) struct OwedBefore {
+    pub(crate) mixed: bool,
+    pub(crate) named_by_another: bool,
+    pub(crate) rewritten: bool,
+    pub(crate) used_again: bool,
+    pub(crate) made_again: bool,
+    pub(crate) written_late: bool,
+}
+
+impl Broken {
+    /// Whether the step breaks the clause of what is owed.
+    pub fn has(&self, clause: OwedClause) -> bool
+        ensures { result ≡ is_broken self.now clause }
+    {
+        match clause {
+            OwedClause::TwoNames => self.two_names,
+            OwedClause::InTwoFolders => self.in_two_folders,
+            OwedClause::Mixed => self.owed.mixed,
+            OwedClause::NamedByAnother => self.owed.named_by_another,
+            OwedClause::CleanedEarly => self.cleaned_early,
+            OwedClause::Rewritten => self.owed.rewritten,
+            OwedClause::MovedBack => self.law.moved_back,
+            OwedClause::UsedAgain => self.owed.used_again,
+            OwedClause::MadeAgain => self.owed.made_again,
+            OwedClause::WrittenLate => self.owed.written_late,
+        }
+    }
+
+    /// Whether the step breaks the clause of the law.
+    pub fn breaks(&self, clause: Clause) -> bool
+        ensures { result ≡ breaks self.now clause }
+    {
+        match clause {
+            Clause::NotADirectory => self.law.not_a_directory || self.heard.read.misread,
+            Clause::Overwritten => self.law.overwritten,
+            Clause::SeenBeforeWhole => self.law.seen_before_whole,
+            Clause::Mixed => self.law.mixed,
+            Clause::NotFlushed => self.law.not_flushed,
+            Clause::TwoNames => self.two_names,
+            Clause::Gone => self.gone,
+            Clause::UsedAgain => self.law.used_again,
+            Clause::MovedBack => self.law.moved_back,
+            Clause::CleanedEarly => self.cleaned_early,
+            Clause::Unlisted => self.heard.read.unlisted,
+            Clause::GaveUp => self.heard.told.gave_up,
+            Clause::AnsweredFalsely => self.heard.told.falsely,
+        }
+    }
+}

@@ -1,0 +1,188 @@
+//! When messages showed flags in cur.
+ghost use Rattle.std.specs.Prelude.{◌≡◌, ℕ, List, Some, None, nat_eq, nat_lt, OnOk};
+ghost use Rattle.std.specs.Option.{option_map};
+ghost use Rattle.md_watch.specs.Changes.{turn_of};
+ghost use Rattle.md_watch.specs.Files.{lent_as};
+ghost use Rattle.md_watch.specs.Flagged.{Changes, Comes, Follows, Goes, Lends, Puts, count_by, count_in, count_of, is_in, less_at, lent_mark, mark_of, more_at, spell_by, spell_in, spell_of};
+ghost use Rattle.md_watch.specs.Spells.{ever_by, spell_at};
+ghost use Rattle.md_watch.specs.Tables.{count_at};
+
+use crate::change::{Change, Named, is_cur};
+use crate::spells::Spells;
+use crate::table::Table;
+use indexmap::IndexMap;
+use md_dirs::Path;
+use md_name::{Flags, split};
+use std::alloc::{AllocError, Global};
+
+/// Of the messages that show one set of flags by how many names in cur they do, and when they did, by their folders and unique names.
+#[derive(Drop)]
+struct Shown {
+    names: Table<usize>,
+    spells: Spells,
+}
+
+impl Shown {
+    fn new(alloc: Global) -> Self
+        ensures counts { (folder : ℕ) (unique : List ℕ) → count_of (Some result) folder unique ≡ 0 }
+        ensures spells { (folder : ℕ) (unique : List ℕ) → spell_of (Some result) folder unique ≡ None }
+    {
+        Shown {
+            names: Table::new(alloc),
+            spells: Spells::new(alloc),
+        }
+    }
+
+    fn is(&self, folder: usize, unique: &[u8]) -> bool
+        ensures { result ≡ nat_lt 0 (count_at self.now.names folder unique.now) }
+    {
+        self.names.count(folder, unique) > 0
+    }
+
+    /// Whether the message showed the flags at a moment from one to now.
+    fn was(&self, folder: usize, unique: &[u8], first: usize) -> bool
+        ensures { result
+            ≡ ever_by (nat_lt 0 (count_at self.now.names folder unique.now)) (spell_at self.now.spells folder unique.now) first }
+    {
+        let is = self.is(folder, unique);
+        self.spells.was_ever(folder, unique, is, first)
+    }
+
+    /// One more name shows them.
+    fn come(&mut self, folder: usize, unique: &[u8], now: usize) -> Result<(), AllocError>
+        ensures { OnOk result (Changes (more_at folder unique.now) now (Some self.old) (Some self.new)) }
+    {
+        let was = self.is(folder, unique);
+        self.names.raise(folder, unique)?;
+        let is = self.is(folder, unique);
+        self.spells.note(folder, unique, was, is, now)
+    }
+
+    /// One name less does.
+    fn go(&mut self, folder: usize, unique: &[u8], now: usize) -> Result<(), AllocError>
+        ensures { OnOk result (Changes (less_at folder unique.now) now (Some self.old) (Some self.new)) }
+    {
+        let was = self.is(folder, unique);
+        self.names.lower(folder, unique)?;
+        let is = self.is(folder, unique);
+        self.spells.note(folder, unique, was, is, now)
+    }
+}
+
+/// By how many names in cur each message shows each set of flags, and when it did.
+#[derive(Drop)]
+pub(crate) struct Flagged {
+    alloc: Global,
+    /// By the bits of a set of flags.
+    sets: IndexMap<u64, Shown>,
+}
+
+impl Flagged {
+    pub(crate) fn new(alloc: Global) -> Self
+        ensures counts { (word folder : ℕ) (unique : List ℕ) → count_by result word folder unique ≡ 0 }
+        ensures spells { (word folder : ℕ) (unique : List ℕ) → spell_by result word folder unique ≡ None }
+    {
+        Flagged {
+            alloc,
+            sets: IndexMap::new(alloc),
+        }
+    }
+
+    /// Whether the message shows the flags in cur of the folder.
+    pub(crate) fn is_shown(&self, folder: u32, unique: &[u8], flags: Flags) -> bool
+        ensures { result ≡ is_in self.now folder unique.now flags }
+    {
+        match self.sets.get(&flags.bits()) {
+            None => false,
+            Some(shown) => shown.is(folder as usize, unique),
+        }
+    }
+
+    /// Whether it showed them at a moment from one to now.
+    pub(crate) fn was_shown(&self, folder: u32, unique: &[u8], flags: Flags, first: usize) -> bool
+        ensures { result ≡ ever_by (is_in self.now folder unique.now flags) (spell_in self.now folder unique.now flags) first }
+    {
+        match self.sets.get(&flags.bits()) {
+            None => false,
+            Some(shown) => shown.was(folder as usize, unique, first),
+        }
+    }
+
+    /// At the beginning a path names a file.
+    pub(crate) fn put(&mut self, path: &Path) -> Result<(), AllocError>
+        ensures { OnOk result (Puts path.now self.old self.new) }
+    {
+        let Some((unique, word)) = mark_of(path) else {
+            return Ok(());
+        };
+        let mut shown = self.lend(word);
+        shown.names.raise(path.folder as usize, unique)?;
+        self.sets.insert(word, shown)?;
+        Ok(())
+    }
+
+    /// A step of a number changes paths. One that turns to another file shows once more what it showed, and then once less.
+    pub(crate) fn follow(&mut self, change: &Change<'_>, now: usize) -> Result<(), AllocError>
+        ensures { OnOk result (Follows (turn_of change.now) now self.old self.new) }
+    {
+        self.come(change.named, now)?;
+        self.go(change.taken, now)?;
+        self.go(change.turned, now)
+    }
+
+    fn come(&mut self, named: Option<Named<'_>>, now: usize) -> Result<(), AllocError>
+        ensures { OnOk result (Comes (lent_as named.entry) now self.old self.new) }
+    {
+        let Some((path, _)) = named else {
+            return Ok(());
+        };
+        let Some((unique, word)) = mark_of(path) else {
+            return Ok(());
+        };
+        let mut shown = self.lend(word);
+        shown.come(path.folder as usize, unique, now)?;
+        self.sets.insert(word, shown)?;
+        Ok(())
+    }
+
+    fn go(&mut self, named: Option<Named<'_>>, now: usize) -> Result<(), AllocError>
+        ensures { OnOk result (Goes (lent_as named.entry) now self.old self.new) }
+    {
+        let Some((path, _)) = named else {
+            return Ok(());
+        };
+        let Some((unique, word)) = mark_of(path) else {
+            return Ok(());
+        };
+        let mut shown = self.lend(word);
+        shown.go(path.folder as usize, unique, now)?;
+        self.sets.insert(word, shown)?;
+        Ok(())
+    }
+
+    /// Gives what is kept of a set of flags, to be changed and put back.
+    fn lend(&mut self, word: u64) -> Shown
+        ensures { Lends word result self.old self.new }
+    {
+        match self.sets.swap_remove(&word) {
+            None => Shown::new(self.alloc),
+            Some(shown) => shown,
+        }
+    }
+}
+
+/// What a path of cur shows, where it is a message's with flags: the unique name, and the bits of the flags.
+fn mark_of(path: &Path) -> Option<(&[u8], u64)>
+    ensures { option_map lent_mark result ≡ mark_of path.now }
+{
+    if !is_cur(path.place) {
+        return None;
+    }
+    match split(path.name.as_slice()) {
+        None => None,
+        Some((unique, info)) => match info.flags() {
+            None => None,
+            Some(flags) => Some((unique, flags.bits())),
+        },
+    }
+}

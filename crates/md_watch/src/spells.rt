@@ -1,0 +1,117 @@
+//! When things were there.
+ghost use Rattle.std.specs.Prelude.{◌≡◌, ℕ, List, None, OnOk, nat_le};
+ghost use Rattle.std.specs.List.{list_any};
+ghost use Rattle.md_watch.specs.Spells.{Notes, always_by, ever_by, spell_at, was_through};
+
+use crate::table::Table;
+use std::alloc::{AllocError, Global};
+
+/// Since which moment a thing is there, where it is, and the times at which it was there before, each from its first moment to its last.
+#[derive(Drop)]
+pub(crate) struct Spell {
+    since: usize,
+    ended: Vec<(usize, usize)>,
+}
+
+/// When things were there, by a number and a name each. Moments are numbered from 0: the step of a number goes from the moment of that
+/// number to the next. Of what was always there, or never, nothing is kept; whether a thing is there now, the caller says.
+#[derive(Drop)]
+pub(crate) struct Spells {
+    alloc: Global,
+    all: Table<Spell>,
+}
+
+impl Spells {
+    pub(crate) fn new(alloc: Global) -> Self
+        ensures { (number : ℕ) (name : List ℕ) → spell_at result number name ≡ None }
+    {
+        Spells {
+            alloc,
+            all: Table::new(alloc),
+        }
+    }
+
+    /// A step of a number: whether the thing was there before it, and whether it is there after it.
+    pub(crate) fn note(
+        &mut self,
+        number: usize,
+        name: &[u8],
+        was: bool,
+        is: bool,
+        now: usize,
+    ) -> Result<(), AllocError>
+        ensures { OnOk result (Notes number name.now was is now self.old self.new) }
+    {
+        if was == is {
+            return Ok(());
+        }
+        let mut spell = match self.all.take(number, name) {
+            None => Spell {
+                since: 0,
+                ended: Vec::new(self.alloc),
+            },
+            Some(spell) => spell,
+        };
+        if is {
+            let Some(next) = now.checked_add(1) else {
+                return Err(AllocError);
+            };
+            spell.since = next;
+        } else {
+            spell.ended.push((spell.since, now))?;
+        }
+        self.all.put(number, name, spell)
+    }
+
+    /// Whether a thing that is there now, or not, was there at each moment from one to another, which is no later than now.
+    pub(crate) fn was_always(
+        &self,
+        number: usize,
+        name: &[u8],
+        is: bool,
+        first: usize,
+        last: usize,
+    ) -> bool
+        ensures { result ≡ always_by is (spell_at self.now number name.now) first last }
+    {
+        match self.all.get(number, name) {
+            None => is,
+            Some(spell) => {
+                is && spell.since <= first || was_through(spell.ended.as_slice(), first, last)
+            }
+        }
+    }
+
+    /// Whether it was there at a moment from one to now.
+    pub(crate) fn was_ever(&self, number: usize, name: &[u8], is: bool, first: usize) -> bool
+        ensures { result ≡ ever_by is (spell_at self.now number name.now) first }
+    {
+        match self.all.get(number, name) {
+            None => is,
+            Some(spell) => is || was_since(spell.ended.as_slice(), first),
+        }
+    }
+}
+
+/// Whether one of some times, each after the other, goes from a moment to another.
+fn was_through(times: &[(usize, usize)], first: usize, last: usize) -> bool
+    ensures { result ≡ was_through times.now first last }
+{
+    for at in (0..times.len()).rev() {
+        let (begin, end) = times[at];
+        if end < last {
+            return false;
+        }
+        if begin <= first {
+            return true;
+        }
+    }
+    false
+}
+
+/// Whether one of some times ended no earlier than a moment.
+fn was_since(times: &[(usize, usize)], first: usize) -> bool
+    ensures { result ≡ list_any (λ t. nat_le first t.1) times.now }
+{
+    times.iter().any(|time| first <= time.1)
+}
