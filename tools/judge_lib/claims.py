@@ -129,7 +129,8 @@ class Claims:
                 seen = _with_flags(claim, seen._replace(has_begun=True))
             if line.actor == actor and line.text.startswith(self._making[claim.folder]):
                 seen = seen._replace(made=line.text[len(self._making[claim.folder]):].split(b" ")[0])
-            while change is not None and change.lines <= number:
+            # A step's comment, which is nobody's, comes before its lines.
+            while change is not None and change.lines <= number and line.actor is not None:
                 seen = _changed(claim, seen, change, line.actor == actor)
                 change = next(changes, None)
         return seen

@@ -42,6 +42,8 @@ class Directories:
         self._former: Dict[Path, List[int]] = {}
         self._files = 0
         self._undo: List[Callable[[], Any]] = []
+        # How many names of tmp were made up.
+        self._made_up = 0
         # The lines of the log since it was settled.
         self.told: List[Any] = []
         # Whether comments tell which names were only looked at, for which a log has no word.
@@ -79,6 +81,16 @@ class Directories:
         """A file of no name yet."""
         self._files += 1
         return self._files
+
+    def made_up(self, folder: bytes) -> Path:
+        """A name in tmp that nothing has, for a file that comes from outside."""
+        former = self._made_up
+        self._undo.append(lambda: setattr(self, "_made_up", former))
+        while True:
+            self._made_up += 1
+            path = Path(folder, "tmp", b"arrived.%d" % self._made_up)
+            if path not in self.names:
+                return path
 
     def put(self, path: Path, file: int) -> None:
         """Has a path name a file, and no other any more."""

@@ -71,6 +71,11 @@ class Folders:
             return Path(place.folder, place.place, name)
         return self._places.get(os.path.join(parent, name)) or self._places.get(self._real(path))
 
+    def outside(self, path: bytes) -> bytes:
+        """The path of a file outside without links, as the system knows it."""
+        parent, _, name = path.rstrip(b"/").rpartition(b"/")
+        return self._real(path) if name in _NO_NAMES else os.path.join(self._real(parent or b"/"), name)
+
     def holds(self, path: bytes) -> bool:
         """Whether a judged directory is at a path or below it."""
         return self._real(path) in self._above

@@ -7,6 +7,7 @@ from typing import Any, Dict, FrozenSet, Iterable, List, NamedTuple, Optional, T
 
 from .arguments import Descriptor
 from .folders import Place
+from .outside import OutsideFile
 
 
 # No process has this number.
@@ -27,13 +28,15 @@ class Turn:
 class OpenFile:
     """An open file or directory. Descriptors that were copied share one. Who writes through it writes for the actor that opened it."""
 
-    __slots__ = ("file", "place", "is_judged", "actor", "is_sync", "turn")
+    __slots__ = ("file", "place", "is_judged", "outside", "actor", "is_sync", "turn")
 
     def __init__(self, actor: Optional[str] = None, is_sync: bool = False) -> None:
         self.file: Optional[int] = None
         self.place: Optional[Place] = None
         # Whether it was opened in a judged folder.
         self.is_judged = False
+        # What is known of it, where it was opened outside.
+        self.outside: Optional[OutsideFile] = None
         self.actor = actor
         self.is_sync = is_sync
         self.turn = Turn()

@@ -8,8 +8,9 @@ from typing import Callable, Dict, Iterable, Iterator, List, Optional, Set, Unio
 from .arguments import Descriptor, read_descriptor, read_string, shown_names, split
 from .folders import Folders, Place, first_path
 from .names import Path
+from .outside import Coming, Made, OutsideFile, OutsideFiles
 from .processes import OpenFile, Process, Processes, Turn
-from .steps import FlushAll, FromOutside, Look, Name, OnFile, Open, Read, Step, Unlink, Unsaid, When, text_of
+from .steps import AtOnce, FlushAll, Look, Name, OnFile, Open, Read, Step, Unlink, Unsaid, When, text_of
 from .strace_lines import LOOKS, STARTS, Begun, Call, Ended, Event, Opening, Starting, Unread
 
 _SYNC = re.compile(r"\bO_D?SYNC\b")
@@ -32,6 +33,7 @@ class Resolver:
 
     def __init__(self, folders: Folders, processes: Processes, ended: Callable[[str, Ended], Iterator[Step]]) -> None:
         self._folders, self._processes, self._ended = folders, processes, ended
+        self._outside = OutsideFiles()
         self._said: Set[str] = set()
         # Whether the call that is read was done, or found its path there.
         self._is_done = False
@@ -157,6 +159,8 @@ class Resolver:
         if made.is_ok() and made.call.result is not None:
             made.process.table[made.call.result] = opened
         where = self._where(path)
+        if "O_TMPFILE" in flags:
+            opened.outside = OutsideFile()
         if where is None or "O_TMPFILE" in flags:
             return ()
         if isinstance(where, Place):
@@ -178,26 +182,55 @@ class Resolver:
         if descriptor is None or descriptor.path is None:
             return ()
         opened, where = made.process.table.get(descriptor.number), self._where(descriptor.path)
-        if where is None and (opened is None or not opened.is_judged) or isinstance(where, Place):
+        if isinstance(where, Place):
+            return ()
+        outside = self._outside_of(descriptor, opened, where)
+        if outside is not None:
+            outside.called(word, made.is_ok(), opened is not None and opened.is_sync)
+        is_said = outside.has_come if outside is not None else where is not None or opened is not None and opened.is_judged
+        if not is_said:
             return ()
         when = made.when
         if opened is not None and opened.actor is not None and opened.actor != when.actor:
             when = when._replace(actor=opened.actor)
-        return (OnFile(when, word, made.call.reply(), opened, where, descriptor.is_deleted),)
+        return (OnFile(when, word, made.call.reply(), opened, where, descriptor.is_deleted, outside),)
+
+    def _outside_of(self, at: Descriptor, opened: Optional[OpenFile], where: Where) -> Optional[OutsideFile]:
+        """The file of a descriptor, where it is outside, or was when it was opened."""
+        known = None if opened is None else opened.outside
+        if where is not None or at.path is None or at.is_deleted or at.path[:1] != b"/" or opened is not None and opened.is_judged:
+            return known
+        found = self._outside.at(at.path, known)
+        if opened is not None:
+            opened.outside = found
+        return found
 
     def _truncate(self, made: _Made) -> Iterator[Step]:
-        where = first_path(self._where(made.path(0)))
-        if where is not None:
+        path = made.path(0)
+        where = self._where(path)
+        if isinstance(where, Path):
             yield OnFile(made.when, "write", made.call.reply(), None, where, False)
+        elif where is None and path is not None and made.is_ok():
+            outside = self._outside.at(self._folders.outside(path))
+            outside.called("write", True)
+            if outside.has_come:
+                yield OnFile(made.when, "write", "ok", None, None, False, outside)
 
     def _map(self, made: _Made) -> Iterator[Step]:
         if "MAP_SHARED" not in made.words[3] or "PROT_WRITE" not in made.words[2] or not made.is_ok():
             return
         descriptor = read_descriptor(made.words[4])
-        if descriptor is not None and descriptor.path is not None and first_path(self._where(descriptor.path)) is not None:
+        if descriptor is None or descriptor.path is None:
+            return
+        where = self._where(descriptor.path)
+        outside = self._outside_of(descriptor, made.process.table.get(descriptor.number), where)
+        if outside is not None:
+            outside.is_mapped = True
+        if isinstance(where, Path) or outside is not None and outside.has_come:
             yield Unsaid(made.when, f"writes through memory to {text_of(descriptor)}")
 
     def _flush_all(self, made: _Made) -> Iterator[Step]:
+        self._outside.flush_all()
         yield FlushAll(made.when)
 
     # Directories
@@ -253,11 +286,16 @@ class Resolver:
         at = read_descriptor(made.words[0])
         number = int(found[1]) if found else at.number if at else None
         opened = made.process.table.get(number) if number is not None else None
-        if opened is not None and opened.file is not None:
-            if first_path(self._where(new)) is not None:
+        where = self._where(new)
+        if opened is not None and opened.is_judged:
+            if isinstance(where, Path):
                 yield Unsaid(made.when, "a link to a file by its descriptor")
             return
-        yield from self._named(made, "link", b"/", new)
+        outside = OutsideFile() if opened is None or opened.outside is None else opened.outside
+        if isinstance(where, Path):
+            yield self._come(made, where, outside)
+        elif where is None and new is not None and made.is_ok():
+            self._outside.link(outside, self._folders.outside(new))
 
     def _rename(self, made: _Made) -> Iterable[Step]:
         is_at = made.call.name != "rename"
@@ -279,12 +317,38 @@ class Resolver:
         if isinstance(where_old, Path) and isinstance(where_new, Path):
             return (Name(made.when, word, where_old, where_new, reply),)
         if isinstance(where_new, Path):
-            text = "a file that comes from elsewhere: the next lines say it as made, written and flushed here"
-            comments = [Unsaid(made.when, text)] if reply == "ok" else []
-            return [*comments, FromOutside(made.when, where_new, reply, replaces=word == "rename")]
+            return (self._come(made, where_new, self._taken_from(word, old) if made.is_ok() else OutsideFile(), word == "rename"),)
+        if made.is_ok() and old is not None and new is not None:
+            self._name_outside(word, None if isinstance(where_old, Path) else old, new)
         if isinstance(where_old, Path) and word == "rename":
             return (Unlink(made.when, where_old, reply, is_rename=True),)
         return ()
+
+    def _come(self, made: _Made, new: Path, file: OutsideFile, replaces: bool = False) -> Step:
+        """A file comes from outside."""
+        text = "a file that comes from elsewhere: the next lines say it as made in tmp"
+        if file.is_mapped:
+            text += ", without what was written through memory"
+        file.has_come = file.has_come or made.is_ok()
+        return AtOnce(made.when, new, made.call.reply(), Coming(file, file.made(), text, replaces))
+
+    def _taken_from(self, word: str, old: Optional[bytes]) -> OutsideFile:
+        """The file of a path outside, which a rename takes away."""
+        path = None if old is None else self._folders.outside(old)
+        file = OutsideFile() if path is None else self._outside.at(path)
+        if path is not None and word == "rename":
+            self._outside.forget(path)
+        return file
+
+    def _name_outside(self, word: str, old: Optional[bytes], new: bytes) -> None:
+        """A path outside comes to name a file, one that was there, or one of a folder."""
+        at = self._folders.outside(new)
+        if old is None:
+            self._outside.forget(at)
+        elif word == "rename":
+            self._outside.rename(self._folders.outside(old), at)
+        else:
+            self._outside.link(self._outside.at(self._folders.outside(old)), at)
 
     def _unlink(self, made: _Made) -> Iterable[Step]:
         is_at = made.call.name == "unlinkat"
@@ -297,6 +361,8 @@ class Resolver:
             return [*comments, Unlink(made.when, where, made.call.reply())]
         if made.is_ok() and path is not None and (where is not None or self._is_directory(path)):
             return (Unsaid(made.when, f"{made.call.name} of a directory: {path.decode('utf-8', 'replace')}"),)
+        if made.is_ok() and path is not None:
+            self._outside.forget(self._folders.outside(path))
         return ()
 
     def _make(self, made: _Made) -> Iterator[Step]:
@@ -305,9 +371,9 @@ class Resolver:
         path = made.path(at, at - 1 if name.endswith("at") else None)
         where = first_path(self._where(path))
         if where is not None:
-            if made.is_ok():
-                yield Unsaid(made.when, f"{name}: the next line says it as a file")
-            yield FromOutside(made.when, where, made.call.reply(), replaces=False, is_empty=True)
+            is_link = name.startswith("symlink")
+            text = f"{name}: the next {'lines say' if is_link else 'line says'} it as a file"
+            yield AtOnce(made.when, where, made.call.reply(), Coming(OutsideFile(), [Made("create")], text, is_whole=is_link))
 
     def _look(self, made: _Made) -> Iterator[Step]:
         is_at = made.call.name not in ("stat", "lstat", "access")

@@ -9,6 +9,7 @@ from .arguments import Descriptor
 from .directories import Directories
 from .folders import Place
 from .names import Path, escaped
+from .outside import Coming, Made, OutsideFile
 from .processes import OpenFile, Turn
 
 # So many words are kept as a log writes them: most paths come several times, one soon after the other.
@@ -152,14 +153,16 @@ class Look(Step):
 class OnFile(Step):
     """A call on an open file: a write or a flush. Its line has any path that the file has."""
 
-    def __init__(self, when: When, word: str, reply: str, opened: Optional[OpenFile], at: Optional[Path], is_deleted: bool) -> None:
+    def __init__(self, when: When, word: str, reply: str, opened: Optional[OpenFile], at: Optional[Path], is_deleted: bool,
+                 outside: Optional[OutsideFile] = None) -> None:
         super().__init__(when)
         self._word, self._reply, self._opened = word, reply, opened
-        self._at, self._is_deleted = at, is_deleted
+        self._at, self._is_deleted, self._outside = at, is_deleted, outside
 
     def _file(self, directories: Directories) -> Optional[int]:
-        if self._opened is not None and self._opened.file is not None:
-            return self._opened.file
+        for known in (self._opened, self._outside):
+            if known is not None and known.file is not None:
+                return known.file
         if self._at is None:
             return None
         return directories.last_of(self._at) if self._is_deleted else directories.names.get(self._at)
@@ -232,17 +235,18 @@ class Name(Step):
         return [self.line(self._word, self._old, self._new, self._reply)]
 
 
-class FromOutside(Step):
-    """A file that comes to a path in a place from outside, whole and flushed as far as the log says."""
+class AtOnce(Step):
+    """A path in a place comes to name a file by one call, for which the language has no word: a file that comes from outside, or one that is
+    made there. What is whole from the first is said as made in tmp, under a name that is made up, and renamed, all at one moment."""
 
-    def __init__(self, when: When, new: Path, reply: str, replaces: bool, is_empty: bool = False) -> None:
+    def __init__(self, when: When, new: Path, reply: str, coming: Coming) -> None:
         super().__init__(when)
-        self._new, self._reply, self._replaces, self._is_empty = new, reply, replaces, is_empty
+        self._new, self._reply, self._coming = new, reply, coming
 
     def fits(self, directories: Directories) -> bool:
         is_there = self._new in directories.names
         if self._reply == "ok":
-            return self._replaces or not is_there
+            return self._coming.replaces or not is_there
         return self._reply != "exists" or is_there
 
     def take(self, directories: Directories) -> List[Line]:
@@ -250,18 +254,27 @@ class FromOutside(Step):
             return []
         if self._reply != "ok":
             return [self.line("create", self._new, self._reply)]
-        file = directories.new_file()
-        if self._new not in directories.names:
-            directories.put(self._new, file)
-            return self._lines(self._new)
-        # The language has no line for it: a file of tmp that no program made stands for it.
-        between = Path(self._new.folder, "tmp", b".outside.%d" % self.when.end)
-        directories.put(self._new, file)
-        return [*self._lines(between), self.line("rename", between, self._new, "ok")]
+        former = directories.path_of(self._coming.file.file)
+        if former is not None and directories.names.get(self._new) == self._coming.file.file:
+            return []
+        return [self.comment(self._coming.text), *self._taken(directories, former)]
 
-    def _lines(self, path: Path) -> List[Line]:
-        rest = [] if self._is_empty else [self.line("write", path, "ok"), self.line("flush", path, "ok")]
-        return [self.line("create", path, "ok"), *rest]
+    def _taken(self, directories: Directories, former: Optional[Path]) -> List[Line]:
+        """A file that has come before, and has a path in a place, gets one more."""
+        is_renamed = self._new in directories.names or self._coming.is_whole and self._new.place != "tmp" and former is None
+        first = directories.made_up(self._new.folder) if is_renamed else self._new
+        self._put(directories, is_new=former is None)
+        lines = [self.line("link", former, first, "ok")] if former else [self.line(word, first, reply) for word, reply in self._coming.made]
+        return [*lines, self.line("rename", first, self._new, "ok")] if is_renamed else lines
+
+    def _put(self, directories: Directories, is_new: bool) -> None:
+        come = self._coming.file
+        if is_new:
+            former, come.file = come.file, directories.new_file()
+            directories.undone_by(lambda: setattr(come, "file", former))
+            if Made("write") in self._coming.made and Made("flush") not in self._coming.made:
+                directories.set_unflushed(come.file, self.when.actor)
+        directories.put(self._new, come.file)
 
 
 class Read(Step):

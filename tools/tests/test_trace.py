@@ -111,6 +111,131 @@ class Readings(unittest.TestCase):
         self.assertEqual(steps_of(log), ["a list box cur ok", "a list box cur ok"])
 
 
+class FromOutside(unittest.TestCase):
+    """A file that comes from outside is made in tmp and renamed, at one moment: flushed where its last write was, or where nobody traced wrote."""
+
+    MADE = ["create box/tmp/arrived.1 ok", "write box/tmp/arrived.1 ok"]
+    FLUSHED = [*MADE, "flush box/tmp/arrived.1 ok"]
+    COMES = f"1 {rename('out/m', 'box/new/u')}) = 0"
+    LINKED = f"1 link({quoted('out/m')}, {quoted('box/new/u')}) = 0"
+
+    @staticmethod
+    def open(path="out/m", flags="O_CREAT", number=3):
+        return f"1 openat(AT_FDCWD, {quoted(path)}, O_WRONLY|{flags}, 0600) = {opened(number, '/srv/mail/' + path)}"
+
+    @staticmethod
+    def call(name, result="0", path="out/m", number=3, after=""):
+        arguments = ', ""..., 5' if name == "write" else ", 5" if name == "ftruncate" else ""
+        return f"1 {name}({opened(number, '/srv/mail/' + path)}{after}{arguments}) = {result}"
+
+    def steps(self, *calls, files=()):
+        log = log_of(trace(*calls), files)
+        self.assertFalse([line for line in log.lines if line.ticks], "no call overlaps another")
+        return [line.partition(" ")[2] for line in steps_of(log) if not line.startswith("#")]
+
+    def test_flushed_or_not(self):
+        written, flushed, sync = self.call("write", "5"), self.call("fsync"), [self.open(flags="O_CREAT|O_DSYNC")]
+        renamed = ["rename box/tmp/arrived.1 box/new/u ok"]
+        for calls in ([], [self.open()], [self.open(), written, flushed], [written, self.call("fdatasync")], [written, "1 sync() = 0"],
+                      [*sync, written], [written, flushed, self.call("write", "0")]):
+            self.assertEqual(self.steps(*calls, self.COMES), self.FLUSHED + renamed, calls)
+        for calls in ([written], [self.open(), flushed, written], [written, self.call("fsync", "-1 EIO (Input/output error)")],
+                      [self.call("ftruncate")], [f"1 truncate({quoted('out/m')}, 5) = 0"],
+                      [self.open(), written, self.call("fsync", path="out/other", number=4)]):
+            self.assertEqual(self.steps(*calls, self.COMES), self.MADE + renamed, calls)
+
+    def test_what_the_law_says_of_it(self):
+        for calls, wanted in ([self.call("write", "5")], ["NotFlushed"]), ([self.call("write", "5"), self.call("fsync")], []):
+            for comes in (self.COMES, self.LINKED):
+                log = log_of(trace(*calls, comes, "1 +++ exited with 0 +++"), claims=["delivered box"])
+                self.assertEqual(steps_of(log)[-1], "a answer delivered box u")
+                self.assertEqual([clause for _, clause in findings(log.encoded())], wanted)
+
+    def test_a_write_that_failed(self):
+        """What is cut is no whole message."""
+        failed = self.call("write", "-1 ENOSPC (No space left on device)")
+        log = log_of(trace(self.call("write", "5"), self.call("fsync"), failed, self.COMES))
+        self.assertEqual([line[2:] for line in steps_of(log)[1:]], [*self.FLUSHED, "write box/tmp/arrived.1 fault", "rename box/tmp/arrived.1 box/new/u ok"])
+        self.assertEqual([clause for _, clause in findings(log.encoded())], ["SeenBeforeWhole"])
+        self.assertEqual(self.steps(failed, self.call("write", "5"), self.COMES), [*self.MADE, "rename box/tmp/arrived.1 box/new/u ok"])
+
+    def test_names_outside(self):
+        """A file keeps what was done to it, whatever it is called, and a name that it no longer has says nothing."""
+        made, renamed = [self.open(), self.call("write", "5")], ["rename box/tmp/arrived.1 box/new/u ok"]
+        comes = [f"1 {rename(name, 'box/new/u')}) = 0" for name in ("out/n", "far/m")]
+        self.assertEqual(self.steps(*made, f"1 {rename('out/m', 'out/n')}) = 0", comes[0]), self.MADE + renamed)
+        self.assertEqual(self.steps(*made, f"1 {rename('out', 'far')}) = 0", comes[1]), self.MADE + renamed)
+        self.assertEqual(self.steps(f"1 link({quoted('out/m')}, {quoted('out/n')}) = 0", *made, f"1 unlink({quoted('out/m')}) = 0", comes[0]),
+                         self.MADE + renamed)
+        self.assertEqual(self.steps(*made, f"1 unlink({quoted('out/m')}) = 0", self.COMES), self.FLUSHED + renamed)
+        self.assertEqual(self.steps(*made, f"1 {rename('out/n', 'out/m')}) = 0", self.COMES), self.FLUSHED + renamed)
+        self.assertEqual(self.steps(*made, f"1 {rename('box/cur/v', 'out/m')}) = 0", self.COMES, files=[("cur", b"v")])[1:], self.FLUSHED + renamed)
+        self.assertEqual(self.steps(*made, f"1 {rename('out/m', 'out/n')}) = -1 EACCES (Permission denied)", self.COMES), self.MADE + renamed)
+
+    def test_a_file_without_a_name(self):
+        """O_TMPFILE, and then a link by the descriptor."""
+        fd, number = opened(3, f"{BOX_AT}/tmp/#7"), quoted("/proc/self/fd/3")
+        begin = [f"1 openat(AT_FDCWD, {quoted('box/tmp')}, O_WRONLY|O_TMPFILE, 0600) = {fd}(deleted)", f"1 write({fd}(deleted), \"\"..., 5) = 5"]
+        by_path = f"1 linkat(AT_FDCWD, {number}, AT_FDCWD, {quoted('box/new/u')}, AT_SYMLINK_FOLLOW) = 0"
+        by_number = f"1 linkat({fd}(deleted), {quoted('')}, AT_FDCWD, {quoted('box/new/u')}, AT_EMPTY_PATH) = 0"
+        renamed, flush, write = ["rename box/tmp/arrived.1 box/new/u ok"], f"1 fsync({fd}(deleted)) = 0", begin[1]
+        for link in (by_path, by_number):
+            self.assertEqual(self.steps(*begin, link), self.MADE + renamed)
+            self.assertEqual(self.steps(*begin, flush, link), self.FLUSHED + renamed)
+            self.assertEqual(self.steps(*begin, link, flush, write), [*self.MADE, *renamed, "flush box/new/u ok", "write box/new/u ok"])
+        outside = by_path.replace(quoted("box/new/u"), quoted("out/m"))
+        self.assertEqual(self.steps(*begin, outside, self.COMES), self.MADE + renamed)
+
+    def test_after_it_has_come(self):
+        """What is done to it by a name outside is done to the message, and one more name is a link."""
+        link, renamed = f"1 link({quoted('out/m')}, {quoted('box/cur/v:2,')}) = 0", "rename box/tmp/arrived.1 box/new/u ok"
+        self.assertEqual(self.steps(self.LINKED, link, self.call("write", "5"), f"1 unlink({quoted('box/new/u')}) = 0", self.call("fsync")),
+                         [*self.FLUSHED, renamed, "link box/new/u box/cur/v:2, ok", "write box/new/u ok", "unlink box/new/u ok",
+                          "flush box/cur/v:2, ok"])
+        over = f"1 {rename('out/m', 'box/cur/v:2,')}) = 0"
+        self.assertEqual(self.steps(self.LINKED, over, files=[("cur", b"v:2,")])[4:],
+                         ["link box/new/u box/tmp/arrived.2 ok", "rename box/tmp/arrived.2 box/cur/v:2, ok"])
+        self.assertEqual(self.steps(self.LINKED, self.COMES)[4:], [], "it has this name already")
+        self.assertEqual(self.steps(self.COMES, self.call("write", "5", path="box/new/u"))[4:], ["write box/new/u ok"])
+
+    def test_the_name_in_tmp(self):
+        """It is one that nothing has. A file that comes into tmp has its own."""
+        second = f"1 {rename('out/n', 'box/cur/v:2,')}) = 0"
+        steps = self.steps(self.COMES, second, files=[("tmp", b"arrived.1"), ("cur", b"v:2,")])
+        self.assertEqual(steps[::4], ["create box/tmp/arrived.2 ok", "create box/tmp/arrived.3 ok"])
+        self.assertEqual(steps[3::4], ["rename box/tmp/arrived.2 box/new/u ok", "rename box/tmp/arrived.3 box/cur/v:2, ok"])
+        into_tmp = f"1 {rename('out/m', 'box/tmp/t')}) = 0"
+        self.assertEqual(self.steps(into_tmp), ["create box/tmp/t ok", "write box/tmp/t ok", "flush box/tmp/t ok"])
+        self.assertEqual(self.steps(self.call("write", "5"), into_tmp), ["create box/tmp/t ok", "write box/tmp/t ok"])
+        self.assertEqual(self.steps(into_tmp, files=[("tmp", b"t")]), [*self.FLUSHED, "rename box/tmp/arrived.1 box/tmp/t ok"])
+
+    def test_refusals(self):
+        for error, wanted in ("EEXIST (File exists)", ["create box/new/u exists"]), ("ENOENT (No such file)", []):
+            self.assertEqual(self.steps(self.LINKED.replace("= 0", f"= -1 {error}"), files=[("new", b"u")] if wanted else []), wanted)
+
+    def test_what_is_made_in_one_call(self):
+        """A symbolic link is whole from the first, a directory is made there."""
+        self.assertEqual(self.steps(f"1 symlink({quoted('/x')}, {quoted('box/cur/u')}) = 0"),
+                         ["create box/tmp/arrived.1 ok", "rename box/tmp/arrived.1 box/cur/u ok"])
+        self.assertEqual(self.steps(f"1 symlink({quoted('/x')}, {quoted('box/tmp/u')}) = 0"), ["create box/tmp/u ok"])
+        self.assertEqual(self.steps(f"1 mkdir({quoted('box/cur/u')}, 0700) = 0"), ["create box/cur/u ok"])
+
+    def test_writes_through_memory(self):
+        mapped = f"1 mmap(NULL, 5, PROT_READ|PROT_WRITE, MAP_SHARED, {opened(3, '/srv/mail/out/m')}, 0) = 0x7f0000000000"
+        log = log_of(trace(mapped, self.COMES))
+        self.assertEqual(steps_of(log)[0], "# not said: a file that comes from elsewhere: the next lines say it as made in tmp, without what was "
+                                           "written through memory")
+        self.assertEqual(steps_of(log_of(trace(self.LINKED, mapped)))[-1], "# not said: writes through memory to /srv/mail/out/m")
+
+    def test_all_lines_have_the_ticks_of_the_call(self):
+        """A message that came is taken away before the call that brought it has returned."""
+        log = log_of(trace(self.call("write", "5"), self.COMES.replace(") = 0", " <unfinished ...>"), f"2 unlink({quoted('box/new/u')}) = 0",
+                           "1 <... rename resumed>) = 0"))
+        self.assertEqual([line.encoded() for line in log.lines if line.actor],
+                         [b"1003@2..4 a " + text.encode() for text in [*self.MADE, "rename box/tmp/arrived.1 box/new/u ok"]]
+                         + [b"1002@3..3 a unlink box/new/u ok"])
+
+
 class WhatAStatusClaims(unittest.TestCase):
     """The answers."""
 
@@ -255,11 +380,16 @@ class WholeOrNot(unittest.TestCase):
                 path = f"box/tmp/{number}"
                 for _ in making.feed(trace(f"1 openat(AT_FDCWD, {quoted(path)}, O_WRONLY|O_CREAT, 0600) = {opened(3, '/srv/mail/' + path)}",
                                            f"1 close({opened(3, '/srv/mail/' + path)}) = 0", f"1 {rename(path, f'box/new/{number}')}) = 0",
+                                           f"1 write({opened(4, f'/srv/mail/far/{number}')}, \"\"..., 5) = 5",
+                                           f"1 fsync({opened(4, f'/srv/mail/far/{number}')}) = 0",
                                            f"1 rename({quoted(f'far/{number}')}, {quoted(f'far/{number}.')}) = 0",
+                                           f"1 rename({quoted(f'far/{number}.')}, {quoted(f'box/cur/{number}')}) = 0",
+                                           f"1 unlink({quoted(f'box/cur/{number}')}) = 0",
                                            f"1 unlink({quoted(f'box/new/{number}')}) = 0")):
                     pass
-            self.assertEqual(len(lines), 3 * many)
-            kept = [making._directories, making._taking, making._processes, making._resolver, making._claims, making._beginning.folders]
+            self.assertEqual(len(lines), 9 * many)
+            kept = [making._directories, making._taking, making._processes, making._resolver, making._resolver._outside, making._claims,
+                    making._beginning.folders]
             return sum(len(value) for each in kept for value in vars(each).values() if hasattr(value, "__len__"))
         self.assertEqual(made(200), made(2000))
 
