@@ -65,7 +65,7 @@ def grade_of(log: bytes, finding: Finding) -> str:
 
 
 def _is_said_otherwise(lines: List[bytes]) -> bool:
-    """Whether a comment says that the last line isn't quite what was done: a link is made, or a file that was written elsewhere."""
+    """Whether a comment says that the last line isn't quite what was done: what is made is a directory, say."""
     made = next(number for number in range(len(lines) - 1, -1, -1) if _words(lines[number])[1:2] != [b"write"])
     return b": the next line" in lines[made - 1] and lines[made - 1].startswith(b"# not said: ")
 

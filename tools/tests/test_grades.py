@@ -50,13 +50,17 @@ class Grades(unittest.TestCase):
                               ("failed box u", "misled"), ("notthere box u", "misled"), ("expunged box u", "misled")):
             self.assertEqual(grade("AnsweredFalsely", "1 p answer " + words), wanted)
 
-    def test_a_file_that_was_made_elsewhere(self):
+    def test_what_is_no_file(self):
         """A log has no words for it, and says so in a comment."""
-        made, said = ["1 p create box/cur/u:2, ok", "1 p write box/cur/u:2, ok"], "# not said: symlink: the next line says it as a file"
+        made, said = ["1 p create box/cur/u:2, ok", "1 p write box/cur/u:2, ok"], "# not said: mkdir: the next line says it as a file"
         for lines in (made[:1], made):
             self.assertEqual(grade("SeenBeforeWhole", *lines), "misled")
             self.assertEqual(grade("SeenBeforeWhole", said, *lines), "custom")
             self.assertEqual(grade("SeenBeforeWhole", "# not said: what a reading of new showed after its end", *lines), "misled")
+        comes = ["# not said: a file that comes from elsewhere: the next lines say it as made in tmp", "1 p create box/tmp/arrived.1 ok",
+                 "1 p write box/tmp/arrived.1 fault", "1 p rename box/tmp/arrived.1 box/cur/u:2, ok"]
+        self.assertEqual(grade("SeenBeforeWhole", *comes), "misled", "it is cut")
+        self.assertEqual(grade("SeenBeforeWhole", *comes, "1 p write box/cur/u:2, ok"), "misled", "it is written to once it has come")
 
 
 if __name__ == "__main__":
