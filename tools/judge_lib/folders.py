@@ -71,10 +71,10 @@ class Folders:
             return Path(place.folder, place.place, name)
         return self._places.get(os.path.join(parent, name)) or self._places.get(self._real(path))
 
-    def outside(self, path: bytes) -> bytes:
-        """The path of a file outside without links, as the system knows it."""
+    def outside(self, path: bytes, is_followed: bool = False) -> bytes:
+        """The path of a file outside without links, as the system knows it. The last name is one that may be a link itself, or is followed."""
         parent, _, name = path.rstrip(b"/").rpartition(b"/")
-        return self._real(path) if name in _NO_NAMES else os.path.join(self._real(parent or b"/"), name)
+        return self._real(path) if is_followed or name in _NO_NAMES else os.path.join(self._real(parent or b"/"), name)
 
     def holds(self, path: bytes) -> bool:
         """Whether a judged directory is at a path or below it."""

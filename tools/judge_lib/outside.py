@@ -51,7 +51,7 @@ class Coming(NamedTuple):
 
 
 class OutsideFiles:
-    """The files outside that were written to, or have come in, by the paths that they have outside, from the root and without links."""
+    """The files outside that were opened to be written to, or have come in, by the paths that they have outside, from the root, without links."""
 
     def __init__(self) -> None:
         self._by_path: Dict[bytes, OutsideFile] = {}
@@ -59,6 +59,10 @@ class OutsideFiles:
     def at(self, path: bytes, known: Optional[OutsideFile] = None) -> OutsideFile:
         """The file of a path, which is the known one where none is known there."""
         return self._by_path.setdefault(path, known or OutsideFile())
+
+    def knows(self, path: bytes) -> bool:
+        """Whether the file of a path is known."""
+        return path in self._by_path
 
     def link(self, file: OutsideFile, path: bytes) -> None:
         """Gives a file a path."""

@@ -154,20 +154,37 @@ class Resolver:
         name = made.call.name
         at = 0 if name in ("open", "creat") else 1
         path = made.path(at, None if at == 0 else 0)
-        flags = "O_CREAT|O_TRUNC" if name == "creat" else made.words[at + 1]
+        flags = "O_WRONLY|O_CREAT|O_TRUNC" if name == "creat" else made.words[at + 1]
         opened = OpenFile(made.process.actor, is_sync="SYNC" in flags and _SYNC.search(flags) is not None)
         if made.is_ok() and made.call.result is not None:
             made.process.table[made.call.result] = opened
         where = self._where(path)
         if "O_TMPFILE" in flags:
             opened.outside = OutsideFile()
-        if where is None or "O_TMPFILE" in flags:
             return ()
+        if where is None:
+            return self._open_outside(made, path, flags, opened)
         if isinstance(where, Place):
             opened.place = where
             return (Look(made.when, where, made.call.reply()),)
         opened.is_judged = True
         return (Open(made.when, where, made.call.reply(), flags, opened),)
+
+    def _open_outside(self, made: _Made, path: Optional[bytes], flags: str, opened: OpenFile) -> Iterable[Step]:
+        """A file outside is opened, which may have lost its name when it is written to."""
+        if path is None or not made.is_ok() or "O_WRONLY" not in flags and "O_RDWR" not in flags:
+            return ()
+        at = self._folders.outside(path, is_followed=True)
+        if "O_EXCL" in flags:
+            self._outside.forget(at)
+        is_emptied = "O_TRUNC" in flags and self._outside.knows(at)
+        opened.outside = self._outside.at(at)
+        return self._write_outside(made, opened.outside) if is_emptied else ()
+
+    @staticmethod
+    def _write_outside(made: _Made, file: OutsideFile) -> Iterable[Step]:
+        file.called("write", True)
+        return (OnFile(made.when, "write", "ok", None, None, False, file),) if file.has_come else ()
 
     def _write(self, made: _Made) -> Iterable[Step]:
         if made.is_ok() and made.call.result == 0 and made.call.name in _COUNTED:
@@ -205,16 +222,14 @@ class Resolver:
             opened.outside = found
         return found
 
-    def _truncate(self, made: _Made) -> Iterator[Step]:
+    def _truncate(self, made: _Made) -> Iterable[Step]:
         path = made.path(0)
         where = self._where(path)
         if isinstance(where, Path):
-            yield OnFile(made.when, "write", made.call.reply(), None, where, False)
-        elif where is None and path is not None and made.is_ok():
-            outside = self._outside.at(self._folders.outside(path))
-            outside.called("write", True)
-            if outside.has_come:
-                yield OnFile(made.when, "write", "ok", None, None, False, outside)
+            return (OnFile(made.when, "write", made.call.reply(), None, where, False),)
+        if where is None and path is not None and made.is_ok():
+            return self._write_outside(made, self._outside.at(self._folders.outside(path, is_followed=True)))
+        return ()
 
     def _map(self, made: _Made) -> Iterator[Step]:
         if "MAP_SHARED" not in made.words[3] or "PROT_WRITE" not in made.words[2] or not made.is_ok():

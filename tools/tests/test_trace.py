@@ -172,6 +172,21 @@ class FromOutside(unittest.TestCase):
         self.assertEqual(self.steps(*made, f"1 {rename('box/cur/v', 'out/m')}) = 0", self.COMES, files=[("cur", b"v")])[1:], self.FLUSHED + renamed)
         self.assertEqual(self.steps(*made, f"1 {rename('out/m', 'out/n')}) = -1 EACCES (Permission denied)", self.COMES), self.MADE + renamed)
 
+    def test_an_open_file_that_lost_its_name(self):
+        gone = [self.open(), f"1 link({quoted('out/m')}, {quoted('out/n')}) = 0", f"1 unlink({quoted('out/m')}) = 0"]
+        comes, renamed = f"1 {rename('out/n', 'box/new/u')}) = 0", ["rename box/tmp/arrived.1 box/new/u ok"]
+        write, flush = (self.call(name, result, after="(deleted)") for name, result in (("write", "5"), ("fsync", "0")))
+        self.assertEqual(self.steps(*gone, comes), self.FLUSHED + renamed)
+        self.assertEqual(self.steps(*gone, write, comes, write), [*self.MADE, *renamed, "write box/new/u ok"])
+        self.assertEqual(self.steps(*gone, write, flush, comes), self.FLUSHED + renamed)
+        self.assertEqual(self.steps(self.open(flags="O_CREAT|O_EXCL"), *gone[2:], self.open(number=4), write, self.COMES), self.FLUSHED + renamed)
+
+    def test_emptied_as_it_is_opened(self):
+        empties, renamed = self.open(flags="O_CREAT|O_TRUNC"), ["rename box/tmp/arrived.1 box/new/u ok"]
+        self.assertEqual(self.steps(empties, self.COMES), self.FLUSHED + renamed, "it may be new")
+        self.assertEqual(self.steps(self.open(), self.call("fsync"), empties, self.COMES), self.MADE + renamed)
+        self.assertEqual(self.steps(self.LINKED, empties), [*self.FLUSHED, *renamed, "write box/new/u ok"])
+
     def test_a_file_without_a_name(self):
         """O_TMPFILE, and then a link by the descriptor."""
         fd, number = opened(3, f"{BOX_AT}/tmp/#7"), quoted("/proc/self/fd/3")
