@@ -43,7 +43,7 @@ def split(text: str) -> List[str]:
 def read_descriptor(text: str) -> Optional[Descriptor]:
     """An open file, or the working directory."""
     found = _DESCRIPTOR.fullmatch(text)
-    path = None if found is None or found[2] is None else _bytes(found[2])
+    path = None if found is None or found[2] is None else read_digits(found[2])
     if found is None or path is None and found[2] is not None:
         return None
     return Descriptor(None if found[1] == "AT_FDCWD" else int(found[1]), path, found[3] is not None)
@@ -53,7 +53,7 @@ def read_descriptor(text: str) -> Optional[Descriptor]:
 def read_string(text: str) -> Optional[bytes]:
     """A string; None for NULL or an address that couldn't be read."""
     found = _STRING.fullmatch(text)
-    return None if found is None else _bytes(found[1])
+    return None if found is None else read_digits(found[1])
 
 
 def shown_names(text: str) -> List[bytes]:
@@ -62,7 +62,7 @@ def shown_names(text: str) -> List[bytes]:
     return [name for name in names if name not in (b".", b"..")]
 
 
-def _bytes(text: str) -> Optional[bytes]:
+def read_digits(text: str) -> Optional[bytes]:
     """The bytes of a text of hexadecimal digits, None of any other one."""
     digits = text.replace("\\x", "")
     if 2 * len(digits) != len(text):

@@ -5,7 +5,7 @@ from __future__ import annotations
 import re
 from typing import Callable, Dict, Iterable, Iterator, List, Optional, Set, Union
 
-from .arguments import Descriptor, read_descriptor, read_string, shown_names, split
+from .arguments import Descriptor, read_descriptor, read_digits, read_string, shown_names, split
 from .folders import Folders, Place, first_path
 from .names import Path
 from .outside import Coming, Made, OutsideFile, OutsideFiles
@@ -131,7 +131,7 @@ class Resolver:
         descriptor = read_descriptor(made.words[0])
         if is_copy and made.is_ok() and descriptor is not None and made.call.result is not None:
             made.process.table.pop(made.call.result, None)
-            if descriptor.number in made.process.table:
+            if descriptor.number in made.process.table and (descriptor.path or b"/")[:1] == b"/":
                 made.process.table[made.call.result] = made.process.table[descriptor.number]
         return iter(())
 
@@ -163,18 +163,18 @@ class Resolver:
             opened.outside = OutsideFile()
             return ()
         if where is None:
-            return self._open_outside(made, path, flags, opened)
+            return self._open_outside(made, flags, opened)
         if isinstance(where, Place):
             opened.place = where
             return (Look(made.when, where, made.call.reply()),)
         opened.is_judged = True
         return (Open(made.when, where, made.call.reply(), flags, opened),)
 
-    def _open_outside(self, made: _Made, path: Optional[bytes], flags: str, opened: OpenFile) -> Iterable[Step]:
+    def _open_outside(self, made: _Made, flags: str, opened: OpenFile) -> Iterable[Step]:
         """A file outside is opened, which may have lost its name when it is written to."""
-        if path is None or not made.is_ok() or "O_WRONLY" not in flags and "O_RDWR" not in flags:
+        at = read_digits(made.call.opened or "")
+        if not at or not made.is_ok() or "O_WRONLY" not in flags and "O_RDWR" not in flags:
             return ()
-        at = self._folders.outside(path, is_followed=True)
         if "O_EXCL" in flags:
             self._outside.forget(at)
         is_emptied = "O_TRUNC" in flags and self._outside.knows(at)
@@ -196,7 +196,8 @@ class Resolver:
 
     def _on_file(self, made: _Made, word: str, number: int) -> Iterable[Step]:
         descriptor = read_descriptor(made.words[number])
-        if descriptor is None or descriptor.path is None:
+        # A pipe or a socket may have the number of a file that was closed as the program began.
+        if descriptor is None or descriptor.path is None or descriptor.path[:1] != b"/":
             return ()
         opened, where = made.process.table.get(descriptor.number), self._where(descriptor.path)
         if isinstance(where, Place):
@@ -215,7 +216,7 @@ class Resolver:
     def _outside_of(self, at: Descriptor, opened: Optional[OpenFile], where: Where) -> Optional[OutsideFile]:
         """The file of a descriptor, where it is outside, or was when it was opened."""
         known = None if opened is None else opened.outside
-        if where is not None or at.path is None or at.is_deleted or at.path[:1] != b"/" or opened is not None and opened.is_judged:
+        if where is not None or at.path is None or at.is_deleted or opened is not None and opened.is_judged:
             return known
         found = self._outside.at(at.path, known)
         if opened is not None:
@@ -235,7 +236,7 @@ class Resolver:
         if "MAP_SHARED" not in made.words[3] or "PROT_WRITE" not in made.words[2] or not made.is_ok():
             return
         descriptor = read_descriptor(made.words[4])
-        if descriptor is None or descriptor.path is None:
+        if descriptor is None or descriptor.path is None or descriptor.path[:1] != b"/":
             return
         where = self._where(descriptor.path)
         outside = self._outside_of(descriptor, made.process.table.get(descriptor.number), where)

@@ -21,12 +21,13 @@ LOOKS = "stat lstat newfstatat statx access faccessat faccessat2"
 OPTIONS = ["-q", "-f", "-y", "-v", "-xx", "-s", "0", "-ttt"]
 
 # Most lines: a call that succeeded, and that no other line came between.
-_PLAIN = re.compile(r"(\d+) +(\d+)\.\d+ (\w+)\(([^)]*)\) += (0x[0-9a-f]+|\d+)(?:<[^>]*>)?\n?")
+_PLAIN = re.compile(r"(\d+) +(\d+)\.\d+ (\w+)\(([^)]*)\) += (0x[0-9a-f]+|\d+)(?:<([^>]*)>)?\n?")
 _RESULT = re.compile(r"0x[0-9a-f]+|-?\d+|\?")
 _RESUMED = re.compile(r"<\.\.\. (\w+) resumed>(.*)", re.DOTALL)
 _BEGUN = re.compile(r"(\w+)\((.*?) *<unfinished \.\.\.>", re.DOTALL)
 _EXITED = re.compile(r"\+\+\+ exited with (\d+) \+\+\+")
 _KILLED = re.compile(r"\+\+\+ killed by (\w+)")
+_SHOWN = re.compile(r"<([^>]*)>")
 _ERROR = re.compile(r"\b(E[A-Z0-9]+) ")
 _REPLIES = {"ENOENT": "notfound", "EEXIST": "exists"}
 
@@ -43,6 +44,8 @@ class Call(NamedTuple):
     result: Optional[int]
     error: Optional[str]
     is_made_to_fail: bool = False
+    # The path of the open file that is the result, as strace prints it.
+    opened: Optional[str] = None
 
     def is_undone(self) -> bool:
         """Whether a signal stopped it before it did anything."""
@@ -122,8 +125,8 @@ class Reader:
         self._number += 1
         plain = _PLAIN.fullmatch(line)
         if plain is not None:
-            pid, seconds, name, arguments, result = plain.groups()
-            return (Call(int(pid), self._number, self._number, int(seconds), name, arguments, int(result, 0), None),)
+            pid, seconds, name, arguments, result, opened = plain.groups()
+            return (Call(int(pid), self._number, self._number, int(seconds), name, arguments, int(result, 0), None, False, opened),)
         text = line.rstrip("\n")
         pid, _, rest = text.partition(" ")
         moment, _, rest = rest.lstrip(" ").partition(" ")
@@ -161,11 +164,12 @@ class Reader:
         arguments, after = arguments[:-1], rest[result.end():]
         if not after and result[0] != "?":
             return Call(pid, begin, self._number, moment, name, arguments, int(result[0], 0), None)
-        error = _ERROR.search(after) if after else None
+        shown = _SHOWN.match(after)
+        error = _ERROR.search(after) if after and not shown else None
         if result[0] == "?" and error is None:
             return Begun(pid, begin, self._number, moment, name, arguments)
         value = None if result[0] == "?" else int(result[0], 0)
-        return Call(pid, begin, self._number, moment, name, arguments, value, error[1] if error else None, "(INJECTED)" in after)
+        return Call(pid, begin, self._number, moment, name, arguments, value, error[1] if error else None, "(INJECTED)" in after, shown[1] if shown else None)
 
     def _end(self, pid: int, moment: int, text: str) -> Iterator[Event]:
         begun = self._begun.pop(pid, None)

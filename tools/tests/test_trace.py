@@ -84,6 +84,13 @@ class Overlapping(unittest.TestCase):
         self.assertEqual(steps_of(log), ["# not said: whether unlink took effect before its process ended"])
         self.assertEqual(log.statuses, {"a": None})
 
+    def test_a_number_that_a_pipe_gets(self):
+        """The file was closed as the program began, which no call tells."""
+        pipe, file = opened(3, "pipe:[7]"), opened(3, BOX_AT + "/tmp/v")
+        log = log_of(trace(f"1 openat(AT_FDCWD, {quoted('box/tmp/v')}, O_WRONLY|O_CREAT|O_CLOEXEC, 0600) = {file}", f"1 execve({quoted('/bin/sh')}, [], []) = 0",
+                           f"1 write({pipe}, \"\"..., 5) = 5", f"1 dup2({pipe}, 1) = {opened(1, 'pipe:[7]')}", f"1 write({opened(1, '/dev/null')}, \"\"..., 5) = 5"))
+        self.assertEqual(steps_of(log), ["a create box/tmp/v ok"])
+
     def test_interrupted_before(self):
         log = log_of(trace(f"1 unlink({quoted('box/cur/u')}) = ? ERESTARTSYS (To be restarted if SA_RESTART is set)",
                            f"1 unlink({quoted('box/cur/u')}) = -1 EINTR (Interrupted system call)"), [("cur", b"u")])
@@ -180,6 +187,8 @@ class FromOutside(unittest.TestCase):
         self.assertEqual(self.steps(*gone, write, comes, write), [*self.MADE, *renamed, "write box/new/u ok"])
         self.assertEqual(self.steps(*gone, write, flush, comes), self.FLUSHED + renamed)
         self.assertEqual(self.steps(self.open(flags="O_CREAT|O_EXCL"), *gone[2:], self.open(number=4), write, self.COMES), self.FLUSHED + renamed)
+        by_link = self.open().replace(quoted("out/m"), quoted("/dev/stdout"))
+        self.assertEqual(self.steps(by_link, *gone[1:], write, comes), self.MADE + renamed)
 
     def test_emptied_as_it_is_opened(self):
         empties, renamed = self.open(flags="O_CREAT|O_TRUNC"), ["rename box/tmp/arrived.1 box/new/u ok"]
