@@ -48,8 +48,10 @@ class Taking:
             self._take(group)
 
     def _take(self, group: List[Step]) -> None:
+        # The steps of one call overlap no other.
+        overlaps = any(step.when.end != group[0].when.end for step in group)
         for step in group:
-            step.overlaps = len(group) > 1
+            step.overlaps = overlaps
         if len(group) == 1 or not _search(group, self._directories):
             _take_in_order_of_returns(group, self._directories)
         self._settle()

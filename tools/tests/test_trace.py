@@ -65,6 +65,10 @@ class Overlapping(unittest.TestCase):
         self.assertEqual(steps_of(log), ["a rename box/cur/u:2, box/cur/u:2,F ok", "a rename box/cur/u:2, box/cur/u:2,R notfound"])
         self.assertEqual([line.encoded().split(b" ")[0] for line in log.lines], [b"1002@1..3", b"1001@2..2"])
 
+    def test_one_call_of_two_steps_has_no_ticks(self):
+        log = log_of(trace(f"1 rmdir({quoted('box/cur/u')}) = 0"), [("cur", b"u")])
+        self.assertEqual([line.encoded() for line in log.lines][1:], [b"1000 a unlink box/cur/u ok"])
+
     def test_whole_reading_at_one_moment(self):
         """A reading of one part was before the rename that returned before it."""
         place = opened(3, f"{BOX_AT}/cur")
