@@ -69,7 +69,9 @@ class OutsideFiles:
         self._by_path[path] = file
 
     def rename(self, old: bytes, new: bytes) -> None:
-        """A file gets another path, or all below a directory do."""
+        """A file gets another path, or all below a directory do. Of two names of one file, none is changed."""
+        if old in self._by_path and self._by_path.get(new) is self._by_path[old]:
+            return
         self.forget(new)
         for path in [path for path in self._by_path if path == old or path.startswith(old + b"/")]:
             self._by_path[new + path[len(old):]] = self._by_path.pop(path)

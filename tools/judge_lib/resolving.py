@@ -202,10 +202,10 @@ class Resolver:
         opened, where = made.process.table.get(descriptor.number), self._where(descriptor.path)
         if isinstance(where, Place):
             return ()
-        outside = self._outside_of(descriptor, opened, where)
+        outside, is_said = self._outside_of(descriptor, opened, where), where is not None or opened is not None and opened.is_judged
         if outside is not None:
             outside.called(word, made.is_ok(), opened is not None and opened.is_sync)
-        is_said = outside.has_come if outside is not None else where is not None or opened is not None and opened.is_judged
+            is_said = outside.has_come or is_said and not descriptor.is_deleted
         if not is_said:
             return ()
         when = made.when

@@ -169,7 +169,8 @@ class Reader:
         if result[0] == "?" and error is None:
             return Begun(pid, begin, self._number, moment, name, arguments)
         value = None if result[0] == "?" else int(result[0], 0)
-        return Call(pid, begin, self._number, moment, name, arguments, value, error[1] if error else None, "(INJECTED)" in after, shown[1] if shown else None)
+        return Call(pid, begin, self._number, moment, name, arguments, value, error[1] if error else None, "(INJECTED)" in after,
+                    shown[1] if shown else None)
 
     def _end(self, pid: int, moment: int, text: str) -> Iterator[Event]:
         begun = self._begun.pop(pid, None)

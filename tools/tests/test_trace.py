@@ -182,6 +182,8 @@ class FromOutside(unittest.TestCase):
         self.assertEqual(self.steps(*made, f"1 {rename('out/n', 'out/m')}) = 0", self.COMES), self.FLUSHED + renamed)
         self.assertEqual(self.steps(*made, f"1 {rename('box/cur/v', 'out/m')}) = 0", self.COMES, files=[("cur", b"v")])[1:], self.FLUSHED + renamed)
         self.assertEqual(self.steps(*made, f"1 {rename('out/m', 'out/n')}) = -1 EACCES (Permission denied)", self.COMES), self.MADE + renamed)
+        for same in ([f"1 {rename('out/m', 'out/m')}) = 0"], [f"1 link({quoted('out/m')}, {quoted('out/n')}) = 0", f"1 {rename('out/m', 'out/n')}) = 0"]):
+            self.assertEqual(self.steps(*made, *same, self.COMES), self.MADE + renamed)
 
     def test_an_open_file_that_lost_its_name(self):
         gone = [self.open(), f"1 link({quoted('out/m')}, {quoted('out/n')}) = 0", f"1 unlink({quoted('out/m')}) = 0"]
