@@ -41,11 +41,11 @@ class OutsideFile:
 
 
 class Coming(NamedTuple):
-    """A file that a path comes to name by one call, the calls that make it, and what a comment says of it."""
+    """A file that a path comes to name by one call, the calls that make it, and what comments say of it."""
 
     file: OutsideFile
     made: List[Made]
-    text: str
+    remarks: List[str]
     replaces: bool = False
     is_whole: bool = True
 

@@ -10,7 +10,7 @@ from .folders import Folders, Place, first_path
 from .names import Path
 from .outside import Coming, Made, OutsideFile, OutsideFiles
 from .processes import OpenFile, Process, Processes, Turn
-from .steps import AtOnce, FlushAll, Look, Name, OnFile, Open, Read, Step, Unlink, Unsaid, When, text_of
+from .steps import NOT_SAID, AtOnce, FlushAll, Look, Name, OnFile, Open, Read, Step, Unlink, Unsaid, When, text_of
 from .strace_lines import LOOKS, STARTS, Begun, Call, Ended, Event, Opening, Starting, Unread
 
 _SYNC = re.compile(r"\bO_D?SYNC\b")
@@ -342,11 +342,11 @@ class Resolver:
 
     def _come(self, made: _Made, new: Path, file: OutsideFile, replaces: bool = False) -> Step:
         """A file comes from outside."""
-        text = "a file that comes from elsewhere: the next lines say it as made in tmp"
+        remarks = ["a file that comes from elsewhere: the next lines say it as made in tmp"]
         if file.is_mapped:
-            text += ", without what was written through memory"
+            remarks.insert(0, NOT_SAID + "writes through memory to a file that comes from elsewhere")
         file.has_come = file.has_come or made.is_ok()
-        return AtOnce(made.when, new, made.call.reply(), Coming(file, file.made(), text, replaces))
+        return AtOnce(made.when, new, made.call.reply(), Coming(file, file.made(), remarks, replaces))
 
     def _taken_from(self, word: str, old: Optional[bytes]) -> OutsideFile:
         """The file of a path outside, which a rename takes away."""
@@ -388,8 +388,8 @@ class Resolver:
         where = first_path(self._where(path))
         if where is not None:
             is_link = name.startswith("symlink")
-            text = f"{name}: the next {'lines say' if is_link else 'line says'} it as a file"
-            yield AtOnce(made.when, where, made.call.reply(), Coming(OutsideFile(), [Made("create")], text, is_whole=is_link))
+            text = f"{NOT_SAID}{name}: the next {'lines say' if is_link else 'line says'} it as a file"
+            yield AtOnce(made.when, where, made.call.reply(), Coming(OutsideFile(), [Made("create")], [text], is_whole=is_link))
 
     def _look(self, made: _Made) -> Iterator[Step]:
         is_at = made.call.name not in ("stat", "lstat", "access")

@@ -12,6 +12,8 @@ from .names import Path, escaped
 from .outside import Coming, Made, OutsideFile
 from .processes import OpenFile, Turn
 
+# How a comment begins on what a log can't say.
+NOT_SAID = "not said: "
 # So many words are kept as a log writes them: most paths come several times, one soon after the other.
 _MOST_KEPT = 1024
 
@@ -76,7 +78,11 @@ class Step:
 
     def comment(self, text: str) -> Line:
         """A line that says what can't be said."""
-        return Line(self.when.moment, None, f"not said: {text}".encode("utf-8", "surrogateescape"))
+        return self.remark(NOT_SAID + text)
+
+    def remark(self, text: str) -> Line:
+        """A line of its own for whoever reads the log."""
+        return Line(self.when.moment, None, text.encode("utf-8", "surrogateescape"))
 
 
 @lru_cache(_MOST_KEPT)
@@ -257,7 +263,7 @@ class AtOnce(Step):
         former = directories.path_of(self._coming.file.file)
         if former is not None and directories.names.get(self._new) == self._coming.file.file:
             return []
-        return [self.comment(self._coming.text), *self._taken(directories, former)]
+        return [*map(self.remark, self._coming.remarks), *self._taken(directories, former)]
 
     def _taken(self, directories: Directories, former: Optional[Path]) -> List[Line]:
         """A file that has come before, and has a path in a place, gets one more."""

@@ -17,7 +17,7 @@ from .making import UNCLAIMED, Beginning, Making
 from .processes import Actors, Processes, actor_word
 from .refused import Refused
 from .statuses import Statuses
-from .steps import Line
+from .steps import NOT_SAID, Line
 from .tracing import Tracer, strace, tracer_of, version
 
 _SECONDS_TO_ATTACH = 5
@@ -190,7 +190,7 @@ class _Run:
     def _tell(self, line: Line) -> None:
         self._told += 1
         self._calls += line.actor is not None and not line.text.startswith(b"answer ")
-        if line.actor is None:
+        if line.actor is None and line.text.startswith(NOT_SAID.encode()):
             self._unsaid[re.sub(r"\d+", "N", line.text.decode("utf-8", "replace").partition(": ")[2])] += 1
         self._out.write(line.encoded() + b"\n")
 

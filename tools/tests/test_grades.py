@@ -57,7 +57,7 @@ class Grades(unittest.TestCase):
             self.assertEqual(grade("SeenBeforeWhole", *lines), "misled")
             self.assertEqual(grade("SeenBeforeWhole", said, *lines), "custom")
             self.assertEqual(grade("SeenBeforeWhole", "# not said: what a reading of new showed after its end", *lines), "misled")
-        comes = ["# not said: a file that comes from elsewhere: the next lines say it as made in tmp", "1 p create box/tmp/arrived.1 ok",
+        comes = ["# a file that comes from elsewhere: the next lines say it as made in tmp", "1 p create box/tmp/arrived.1 ok",
                  "1 p write box/tmp/arrived.1 fault", "1 p rename box/tmp/arrived.1 box/cur/u:2, ok"]
         self.assertEqual(grade("SeenBeforeWhole", *comes), "misled", "it is cut")
         self.assertEqual(grade("SeenBeforeWhole", *comes, "1 p write box/cur/u:2, ok"), "misled", "it is written to once it has come")
