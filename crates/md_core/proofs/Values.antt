@@ -30,7 +30,7 @@ pub use Rattle.md_core.specs.History.{IsAllowed, IsAllowedAfter, IsLegal, IsNowh
 pub use Rattle.md_core.specs.Alone.{Outcome, alone, copy_alone, copy_by, deliver_alone, entry_if, expunge_alone, expunge_by, flag_alone, flag_by, flags_in, info_copied, info_with, is_in_folder, is_in_place, move_alone, refuse, seen_alone, seen_by}
 pub use Rattle.md_core.specs.Accepting.{IsAccepted, IsFresh, IsLookUp, MakesMessage, name_used}
 pub use Rattle.md_core.specs.Interleaving.{Acts, HasSeenOld, Interleaves, IsCopied, IsCopyTo, IsDelivery, IsDeliveryOf, IsEffectOf, IsOwnEffect, IsTmpOf, IsWhole, KeepsTmp, MayChange, NoneOverwritten, TakesEffect, is_effect_at, is_success}
-pub use Rattle.md_core.specs.Used.{is_among}
+pub use Rattle.md_core.specs.Used.{is_among, may_be_among}
 pub use Rattle.md_jobs.specs.Asked.{Asked, append, ask_of, create, is_fault, link, list, rename, reply_by, state_by, unlink}
 pub use Rattle.md_jobs.specs.Turn.{After, NoCall, Takes, TakesOrEnds, Turn, TurnOf, ends, ends_by, goes_on, reply_of, rows_for}
 pub use Rattle.md_dirs.specs.Rows.{ends_unique, is_in, is_named, row_by, row_named, row_of, rows_of}
@@ -43,8 +43,8 @@ pub use Rattle.std.specs.Str.{bytes_eq}
 pub use Rattle.md_core.specs.Looking.{IsLookOf, entries_before, fault_after, is_before, is_message_of, is_of, is_tmp_of}
 pub use Rattle.md_core.specs.Submitting.{bad_tries, checks, checks_of_look_up, first_met, is_used, makes, most_tries, no_folder, submit_refusal, uses}
 pub use Rattle.md_core.specs.Loading.{fault_of, first_fault, is_bad_name, is_long_unique, is_same_message, load_refusal}
-pub use Rattle.md_core.specs.Gathering.{AreOf, KeepsLeaving, KeepsMade, holds, is_used_before, keeps_few, may_take}
-pub use Rattle.md_core.specs.Worlds.{AreLeaving, AreUsed, IsWorld, TakesAll, machine_by, occurrences, run_of}
+pub use Rattle.md_core.specs.Gathering.{AreOf, Covers, GrowsFrom, HasMade, HasName, KeepsMade, KeepsUsed, StillUsed, holds, is_used_before, may_change, may_take}
+pub use Rattle.md_core.specs.Worlds.{AreUsed, IsWorld, TakesAll, machine_by, occurrences, run_of}
 pub use Rattle.md_core.specs.Laws.{HasJob, HasPath, IsInCur, IsNotInTmp, IsPlaced, KeepsPlaces}
 pub use Rattle.md_core.specs.Quick.{AreBare, AreFree, AreSingle, IsQuickLook, has_fault}
 pub use Rattle.md_core.specs.Standing.{JobView, TakesTurn, job_of, standings}

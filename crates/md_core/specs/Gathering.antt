@@ -1,17 +1,17 @@
--- The names that directories use up, and when they are gathered.
-use Rattle.std.specs.Prelude.{ℕ, ◌≡◌, List, Bool, true, false, ◌||◌, is_some}
+-- The names that directories use up, when they are gathered, and what is kept of them.
+use Rattle.std.specs.Prelude.{ℕ, ◌≡◌, List, Option, Some, None, Bool, true, false, ◌&&◌, ◌||◌, is_some}
 use Rattle.std.specs.List.{list_any}
+use Rattle.std.specs.Str.{bytes_eq}
 use Rattle.std.specs.FinMap as finmap
 use Rattle.md_dirs.specs.Path.{path_of as path}
 use Rattle.md_dirs.specs.State.{State, file_at}
 use Rattle.md_dirs.specs.declared.paths.Path.{Path}
 use Rattle.md_dirs.specs.declared.paths.Place.TheVariants.{Tmp}
 use Rattle.md_jobs.specs.declared.call.Call.{Call}
-use Rattle.md_jobs.specs.declared.call.Call.TheVariants.{Seen, Flag, Move, Clean}
+use Rattle.md_jobs.specs.declared.call.Call.TheVariants.{Expunge, Clean}
 use Rattle.md_core.specs.Submitting.{uses, makes}
 use Rattle.md_core.specs.Used.{is_among}
 use Rattle.md_core.specs.declared.used.Used.{Used}
-use Rattle.md_core.specs.declared.used.Used.TheVariants.{Leaving, All}
 
 -- names are those that entries use up
 abbrev pub AreOf : List (Path × ℕ) → List (List ℕ) → Type 0
@@ -21,38 +21,54 @@ AreOf es names = (u : List ℕ) → is_among u names ≡ list_any (λ e. uses u 
 abbrev pub holds : State → List ℕ → Bool
 holds s u = list_any (λ e. uses u e.0) (finmap.entries s.names)
 
--- Whether not all names need be gathered for a call: it makes none, and takes none away but those in tmp of a folder, as each path that it
--- renames keeps its unique part.
-abbrev pub keeps_few : Call → Bool
-keeps_few (Seen folder unique flags tries) = true
-keeps_few (Flag folder unique add remove tries) = true
-keeps_few (Move folder unique to tries) = true
-keeps_few (Clean folder) = true
-keeps_few call = false
-
--- whether a call may take a name away: a clean those in tmp of its folder
+-- whether a call may take a name away that the directories use: an expunge that of its message, a clean those in tmp of its folder
 abbrev pub may_take : State → Call → List ℕ → Bool
+may_take s (Expunge folder unique tries) u = bytes_eq unique u && holds s u
 may_take s (Clean folder) u = is_some (file_at s (path folder Tmp u))
 may_take s call u = false
 
--- whether a name is used up before a call: it is among those kept, or the directories use it where not all are kept
+-- Whether directories may use a name after a step of a call and not before it, or the other way round. All else that a call does to paths is
+-- to rename some, which keep their unique part.
+abbrev pub may_change : State → Call → List ℕ → Bool
+may_change s call u = makes u call || may_take s call u
+
+-- whether a name is used up before a call: it is among those since, or the directories use it
 abbrev pub is_used_before : State → Used → List ℕ → Bool
-is_used_before s (Leaving names) u = is_among u names.items || holds s u
-is_used_before s (All names) u = is_among u names
+is_used_before s used u = is_among u used.since || holds s u
 
--- the names that may leave are those before a call for which none need be gathered, and those that it may take away
-abbrev pub KeepsLeaving : State → Call → Used → List (List ℕ) → Type 0
-KeepsLeaving s call (Leaving old) names =
-    (keeps_few call ≡ true) × ((u : List ℕ) → is_among u names ≡ (is_among u old.items || may_take s call u))
-KeepsLeaving s call (All old) names = ⊥
+-- gathered names, if any are, have all that the directories use. They may have others, which left the directories before a settle
+abbrev pub Covers : State → Option (List (List ℕ)) → Type 0
+Covers s None = Unit {0}
+Covers s (Some names) = (u : List ℕ) → holds s u ≡ true → is_among u names ≡ true
 
--- the names that are kept are those before a call and that which it makes. Where not all are kept, those that may leave are
-abbrev pub KeepsMade : State → Call → Used → Used → Type 0
-KeepsMade s call before (Leaving names) = KeepsLeaving s call before names.items
-KeepsMade s call before (All names) = (u : List ℕ) → is_among u names ≡ (makes u call || is_used_before s before u)
+-- names that were gathered stay so, and may be more; where none were, those of the directories may have been
+abbrev pub GrowsFrom : State → Option (List (List ℕ)) → Option (List (List ℕ)) → Type 0
+GrowsFrom s None new = Covers s new
+GrowsFrom s (Some old) None = ⊥
+GrowsFrom s (Some old) (Some new) = (u : List ℕ) → is_among u old ≡ true → is_among u new ≡ true
 
--- the same names are kept
-abbrev pub IsSame : Used → Used → Type 0
-IsSame (Leaving old) (Leaving new) = new.items ≡ old.items
-IsSame (All old) (All new) = new ≡ old
-IsSame old new = ⊥
+-- names were gathered, and have this one
+abbrev pub HasName : List ℕ → Option (List (List ℕ)) → Type 0
+HasName u None = ⊥
+HasName u (Some names) = is_among u names ≡ true
+
+-- the name that a call makes is among those gathered; where none are, it makes none
+abbrev pub HasMade : Call → Option (List (List ℕ)) → Type 0
+HasMade call None = (u : List ℕ) → makes u call ≡ false
+HasMade call (Some names) = (u : List ℕ) → makes u call ≡ true → is_among u names ≡ true
+
+-- What is kept from the submit of a call on: the names since are those before it and those that it may change.
+pub record KeepsMade (s : State) (call : Call) (before after : Used) : Type 0 where
+  pub since : (u : List ℕ) → is_among u after.since ≡ (may_change s call u || is_among u before.since)
+  pub were : GrowsFrom s before.were after.were
+  pub made : HasMade call after.were
+
+-- names since may be more, but the same are used up: the others are in the directories
+pub record StillUsed (s : State) (old new : List (List ℕ)) : Type 0 where
+  pub kept : (u : List ℕ) → is_among u old ≡ true → is_among u new ≡ true
+  pub same : (u : List ℕ) → (is_among u new || holds s u) ≡ (is_among u old || holds s u)
+
+-- What is kept after a submit that was refused: the same names are used up.
+pub record KeepsUsed (s : State) (before after : Used) : Type 0 where
+  pub since : StillUsed s before.since after.since
+  pub were : GrowsFrom s before.were after.were

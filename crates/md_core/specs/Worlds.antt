@@ -1,5 +1,5 @@
 -- What a world keeps beside its run, and how that is told from the run.
-use Rattle.std.specs.Prelude.{ℕ, ◌≡◌, ◌<◌, List, [], ◌∷◌, Some, Bool, true, ◌||◌, length, map, take, slice_get, vec_len, vec_capacity}
+use Rattle.std.specs.Prelude.{ℕ, ◌≡◌, ◌<◌, List, [], ◌∷◌, Some, Bool, true, length, map, take, slice_get, vec_len, vec_capacity}
 use Rattle.md_jobs.specs.declared.call.Call.{Call}
 use Rattle.md_jobs.specs.declared.error.CoreError.{CoreError}
 use Rattle.md_jobs.specs.declared.step.Event.{Event}
@@ -10,10 +10,9 @@ use Rattle.md_core.specs.Machine.{Machine, Occurrence, job_at}
 use Rattle.md_core.specs.Standing.{JobView, standings}
 use Rattle.md_core.specs.Runs.{Run, machine_of, dirs_of, jobs_of, failures_of, calls_made_of, and_events, step_refusal, IsRefusal}
 use Rattle.md_core.specs.Submitting.{is_used}
-use Rattle.md_core.specs.Gathering.{holds, keeps_few, may_take}
+use Rattle.md_core.specs.Gathering.{Covers, HasMade, is_used_before, may_change}
 use Rattle.md_core.specs.Used.{is_among}
 use Rattle.md_core.specs.declared.used.Used.{Used}
-use Rattle.md_core.specs.declared.used.Used.TheVariants.{Leaving, All}
 use Rattle.md_core.specs.Stepping.{IsRun}
 
 -- events and their marks
@@ -43,18 +42,14 @@ run_of first began jobs events marks = record {
 abbrev pub machine_by : Device → ℕ → List JobView → List Effect → Machine
 machine_by now clock jobs effects = record { dirs = now.state; clock = clock; jobs = standings jobs; effects = effects }
 
--- While no call was one for which all names are gathered, those are kept that a call may take away or may have taken away. The directories
--- use up the others.
-pub record AreLeaving (r : Run) (names : List (List ℕ)) : Type 0 where
-  pub calls : (i : ℕ) (call : Call) → slice_get r.calls i ≡ Some call → keeps_few call ≡ true
-  pub taken : (i : ℕ) (call : Call) → slice_get r.calls i ≡ Some call → (u : List ℕ) → may_take (dirs_of r) call u ≡ true →
-      is_among u names ≡ true
-  pub used : (u : List ℕ) → (is_among u names || holds (dirs_of r) u) ≡ is_used r u
-
--- the names that a world keeps are those that are used up, or those that may leave its directories
-abbrev pub AreUsed : Run → Used → Type 0
-AreUsed r (Leaving names) = AreLeaving r names.items
-AreUsed r (All names) = (u : List ℕ) → is_among u names ≡ is_used r u
+-- The names that a world keeps are those since it began that a call makes or may take away, and those that were gathered: with all that the
+-- directories use, and each that a call makes. A name is used up where it is among the former, or the directories use it.
+pub record AreUsed (r : Run) (used : Used) : Type 0 where
+  pub changed : (i : ℕ) (call : Call) → slice_get r.calls i ≡ Some call → (u : List ℕ) → may_change (dirs_of r) call u ≡ true →
+      is_among u used.since ≡ true
+  pub same : (u : List ℕ) → is_used_before (dirs_of r) used u ≡ is_used r u
+  pub made : (i : ℕ) (call : Call) → slice_get r.calls i ≡ Some call → HasMade call used.were
+  pub covers : Covers (dirs_of r) used.were
 
 -- The directories, clock, jobs and effects that a world keeps are those of its run. Its directories failed as often since the
 -- beginning as the run has marks, as many calls of them were made as the run has events, and its used names are those of the run.

@@ -1,7 +1,7 @@
 //! The names that are used up, looked up by their hash.
 ghost use Rattle.std.specs.Prelude.{◌≡◌, ◌||◌, ◌++◌, [], not, OnOk, OnErr, IfOk};
 ghost use Rattle.std.specs.Str.{bytes_eq};
-ghost use Rattle.md_core.specs.Used.{is_among};
+ghost use Rattle.md_core.specs.Used.{is_among, may_be_among};
 
 use md_dirs::{HashSeed, NameKey};
 use std::alloc::{AllocError, Global};
@@ -24,6 +24,16 @@ impl Model for NameSet {
 }
 
 impl NameSet {
+    /// No name. It takes no memory.
+    pub(crate) fn empty(alloc: Global, seed: HashSeed) -> NameSet
+        ensures { result ≡ [] }
+    {
+        NameSet {
+            alloc,
+            names: HashSet::with_hasher(alloc, seed),
+        }
+    }
+
     /// No name, and room for so many, which are hashed by a seed.
     pub(crate) fn with_room(
         alloc: Global,
@@ -36,6 +46,11 @@ impl NameSet {
             alloc,
             names: HashSet::with_capacity_and_hasher(alloc, count, seed)?,
         })
+    }
+
+    /// How many names these are.
+    pub(crate) fn len(&self) -> usize {
+        self.names.len()
     }
 
     /// Whether a name is among these. Where there is none, the name is not hashed.
@@ -60,28 +75,45 @@ impl NameSet {
     }
 }
 
-/// What a world keeps of the names that are used up.
+/// What a world keeps of the names that are used up: those of `since`, and those of `were` that its directories hold.
 #[derive(Drop)]
-pub(crate) enum Used {
-    /// Names that may leave the directories, or have left them. These hold all others that are used.
-    Leaving(Vec<NameKey<'static>>),
-    /// All of them.
-    All(UsedNames),
+pub(crate) struct Used {
+    /// The names that calls make, or may take away, since the world began or settled.
+    pub(crate) since: NameSet,
+    /// Once a call made a name, all that the directories may hold. A settle keeps these as they are, so some may have left since.
+    pub(crate) were: Option<UsedNames>,
 }
 
-/// Whether a name is among those.
-pub(crate) fn is_among_keys(keys: &[NameKey<'static>], name: &[u8]) -> bool
-    ensures { result ≡ is_among name.now keys.now }
-{
-    keys.iter().any(|key| key.as_slice() == name)
+impl Used {
+    /// What a world keeps that begins, with the names of its directories if they were gathered.
+    pub(crate) fn beginning(alloc: Global, seed: HashSeed, were: Option<UsedNames>) -> Used
+        ensures { (result.since ≡ []) × (result.were ≡ were) }
+    {
+        Used {
+            since: NameSet::empty(alloc, seed),
+            were,
+        }
+    }
+
+    /// Whether directories may hold a name: if not, no look at them is needed.
+    pub(crate) fn may_be_held(&self, name: &[u8]) -> bool
+        ensures { result ≡ may_be_among name.now self.now.were }
+    {
+        match &self.were {
+            Some(names) => names.contains(name),
+            None => true,
+        }
+    }
 }
 
-/// The names that are used up: those of messages and of deliveries, and beside them those of files in tmp, as a file in tmp may
-/// have the name of a message.
+/// Names that were gathered: those of messages and of deliveries, and beside them those of files in tmp, as a file in tmp may have the
+/// name of a message.
 #[derive(Drop)]
 pub(crate) struct UsedNames {
     messages: NameSet,
     tmp: NameSet,
+    // How many more may come or go before it is asked again how many of them may have left.
+    spare: usize,
 }
 
 impl Model for UsedNames {
@@ -97,7 +129,11 @@ impl UsedNames {
     pub(crate) fn of(messages: NameSet, tmp: NameSet) -> UsedNames
         ensures { result ≡ messages ++ tmp }
     {
-        UsedNames { messages, tmp }
+        UsedNames {
+            messages,
+            tmp,
+            spare: 0,
+        }
     }
 
     /// No name, and room for so many, which are hashed by a seed.
@@ -111,7 +147,33 @@ impl UsedNames {
         Ok(UsedNames {
             messages: NameSet::with_room(alloc, seed, count)?,
             tmp: NameSet::with_room(alloc, seed, 0)?,
+            spare: 0,
         })
+    }
+
+    /// How many names these are.
+    pub(crate) fn len(&self) -> usize {
+        self.messages.len().saturating_add(self.tmp.len())
+    }
+
+    /// Whether so many more may come or go; if so, it counts them.
+    pub(crate) fn spares(&mut self, changes: usize) -> bool
+        ensures { self.new ≡ self.old }
+    {
+        match self.spare.checked_sub(changes) {
+            Some(spare) => {
+                self.spare = spare;
+                true
+            }
+            None => false,
+        }
+    }
+
+    /// The same names, of which so many may come or go from now on.
+    pub(crate) fn with_spare(self, spare: usize) -> UsedNames
+        ensures { result ≡ self }
+    {
+        UsedNames { spare, ..self }
     }
 
     /// Whether a name is used.

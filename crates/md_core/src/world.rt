@@ -34,7 +34,7 @@ pub struct World<D: Dirs> {
     // The clock now, in seconds.
     clock: u64,
     jobs: Vec<Job>,
-    // The names that are used up, once a call needed them. Until then those alone that may leave the directories.
+    // What tells, with a look at the directories, which names are used up.
     used: Used,
     log: Log,
 }

@@ -1,8 +1,9 @@
 -- What a settled world keeps. And which job has no answer, by what a world keeps of its jobs.
-use Rattle.std.proofs.Common.{ℕ, ◌≡◌, ◌+◌, List, [], ◌∷◌, Some, None, Bool, cond, not, nat_lt, option_map, position, refl, sym, ap, subst, ◌∙◌}
+use Rattle.std.proofs.Common.{ℕ, ◌≡◌, ◌+◌, List, [], ◌∷◌, Option, Some, None, Bool, cond, IfSome, not, nat_lt, option_map, position, refl, sym, ap, subst, ◌∙◌}
 use Rattle.std.proofs.lemmas.List.{length-map}
-use Rattle.md_core.proofs.Values.{Effect, Event, Machine, is_working, Run, IsRun, position_or_len, Device, first_unanswered, settled, JobView, standings, Used, IsWorld, run_of, machine_by}
-use Rattle.md_core.proofs.Worlds.Submitted.{IsBare, begun-bare}
+use Rattle.md_core.proofs.Values.{Effect, Event, Machine, is_working, Run, IsRun, position_or_len, Covers, Device, first_unanswered, settled, JobView, standings, Used, IsWorld, run_of, machine_by}
+use Rattle.md_core.proofs.Worlds.Before.{covered}
+use Rattle.md_core.proofs.Worlds.Submitted.{begun-world}
 use Rattle.md_core.proofs.Settling.EachRun.{is_run-settled}
 
 place-standings : (jobs : List JobView) → position_or_len is_working (standings jobs) ≡ position_or_len (λ job. is_working job.standing) jobs
@@ -31,8 +32,17 @@ module _ (first : Device) (began : ℕ) (jobs : List JobView) (events : List Eve
   begins : IsRun (run_of held clock [] [] [])
   begins = subst (λ (r : Run). IsRun r) (sym settled-is) (is_run-settled run world.run)
 
-  pub settled-world : (kept : Used) → IsBare kept → IsWorld (run_of held clock [] [] []) (machine_by held clock [] []) held kept [] []
-  settled-world = begun-bare held begins.sound begins.loaded clock begins.stamped
+  -- with the names that were gathered, or without them
+  pub settled-world : (kept : Used) → kept.since ≡ [] → IfSome kept.were (λ names. used.were ≡ Some names) →
+      IsWorld (run_of held clock [] [] []) (machine_by held clock [] []) held kept [] []
+  settled-world kept none were = begun-world held begins.sound begins.loaded clock begins.stamped kept (record {
+    since = none;
+    covers = by kept.were were;
+  })
+    where
+      by : (o : Option (List (List ℕ))) → IfSome o (λ names. used.were ≡ Some names) → Covers held.state o
+      by None is = tt
+      by (Some names) is = subst (Covers held.state) is (covered first began jobs events marks held clock effects used world)
 
   -- the first job without an answer, by the jobs that are held
   pub unanswered-is : (r : Run) → run ≡ r → first_unanswered r ≡ option_map (λ at. at + 1) (position (λ job. is_working job.standing) jobs)

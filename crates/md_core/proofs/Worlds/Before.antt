@@ -1,7 +1,6 @@
--- The names that are used up before a call, whether a world keeps them or not.
-use Rattle.std.proofs.Common.{ℕ, ◌≡◌, ◌∙◌, ◌||◌, List, Bool, sym, ap, subst}
-use Rattle.md_core.proofs.Values.{Effect, Event, Machine, Run, is_among, Device, holds, is_used_before, JobView, is_used, Used, IsWorld, AreUsed, run_of, machine_by}
-use Rattle.md_core.specs.declared.used.Used.TheVariants.{Leaving, All}
+-- What holds of the directories of a world.
+use Rattle.std.proofs.Common.{ℕ, List, Bool, sym, ap, subst}
+use Rattle.md_core.proofs.Values.{State, Effect, Event, Machine, Run, Covers, Device, HasOnePath, JobView, Used, IsWorld, run_of, machine_by}
 use Rattle.md_core.proofs.Induction.Good.{IsGood}
 use Rattle.md_core.proofs.Induction.GoodRuns.{good-machine}
 use Rattle.md_core.proofs.Machines.EachTurn.{each-turn}
@@ -15,9 +14,9 @@ module _ (first : Device) (began : ℕ) (jobs : List JobView) (events : List Eve
   pub good-kept : IsGood run.calls (machine_by held clock jobs effects)
   good-kept = subst (IsGood run.calls) (sym world.now) (good-machine run world.run each-turn)
 
-  pub used-before : (u : List ℕ) → is_used_before held.state used u ≡ is_used run u
-  used-before u = by used world.names
-    where
-      by : (names : Used) → AreUsed run names → is_used_before held.state names u ≡ is_used run u
-      by (Leaving names) kept = ap (λ (m : Machine). is_among u names.items || holds m.dirs u) world.now ∙ kept.used u
-      by (All names) kept = kept u
+  pub one-path : HasOnePath held.state
+  one-path = good-kept.one_path
+
+  -- the names that were gathered have all that they use
+  pub covered : Covers held.state used.were
+  covered = subst (λ (m : Machine). Covers m.dirs used.were) (sym world.now) world.names.covers

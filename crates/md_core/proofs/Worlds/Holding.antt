@@ -1,12 +1,14 @@
 -- Which names directories use up, before a turn of a job and after it.
-use Rattle.std.proofs.Common.{ℕ, ◌≡◌, ◌≢◌, ◌<◌, ◌&&◌, ◌||◌, inl, inr, List, [], ◌∷◌, Option, Some, None, Bool, true, false, cond, not}
-use Rattle.std.proofs.Common.{is_some, map, filter, refl, sym, ap, ◌∙◌}
+use Rattle.std.proofs.Common.{ℕ, ◌≡◌, ◌≢◌, ◌<◌, ◌⊎◌, ◌&&◌, ◌||◌, inl, inr, List, [], ◌∷◌, Option, Some, None, Bool, true, false, cond, not}
+use Rattle.std.proofs.Common.{is_some, length, map, filter, refl, sym, ap, ◌∙◌}
 use Rattle.std.proofs.lemmas.Bool.{and_parts, and_from}
 use Rattle.std.proofs.lemmas.Slice.Eq.{bytes_eq-Decides}
 use Rattle.std.specs.List.Sorted.{IsPermutation}
 use Rattle.std.proofs.lemmas.List.Sorted.{list_any-IsPermutation}
 use Rattle.md_dirs.proofs.PathOrder.{path_total, path_exact}
+use Rattle.lists.proofs.Maps as maps
 use Rattle.lists.proofs.Members.{get-has, has-get}
+use Rattle.md_jobs.proofs.Cases.{by-delivery}
 use Rattle.md_name.proofs.Flagged.{unique_of-flagged}
 use Rattle.md_jobs.specs.Machines.Errand.{asked_of, stage_turn}
 use Rattle.md_jobs.specs.Machines.Clean as cleaned_by
@@ -16,15 +18,16 @@ use Rattle.md_jobs.specs.Tasks.Errand.{Errand as ErrandOf, Stage, Look, Act}
 use Rattle.md_jobs.specs.declared.call.Call.TheVariants as call
 use Rattle.md_jobs.specs.declared.purpose.Purpose.TheVariants.{Seen, Flag, Move, Copy, Expunge}
 use Rattle.md_jobs.specs.declared.step.DirReply.TheVariants as reply
-use Rattle.md_core.proofs.Values.{State, IsSound, file_at, file_by, Path, path_of, Place, Tmp, Cur, Row, Call, DirReply, Moment, is_in, row_of, rows_of, unique_of, flagged, is_message_name, Asked, unlink, ask_of, state_by, reply_of, Task, Deliver, Errand, Clean, name_used, MakesMessage, turn_of, is_tmp, is_message, HasOnePath, is_among, entries, bytes_eq, list_any, after_rename, after_unlink, deed_by, info_in, shown, wanted, Cleaning, Purpose, holds, keeps_few, may_take, uses}
-use Rattle.md_core.proofs.Answers.Files.Asking.{asks-fair, creates}
+use Rattle.md_core.proofs.Values.{State, IsSound, file_at, file_by, Path, path_of, Place, Tmp, Cur, Row, Call, DirReply, Moment, is_in, row_of, rows_of, unique_of, flagged, is_message_name, Asked, append, create, link, list, rename, unlink, ask_of, state_by, reply_of, Task, Deliver, Errand, Clean, Delivery, name_used, MakesMessage, turn_of, is_tmp, is_message, HasOnePath, is_among, entries, bytes_eq, list_any, after_append, after_rename, with_path, deed_by, info_in, name_copied, shown, wanted, Cleaning, Purpose, Covers, HasMade, holds, makes, may_change, may_take, uses}
+use Rattle.md_core.proofs.Answers.Files.Asking.{asked_at, asks-fair, creates}
 use Rattle.md_core.proofs.Answers.Files.Tmp.{touches}
-use Rattle.md_core.proofs.Directories.Calls.Unlink.{unlink-frame}
-use Rattle.md_core.proofs.Directories.Frames.{Frame}
-use Rattle.md_core.proofs.Induction.Good.{ErrandFits, TaskFits}
+use Rattle.md_core.proofs.Directories.Frames.{makes-delivery, message-key, other_key, tmp-key}
+use Rattle.md_core.proofs.Induction.Good.{DeliveryFits, ErrandFits, TaskFits}
 use Rattle.md_core.proofs.Looking.LookUps.{unique-part, message-name, in-path, name-row, path-in}
+use Rattle.md_core.proofs.Machines.Errand.Copied.{copy-named, makes-copy, new_or_cur}
 use Rattle.md_core.proofs.Machines.Errand.Moves.{Moves, moves}
 use Rattle.md_core.proofs.Machines.Errand.Table.Calls.{on}
+use Rattle.md_core.proofs.Machines.Errand.Table.Checks.{makes-true}
 use Rattle.md_core.proofs.Machines.Errand.Table.Deeds.{deed-fits}
 use Rattle.md_core.proofs.Machines.Errand.Table.Rows.{not-tmp}
 use Rattle.md_core.proofs.Machines.Errand.Turns.{deed-there}
@@ -60,9 +63,9 @@ message-holds : (s : State) (p : Path) (n : ℕ) (u : List ℕ) → file_at s p 
 message-holds s p n u there m is =
     has-any (λ e. uses u e.0) (entries s.names) (p, n) (get-has path_total path_exact s.names p n there) (message-uses p u m is)
 
-module _ (s s' : State) (v : List ℕ) (f : Frame s s' v) (u : List ℕ) (differ : u ≢ v) where
+module _ (s s' : State) (v : List ℕ) (names : (q : Path) → name_used q ≢ v → file_at s' q ≡ file_at s q) (u : List ℕ) (differ : u ≢ v) where
   beside : (p : Path) → uses u p ≡ true → file_at s' p ≡ file_at s p
-  beside p is = f.names p (λ same. differ (sym (used-key u p is) ∙ same))
+  beside p is = names p (λ same. differ (sym (used-key u p is) ∙ same))
 
   none-more : (a b : State) → ((p : Path) → uses u p ≡ true → file_at b p ≡ file_at a p) → holds a u ≡ false → holds b u ≡ false
   none-more a b same none = any-none (λ e. uses u e.0) (entries b.names) (λ x has.
@@ -85,140 +88,234 @@ module _ (s : State) (o n : Path) (k : ℕ) (sound : IsSound s) (one : HasOnePat
   pub holds-moved : (u : List ℕ) → holds (after_rename o n s) u ≡ holds s u
   holds-moved u = by_name u (unique_of n.name)
       (λ is. message-holds (after_rename o n s) n k u moved.puts.there mn (sym is) ∙ sym (message-holds s o k u at mo (same ∙ sym is)))
-      (λ differ. holds-beside s (after_rename o n s) (unique_of n.name) moved.frame u differ)
+      (λ differ. holds-beside s (after_rename o n s) (unique_of n.name) moved.frame.names u differ)
 
--- ---- a turn of an errand that makes no name and takes none away
+-- ---- a call that acts on paths of one name
 
-module _ (s : State) (asked : Call) (none : keeps_few asked ≡ true) (sound : IsSound s) (one : HasOnePath s) (clock : ℕ) (faulted : Bool)
-  where
-    -- what it leaves uses up the same names
-    abbrev Holds : Asked → Type 0
-    Holds made = (r : DirReply) → r ≡ reply_of (ask_of made clock) s faulted → (u : List ℕ) →
-        holds (state_by (ask_of made clock) s r) u ≡ holds s u
+-- a call acts on paths of the name alone, and renames none
+abbrev IsOn : List ℕ → Asked → Type 0
+IsOn v (create p) = name_used p ≡ v
+IsOn v (append p bytes) = Unit {0}
+IsOn v (link old new) = name_used new ≡ v
+IsOn v (rename old new) = ⊥
+IsOn v (unlink p) = name_used p ≡ v
+IsOn v (list folder place) = Unit {0}
 
-    module _ (folder : ℕ) (v : List ℕ) (place : Place) (row : Row) (tries : ℕ) where
-      abbrev acting : Purpose → ErrandOf
-      acting p = on folder v p (Act place row tries)
+module _ (s : State) (clock : ℕ) (v : List ℕ) (q : Path) (not : name_used q ≢ v) where
+  appended : (bytes : List ℕ) (o : Option ℕ) → file_at (after_append bytes clock s o) q ≡ file_at s q
+  appended bytes None = refl
+  appended bytes (Some n) = refl
 
-      abbrev made : Purpose → Asked
-      made p = asked_of (deed_by p folder v place row.name (info_in row.name))
+  linked : (new : Path) → name_used new ≡ v → (o : Option ℕ) → file_at (with_path new s o) q ≡ file_at s q
+  linked new is None = refl
+  linked new is (Some n) = maps.beside_put path_total path_exact s.names new q n (other_key q new v is not)
 
-      abbrev o : Path
-      o = path_of folder place row.name
+  -- other paths stay
+  on-beside : (made : Asked) → IsOn v made → (r : DirReply) → file_at (state_by (ask_of made clock) s r) q ≡ file_at s q
+  on-beside (create p) is reply.Ok = maps.beside_put path_total path_exact s.names p q (length s.files) (other_key q p v is not)
+  on-beside (append p bytes) is reply.Ok = appended bytes (file_at s p)
+  on-beside (link old new) is reply.Ok = linked new is (file_at s old)
+  on-beside (rename old new) is reply.Ok = absurd is
+  on-beside (unlink p) is reply.Ok = maps.beside_drop path_total path_exact s.names p q (other_key q p v is not)
+  on-beside (list folder place) is reply.Ok = refl
+  on-beside made is r = refl
 
-      module _ (p : Purpose) (fits : ErrandFits s asked (acting p)) where
-        message : is_message o ≡ true
-        message = and_from _ _ (ap not (not-tmp p place fits.stage.at)) fits.stage.named
+-- whether the directories use the name up is as it was, or it is one that the call may change
+abbrev pub Changes : State → Call → State → List ℕ → Type 0
+Changes s asked later u = (holds later u ≡ holds s u) ⊎ (may_change s asked u ≡ true)
 
-        there : reply.Ok ≡ reply_of (ask_of (made p) clock) s faulted → (k : ℕ) × (file_at s o ≡ Some k)
-        there = deed-there s clock faulted o (deed_by p folder v place row.name (info_in row.name))
-            (deed-fits s asked folder v place row tries p fits)
+module _ (s : State) (asked : Call) (clock : ℕ) (v : List ℕ) (may : may_change s asked v ≡ true) (made : Asked) (on : IsOn v made) where
+  on-changes : (r : DirReply) (u : List ℕ) → Changes s asked (state_by (ask_of made clock) s r) u
+  on-changes r u = by_name u v
+      (λ same. inr (ap (may_change s asked) same ∙ may))
+      (λ differ. inl (holds-beside s (state_by (ask_of made clock) s r) v (λ q not. on-beside s clock v q not made on r) u differ))
 
-      -- a mark gives its message another name of the unique part
-      marked : (p : Purpose) (fits : ErrandFits s asked (acting p)) (k : ℕ) → file_at s o ≡ Some k → (u : List ℕ) →
-          holds (after_rename o (path_of folder Cur (flagged v (wanted p (shown (info_in row.name))))) s) u ≡ holds s u
-      marked p fits k at u =
-          let name : List ℕ = flagged v (wanted p (shown (info_in row.name))) in
-          let part = unique-part v fits.valid in
-          let unique : unique_of name ≡ v = unique_of-flagged v (wanted p (shown (info_in row.name))) part.colonless in
-          holds-moved s o (path_of folder Cur name) k sound one (message p fits) (message-name v name part unique)
-          (fits.stage.unique ∙ sym unique) fits.in_folder at u
+-- ---- which names a call may change
 
-      done : (p : Purpose) (fits : ErrandFits s asked (acting p)) (k : ℕ) → file_at s o ≡ Some k → (u : List ℕ) →
-          holds (state_by (ask_of (made p) clock) s reply.Ok) u ≡ holds s u
-      done (Seen given) fits k at u = marked (Seen given) fits k at u
-      done (Flag add remove) fits k at u = marked (Flag add remove) fits k at u
-      done (Move to) fits k at u =
-          holds-moved s o (path_of to place row.name) k sound one (message (Move to) fits) (message (Move to) fits) refl fits.to_folder at u
-      done (Copy to fresh) fits k at u = let no : keeps_few asked ≡ false = ap keeps_few fits.of in cc
-      done Expunge fits k at u = let no : keeps_few asked ≡ false = ap keeps_few fits.of in cc
+itself : (u : List ℕ) → bytes_eq u u ≡ true
+itself u = (bytes_eq-Decides u u).1 refl
 
-      act-holds : (p : Purpose) → ErrandFits s asked (acting p) → Holds (made p)
-      act-holds p fits reply.Ok replied u = let at = there p fits replied in done p fits at.0 at.1 u
-      act-holds p fits r replied u = refl
+either : (a b : Bool) → (a || b) ≡ true → (a ≡ true) ⊎ (b ≡ true)
+either true b is = inl refl
+either false b is = inr is
 
-    stage-holds : (number folder : ℕ) (v : List ℕ) (p : Purpose) (stage : Stage) → ErrandFits s asked (on folder v p stage) →
-        Holds (stage_turn number (on folder v p stage) stage).asked
-    stage-holds number folder v p (Look place tries) fits reply.Ok replied u = refl
-    stage-holds number folder v p (Look place tries) fits r replied u = refl
-    stage-holds number folder v p (Act place row tries) fits r replied u = act-holds folder v place row tries p fits r replied u
-    -- ---- names in tmp
+made-changes : (s : State) (asked : Call) (u : List ℕ) → MakesMessage asked u → may_change s asked u ≡ true
+made-changes s asked u is = ap (λ b. b || may_take s asked u) (makes-true asked u is)
 
 -- a file in tmp uses its name up
-tmp-holds : (s : State) (folder : ℕ) (u : List ℕ) → is_some (file_at s (path_of folder Tmp u)) ≡ true → holds s u ≡ true
+pub tmp-holds : (s : State) (folder : ℕ) (u : List ℕ) → is_some (file_at s (path_of folder Tmp u)) ≡ true → holds s u ≡ true
 tmp-holds s folder u = by (file_at s (path_of folder Tmp u)) refl
   where
     by : (o : Option ℕ) → file_at s (path_of folder Tmp u) ≡ o → is_some o ≡ true → holds s u ≡ true
     by None there is = cc
     by (Some n) there is =
         has-any (λ e. uses u e.0) (entries s.names) (path_of folder Tmp u, n)
-        (get-has path_total path_exact s.names (path_of folder Tmp u) n there) ((bytes_eq-Decides u u).1 refl)
+        (get-has path_total path_exact s.names (path_of folder Tmp u) n there) (itself u)
 
-pub may-holds : (s : State) (asked : Call) (u : List ℕ) → may_take s asked u ≡ true → holds s u ≡ true
-may-holds s (call.Clean folder) u may = tmp-holds s folder u may
-may-holds s other u may = cc
+-- a name that a call may take away is used up
+pub take-holds : (s : State) (asked : Call) (u : List ℕ) → may_take s asked u ≡ true → holds s u ≡ true
+take-holds s (call.Expunge folder v tries) u may = (and_parts (bytes_eq v u) (holds s u) may).1
+take-holds s (call.Clean folder) u may = tmp-holds s folder u may
+take-holds s other u may = cc
 
-bare-makes : (asked : Call) (u : List ℕ) → keeps_few asked ≡ true → MakesMessage asked u → ⊥
-bare-makes (call.Deliver folder v body chunk) u none makes = cc
-bare-makes (call.Copy folder v to fresh tries) u none makes = cc
-bare-makes other u none makes = makes
+-- ---- a turn of a delivery
 
--- a turn of a job for whose call not all names need be gathered makes no name in tmp
-module _ (s : State) (asked : Call) (none : keeps_few asked ≡ true) (sound : IsSound s) (number : ℕ) (task : Task) (at : Moment)
-    (fits : TaskFits s asked task) (r : DirReply) where
-  abbrev asks : Asked
-  asks = (turn_of number task at).asked
+module _ (s : State) (asked : Call) (clock : ℕ) (number : ℕ) (d : Delivery) (at : Moment) (fits : DeliveryFits s asked d) where
+  delivery-on : IsOn d.tmp.name (asked_at number d at d.stage)
+  delivery-on =
+      let key = tmp-key d.tmp fits.in_tmp in
+      by-delivery number d at (λ stage turn. IsOn d.tmp.name turn.asked)
+      key (λ start k more. tt) (λ start k all. fits.name.plain) (λ start k. key) key (λ x. key) d.stage
 
-  abbrev later : State
-  later = state_by (ask_of asks at.clock) s r
+  delivery-changes : (r : DirReply) (u : List ℕ) → Changes s asked (state_by (ask_of (asked_at number d at d.stage) clock) s r) u
+  delivery-changes = on-changes s asked clock d.tmp.name (made-changes s asked d.tmp.name (makes-delivery s asked d fits))
+      (asked_at number d at d.stage) delivery-on
 
-  pub may-still : (c : Call) (u : List ℕ) → may_take later c u ≡ true → may_take s c u ≡ true
-  may-still (call.Clean folder) u may = elim
-      (touches s (path_of folder Tmp u) refl sound at.clock asks r (asks-fair s asked number task at fits)) [
-        | inl keeps ↦ ap is_some (sym keeps.names) ∙ may
-        | inr changes ↦ elim changes [
-          | inl makes ↦ absurd (bare-makes asked u none (creates s asked number at (path_of folder Tmp u) refl task fits makes.call).0)
-          | inr takes ↦ let gone : is_some (file_at later (path_of folder Tmp u)) ≡ false = ap is_some takes.gone in cc
-        ]
-      ]
-  may-still other u may = cc
+-- ---- a turn of an errand
 
--- ---- any turn of a job for whose call not all names need be gathered
+module _ (s : State) (asked : Call) (sound : IsSound s) (one : HasOnePath s) (clock : ℕ) (faulted : Bool) where
+  abbrev TurnChanges : Asked → Type 0
+  TurnChanges made = (r : DirReply) → r ≡ reply_of (ask_of made clock) s faulted → (u : List ℕ) →
+      Changes s asked (state_by (ask_of made clock) s r) u
 
-module _ (s : State) (asked : Call) (none : keeps_few asked ≡ true) (sound : IsSound s) (one : HasOnePath s) (clock : ℕ) (faulted : Bool)
-    (names : List (List ℕ)) (taken : (u : List ℕ) → may_take s asked u ≡ true → is_among u names ≡ true) where
-  -- what it leaves uses up the same names, but for those that it may take away
-  abbrev HoldsWith : Asked → Type 0
-  HoldsWith made = (r : DirReply) → r ≡ reply_of (ask_of made clock) s faulted → (u : List ℕ) →
-      (is_among u names || holds (state_by (ask_of made clock) s r) u) ≡ (is_among u names || holds s u)
+  module _ (folder : ℕ) (v : List ℕ) (place : Place) (row : Row) (tries : ℕ) where
+    abbrev acting : Purpose → ErrandOf
+    acting p = on folder v p (Act place row tries)
+
+    abbrev made : Purpose → Asked
+    made p = asked_of (deed_by p folder v place row.name (info_in row.name))
+
+    abbrev o : Path
+    o = path_of folder place row.name
+
+    module _ (p : Purpose) (fits : ErrandFits s asked (acting p)) where
+      message : is_message o ≡ true
+      message = and_from _ _ (ap not (not-tmp p place fits.stage.at)) fits.stage.named
+
+      there : reply.Ok ≡ reply_of (ask_of (made p) clock) s faulted → (k : ℕ) × (file_at s o ≡ Some k)
+      there = deed-there s clock faulted o (deed_by p folder v place row.name (info_in row.name))
+          (deed-fits s asked folder v place row tries p fits)
+
+    -- a mark gives its message another name of the unique part
+    marked : (p : Purpose) (fits : ErrandFits s asked (acting p)) (k : ℕ) → file_at s o ≡ Some k → (u : List ℕ) →
+        holds (after_rename o (path_of folder Cur (flagged v (wanted p (shown (info_in row.name))))) s) u ≡ holds s u
+    marked p fits k at u =
+        let name : List ℕ = flagged v (wanted p (shown (info_in row.name))) in
+        let part = unique-part v fits.valid in
+        let unique : unique_of name ≡ v = unique_of-flagged v (wanted p (shown (info_in row.name))) part.colonless in
+        holds-moved s o (path_of folder Cur name) k sound one (message p fits) (message-name v name part unique)
+        (fits.stage.unique ∙ sym unique) fits.in_folder at u
+
+    -- a copy makes its fresh name
+    copied : (to : ℕ) (fresh : List ℕ) (fits : ErrandFits s asked (acting (Copy to fresh))) (u : List ℕ) →
+        Changes s asked (state_by (ask_of (made (Copy to fresh)) clock) s reply.Ok) u
+    copied to fresh fits =
+        let n : Path = path_of to place (name_copied fresh (info_in row.name)) in
+        let named = copy-named s asked folder v to fresh place row tries fits in
+        let not_tmp = new_or_cur s asked folder v to fresh place row tries fits in
+        let key : name_used n ≡ fresh = message-key n (and_from _ _ (ap not not_tmp) named.message) ∙ named.unique in
+        on-changes s asked clock fresh (made-changes s asked fresh (makes-copy s asked folder v to fresh place row tries fits))
+        (made (Copy to fresh)) key reply.Ok
+
+    -- an expunge takes the name of its message away
+    expunged : (fits : ErrandFits s asked (acting Expunge)) (k : ℕ) → file_at s o ≡ Some k → (u : List ℕ) →
+        Changes s asked (state_by (ask_of (made Expunge) clock) s reply.Ok) u
+    expunged fits k at =
+        let m = message Expunge fits in
+        let held : holds s v ≡ true = message-holds s o k v at m fits.stage.unique in
+        let may : may_change s asked v ≡ true =
+        ap (λ (c : Call). may_change s c v) fits.of ∙ and_from (bytes_eq v v) (holds s v) (itself v) held in
+        on-changes s asked clock v may (made Expunge) (message-key o m ∙ fits.stage.unique) reply.Ok
+
+    done : (p : Purpose) (fits : ErrandFits s asked (acting p)) (k : ℕ) → file_at s o ≡ Some k → (u : List ℕ) →
+        Changes s asked (state_by (ask_of (made p) clock) s reply.Ok) u
+    done (Seen given) fits k at u = inl (marked (Seen given) fits k at u)
+    done (Flag add remove) fits k at u = inl (marked (Flag add remove) fits k at u)
+    done (Move to) fits k at u =
+        inl (holds-moved s o (path_of to place row.name) k sound one (message (Move to) fits) (message (Move to) fits) refl fits.to_folder at u)
+    done (Copy to fresh) fits k at u = copied to fresh fits u
+    done Expunge fits k at u = expunged fits k at u
+
+    act-changes : (p : Purpose) → ErrandFits s asked (acting p) → TurnChanges (made p)
+    act-changes p fits reply.Ok replied u = let at = there p fits replied in done p fits at.0 at.1 u
+    act-changes p fits r replied u = inl refl
+
+  stage-changes : (number folder : ℕ) (v : List ℕ) (p : Purpose) (stage : Stage) → ErrandFits s asked (on folder v p stage) →
+      TurnChanges (stage_turn number (on folder v p stage) stage).asked
+  stage-changes number folder v p (Look place tries) fits reply.Ok replied u = inl refl
+  stage-changes number folder v p (Look place tries) fits r replied u = inl refl
+  stage-changes number folder v p (Act place row tries) fits r replied u = act-changes folder v place row tries p fits r replied u
+
+  -- ---- a turn of a clean
 
   -- a name of tmp that is taken away
-  module _ (folder : ℕ) (name : List ℕ) (of : asked ≡ call.Clean folder) where
-    abbrev p : Path
-    p = path_of folder Tmp name
+  removed : (folder : ℕ) (name : List ℕ) → asked ≡ call.Clean folder → TurnChanges (unlink (path_of folder Tmp name))
+  removed folder name of reply.Ok replied =
+      let p : Path = path_of folder Tmp name in
+      let there = deed-there s clock faulted p (deed.Unlink p) refl replied in
+      let may : may_change s asked name ≡ true = ap (λ (c : Call). may_change s c name) of ∙ ap is_some there.1 in
+      on-changes s asked clock name may (unlink p) refl reply.Ok
+  removed folder name of r replied = λ u. inl refl
 
-    unlink-holds : HoldsWith (unlink p)
-    unlink-holds reply.Ok replied u = by_name u name
-        (λ same.
-        let there = deed-there s clock faulted p (deed.Unlink p) refl replied in
-        let some : may_take s asked u ≡ true =
-        ap (λ (x : Call). may_take s x u) of ∙ ap (λ n. is_some (file_at s (path_of folder Tmp n))) same ∙ ap is_some there.1 in
-        ap (λ b. b || holds (after_unlink p s) u) (taken u some) ∙ sym (ap (λ b. b || holds s u) (taken u some)))
-        (λ differ. ap (λ b. is_among u names || b) (holds-beside s (after_unlink p s) name (unlink-frame s p refl sound) u differ))
-    unlink-holds r replied u = refl
+  clean-changes : (c : Cleaning) (own : ℕ) (stage : cleaning.Stage) → asked ≡ call.Clean c.folder →
+      TurnChanges (cleaned_by.stage_turn c own stage).asked
+  clean-changes c own cleaning.Look of reply.Ok replied u = inl refl
+  clean-changes c own cleaning.Look of r replied u = inl refl
+  clean-changes c own (cleaning.Remove name rest files) of r replied u = removed c.folder name of r replied u
 
-  clean-holds : (c : Cleaning) (own : ℕ) (stage : cleaning.Stage) → asked ≡ call.Clean c.folder →
-      HoldsWith (cleaned_by.stage_turn c own stage).asked
-  clean-holds c own cleaning.Look of reply.Ok replied u = refl
-  clean-holds c own cleaning.Look of r replied u = refl
-  clean-holds c own (cleaning.Remove name rest files) of r replied u = unlink-holds c.folder name of r replied u
+  -- ---- any turn
 
-  pub turn-holds : (number : ℕ) (task : Task) (at : Moment) → TaskFits s asked task → HoldsWith (turn_of number task at).asked
-  turn-holds number (Deliver d) at fits r replied u = let no : keeps_few asked ≡ false = ap keeps_few fits.of in cc
-  turn-holds number (Errand e) at fits r replied u =
-      ap (λ b. is_among u names || b)
-      (stage-holds s asked none sound one clock faulted number e.folder e.unique e.purpose e.stage fits r replied u)
-  turn-holds number (Clean c) at fits r replied u = clean-holds c at.own c.stage fits r replied u
+  pub turn-changes : (number : ℕ) (task : Task) (at : Moment) → TaskFits s asked task → TurnChanges (turn_of number task at).asked
+  turn-changes number (Deliver d) at fits r replied u = delivery-changes s asked clock number d at fits r u
+  turn-changes number (Errand e) at fits r replied u = stage-changes number e.folder e.unique e.purpose e.stage fits r replied u
+  turn-changes number (Clean c) at fits r replied u = clean-changes c at.own c.stage fits r replied u
+
+-- ---- what a world keeps of names, after a turn
+
+module _ (s later : State) (asked : Call) (changes : (u : List ℕ) → Changes s asked later u) where
+  -- the same names are used up, where those that the call may change are among those since
+  pub same-used : (since : List (List ℕ)) (u : List ℕ) → (may_change s asked u ≡ true → is_among u since ≡ true) →
+      (is_among u since || holds later u) ≡ (is_among u since || holds s u)
+  same-used since u marked = elim (changes u) [
+    | inl same ↦ ap (λ b. is_among u since || b) same
+    | inr may ↦ let kept = marked may in ap (λ b. b || holds later u) kept ∙ sym (ap (λ b. b || holds s u) kept)
+  ]
+
+  -- gathered names have all that are used up then
+  pub still-covers : (were : Option (List (List ℕ))) → HasMade asked were → Covers s were → Covers later were
+  still-covers None made covers = tt
+  still-covers (Some names) made covers = λ u is. elim (changes u) [
+    | inl same ↦ covers u (sym same ∙ is)
+    | inr may ↦ elim (either (makes u asked) (may_take s asked u) may) [
+      | inl makes ↦ made u makes
+      | inr takes ↦ covers u (take-holds s asked u takes)
+    ]
+  ]
+
+-- a name that another call may change then, it could before, or the call of the turn could
+module _ (s : State) (asked : Call) (sound : IsSound s) (number : ℕ) (task : Task) (at : Moment) (fits : TaskFits s asked task) (r : DirReply)
+  where
+    abbrev asks : Asked
+    asks = (turn_of number task at).asked
+
+    abbrev later : State
+    later = state_by (ask_of asks at.clock) s r
+
+    pub may-still : ((u : List ℕ) → Changes s asked later u) → (c : Call) (u : List ℕ) → may_change later c u ≡ true →
+        (may_change s c u ≡ true) ⊎ (may_change s asked u ≡ true)
+    may-still changes (call.Clean folder) u may = elim
+        (touches s (path_of folder Tmp u) refl sound at.clock asks r (asks-fair s asked number task at fits)) [
+          | inl keeps ↦ inl (ap is_some (sym keeps.names) ∙ may)
+          | inr changed ↦ elim changed [
+            | inl makes ↦ inr (made-changes s asked u (creates s asked number at (path_of folder Tmp u) refl task fits makes.call).0)
+            | inr takes ↦ let gone : is_some (file_at later (path_of folder Tmp u)) ≡ false = ap is_some takes.gone in cc
+          ]
+        ]
+    may-still changes (call.Expunge folder v tries) u may = elim (changes u) [
+      | inl same ↦ inl (ap (λ b. bytes_eq v u && b) (sym same) ∙ may)
+      | inr mine ↦ inr mine
+    ]
+    may-still changes other u may = inl may
 
 -- ---- the rows of tmp
 

@@ -1,16 +1,15 @@
 -- A world after one turn of a job keeps what a world keeps, of the run with one more event.
-use Rattle.std.proofs.Common.{ℕ, zero, suc, ◌≡◌, ◌<◌, ◌+◌, ◌-◌, ◌++◌, ◌||◌, ◌∙◌, List, [], ◌∷◌, Option, Some, None, Bool, true, false, cond, is_some, refl, sym, ap, subst, length, slice_get, slice_set, arith, map, length-append}
+use Rattle.std.proofs.Common.{ℕ, zero, suc, ◌≡◌, ◌<◌, ◌+◌, ◌-◌, ◌++◌, ◌||◌, ◌∙◌, inl, inr, List, [], ◌∷◌, Option, Some, None, Bool, true, false, cond, is_some, refl, sym, ap, subst, length, slice_get, slice_set, arith, map, length-append}
 use Rattle.std.specs.Prelude.{count_by}
 use Rattle.std.proofs.lemmas.List.Sums.{sum_by_push}
 use Rattle.md_jobs.specs.declared.error.CoreError.TheVariants.{Answered}
-use Rattle.md_core.proofs.Values.{State, Answer, DirReply, Event, Moment, StepOut, Task, Effect, Turn, After, rows_for, is_fault, Machine, Standing, working, answered, is_working, Occurrence, moment_of, standing_of, after_event, after_turn, turn_of, job_at, step_of, step_out, Run, machine_of, jobs_of, failures_of, and_event, step_refusal, answer_of, is_among, option_to_list, option_map, Device, JobView, TakesTurn, standings, holds, may_take, Used, IsWorld, AreLeaving, AreUsed, run_of, machine_by, occurrences}
-use Rattle.md_core.specs.declared.used.Used.TheVariants.{Leaving, All}
+use Rattle.md_core.proofs.Values.{State, Answer, Call, DirReply, Event, Moment, StepOut, Task, Effect, Turn, After, rows_for, is_fault, Machine, Standing, working, answered, is_working, Occurrence, moment_of, standing_of, after_event, after_turn, turn_of, job_at, step_of, step_out, Run, machine_of, dirs_of, jobs_of, failures_of, and_event, step_refusal, answer_of, is_among, option_to_list, option_map, Device, JobView, TakesTurn, standings, ask_of, state_by, Covers, holds, may_change, Used, IsWorld, AreUsed, run_of, machine_by, occurrences}
 use Rattle.md_core.proofs.Induction.Good.{IsGood, TaskFits}
 use Rattle.md_core.proofs.Runs.Events.{goes_on-exact, happens-turned, done-turned, job_at-place}
 use Rattle.md_core.proofs.Runs.ByEvent.{machine-and_event}
 use Rattle.md_core.proofs.Runs.Extended.{is_run-and_event}
-use Rattle.md_core.proofs.Worlds.Before.{good-kept}
-use Rattle.md_core.proofs.Worlds.Holding.{may-still, turn-holds}
+use Rattle.md_core.proofs.Worlds.Before.{covered, good-kept}
+use Rattle.md_core.proofs.Worlds.Holding.{Changes, may-still, same-used, still-covers, turn-changes}
 
 pub marked-push : (es : List Event) (bs : List Bool) (e : Event) (b : Bool) → length bs ≡ length es →
     occurrences (es ++ e ∷ []) (bs ++ b ∷ []) ≡ occurrences es bs ++ record { event = e; faulted = b } ∷ []
@@ -140,23 +139,25 @@ module _ (first : Device) (began : ℕ) (jobs : List JobView) (events : List Eve
     moved : kept' ≡ machine_of (and_event run marked_event)
     moved = sym goes-on ∙ ap (λ (m : Machine). after_event m marked_event) world.now ∙ sym (machine-and_event run marked_event)
 
-    -- while not all names need be gathered, the turn leaves the same names used up
-    still-leaving : (names : List (List ℕ)) → AreLeaving run names → AreLeaving (and_event run marked_event) names
-    still-leaving names h = record {
-      calls = h.calls;
-      taken = λ i call here u is. h.taken i call here u (
-          sym (ap (λ (m : Machine). may_take m.dirs call u) world.now)
-          ∙ may-still held.state job.call (h.calls place job.call called) good.sound event.job turned.task at fits out.reply call u (
-          sym (ap (λ (s : State). may_take s call u) turned.takes.made.state)
-          ∙ ap (λ (m : Machine). may_take m.dirs call u) moved ∙ is));
-      used = λ u. ap (λ (m : Machine). is_among u names || holds m.dirs u) (sym moved)
-          ∙ ap (λ (s : State). is_among u names || holds s u) turned.takes.made.state
-          ∙ turn-holds held.state job.call (h.calls place job.call called) good.sound good.one_path at.clock (is_fault out.reply) names
-          (λ v may. h.taken place job.call called v (sym (ap (λ (m : Machine). may_take m.dirs job.call v) world.now) ∙ may))
-          event.job turned.task at fits out.reply turned.takes.made.replied u
-          ∙ ap (λ (m : Machine). is_among u names || holds m.dirs u) world.now ∙ h.used u;
+    -- what is kept of names serves after the turn
+    still-used : AreUsed (and_event run marked_event) used
+    still-used = record {
+      changed = λ i call here u is. elim (may-still held.state job.call good.sound event.job turned.task at fits out.reply changes call u (to-later call u is)) [
+        | inl before ↦ names.changed i call here u (sym (ap (λ (m : Machine). may_change m.dirs call u) world.now) ∙ before)
+        | inr mine ↦ marked u mine
+      ];
+      same = λ u. ap (λ (s : State). is_among u used.since || holds s u) dirs-later
+          ∙ same-used held.state later job.call changes used.since u (marked u)
+          ∙ ap (λ (m : Machine). is_among u used.since || holds m.dirs u) world.now ∙ names.same u;
+      made = names.made;
+      covers = subst (λ (s : State). Covers s used.were) (sym dirs-later)
+          (still-covers held.state later job.call changes used.were (names.made place job.call called)
+          (covered first began jobs events marks held clock effects used world));
     }
       where
+        names : AreUsed run used
+        names = world.names
+
         good : IsGood run.calls kept
         good = good-kept first began jobs events marks held clock effects used world
 
@@ -166,9 +167,21 @@ module _ (first : Device) (began : ℕ) (jobs : List JobView) (events : List Eve
         fits : TaskFits held.state job.call turned.task
         fits = good.fits place job.call turned.task called (standing-at jobs place job there ∙ ap Some turned.was)
 
-    still-used : (names : Used) → AreUsed run names → AreUsed (and_event run marked_event) names
-    still-used (Leaving names) h = still-leaving names.items h
-    still-used (All names) used_up = used_up
+        later : State
+        later = state_by (ask_of turn.asked at.clock) held.state out.reply
+
+        dirs-later : dirs_of (and_event run marked_event) ≡ later
+        dirs-later = ap (λ (m : Machine). m.dirs) (sym moved) ∙ turned.takes.made.state
+
+        changes : (u : List ℕ) → Changes held.state job.call later u
+        changes = turn-changes held.state job.call good.sound good.one_path at.clock (is_fault out.reply) event.job turned.task at fits out.reply
+            turned.takes.made.replied
+
+        to-later : (call : Call) (u : List ℕ) → may_change (dirs_of (and_event run marked_event)) call u ≡ true → may_change later call u ≡ true
+        to-later call u is = sym (ap (λ (s : State). may_change s call u) dirs-later) ∙ is
+
+        marked : (u : List ℕ) → may_change held.state job.call u ≡ true → is_among u used.since ≡ true
+        marked u may = names.changed place job.call called u (sym (ap (λ (m : Machine). may_change m.dirs job.call u) world.now) ∙ may)
 
     stepped : IsWorld (and_event run marked_event) kept' held' used (events ++ event ∷ []) (marks ++ is_fault out.reply ∷ [])
     stepped = record {
@@ -176,7 +189,7 @@ module _ (first : Device) (began : ℕ) (jobs : List JobView) (events : List Eve
       now = moved;
       failed = failed (is_fault out.reply) turned.takes.made.failed world.failed ∙ ap (λ n. first.failures + n) (sym (count-push run.events marked_event));
       called = simp length-append (let one = turned.takes.made.called in let all = world.called in omega arith);
-      names = still-used used world.names;
+      names = still-used;
       as_many = simp length-append (let same = world.as_many in omega arith);
     }
 

@@ -1,12 +1,10 @@
 -- A world with one more job keeps what a world keeps, of the run with one more call. And a world at its beginning.
-use Rattle.std.proofs.Common.{ℕ, ◌≡◌, ◌≤◌, ◌++◌, ◌∙◌, List, [], ◌∷◌, None, Bool, true, false, ◌||◌, refl, sym, ap, subst, arith}
+use Rattle.std.proofs.Common.{ℕ, ◌≡◌, ◌≤◌, ◌++◌, ◌∙◌, List, [], ◌∷◌, Option, Some, None, Bool, true, false, ◌||◌, refl, sym, ap, subst, slice_get, arith}
 use Rattle.std.proofs.lemmas.List.{map-append}
-use Rattle.md_core.proofs.Values.{IsSound, Effect, Event, Call, Machine, new_job, Run, beginning, machine_of, and_call, first_clock, effects_of, is_among, list_any, Device, JobView, job_of, load_refusal, submit_refusal, makes, is_used, Used, IsWorld, AreLeaving, AreUsed, run_of, machine_by, holds, keeps_few, may_take, KeepsLeaving, KeepsMade}
-use Rattle.md_jobs.specs.declared.call.Call.TheVariants.{Deliver, Copy}
-use Rattle.md_core.specs.declared.used.Used.TheVariants.{Leaving, All}
+use Rattle.md_core.proofs.Values.{State, IsSound, Effect, Event, Call, Machine, new_job, Run, beginning, machine_of, and_call, first_clock, effects_of, is_among, list_any, Device, JobView, job_of, load_refusal, submit_refusal, makes, is_used, is_used_before, Used, IsWorld, AreUsed, run_of, machine_by, Covers, GrowsFrom, HasMade, KeepsMade, KeepsUsed, holds, may_change, may_take}
 use Rattle.md_core.proofs.Lists.Places.{at_end}
-use Rattle.md_core.proofs.Worlds.Before.{used-before}
-use Rattle.md_core.proofs.Worlds.Holding.{may-holds}
+use Rattle.md_core.proofs.Worlds.Before.{covered}
+use Rattle.md_core.proofs.Worlds.Holding.{take-holds}
 use Rattle.md_core.proofs.Runs.Events.{with_job}
 use Rattle.md_core.proofs.Runs.ByEvent.{machine-and_call, run_from-none}
 use Rattle.md_core.proofs.Runs.Extended.{is_run-and_call, is_run-begun}
@@ -23,14 +21,17 @@ any-push p (y ∷ xs) x = ap (λ b. p y || b) (any-push p xs x) ∙ by (p y) (li
     by true b c = refl
     by false b c = refl
 
-or_true : (b : Bool) → (b || true) ≡ true
+pub or_true : (b : Bool) → (b || true) ≡ true
 or_true true = refl
 or_true false = refl
 
-without : (a m h : Bool) → (m ≡ true → h ≡ true) → ((a || m) || h) ≡ (a || h)
-without true m h more = refl
-without false true h more = sym (more refl)
-without false false h more = refl
+-- names that are taken away are used up already
+absorbed : (makes takes since holds : Bool) → (takes ≡ true → holds ≡ true) →
+    (((makes || takes) || since) || holds) ≡ (makes || (since || holds))
+absorbed true takes since holds more = refl
+absorbed false true true holds more = refl
+absorbed false true false holds more = sym (more refl)
+absorbed false false since holds more = refl
 
 or_none : (b : Bool) → b ≡ (b || false)
 or_none true = refl
@@ -46,11 +47,18 @@ last_first false true false = refl
 last_first false false true = refl
 last_first false false false = refl
 
--- a call for which no name need be gathered makes none
-makes-none : (asked : Call) (u : List ℕ) → keeps_few asked ≡ true → makes u asked ≡ false
-makes-none (Deliver folder unique body chunk) u bare = cc
-makes-none (Copy folder unique to fresh tries) u bare = cc
-makes-none call u bare = refl
+-- ---- gathered names that grow
+
+pub grown-covers : (s : State) (old new : Option (List (List ℕ))) → GrowsFrom s old new → Covers s old → Covers s new
+grown-covers s None new grows covers = grows
+grown-covers s (Some names) None grows covers = absurd grows
+grown-covers s (Some names) (Some more) grows covers = λ u is. grows u (covers u is)
+
+grown-made : (s : State) (call : Call) (old new : Option (List (List ℕ))) → GrowsFrom s old new → HasMade call old → HasMade call new
+grown-made s call None None grows made = made
+grown-made s call None (Some names) grows made = λ u is. let none = made u in cc
+grown-made s call (Some names) None grows made = absurd grows
+grown-made s call (Some names) (Some more) grows made = λ u is. grows u (made u is)
 
 module _ (first : Device) (began : ℕ) (jobs : List JobView) (events : List Event) (marks : List Bool) (held : Device) (clock : ℕ) (effects : List Effect)
     (used : Used) (asked : Call) where
@@ -74,35 +82,51 @@ module _ (first : Device) (began : ℕ) (jobs : List JobView) (events : List Eve
     moved : machine_by held clock (jobs ++ job_of asked ∷ []) effects ≡ machine_of (and_call run asked)
     moved = kept-submitted ∙ ap (λ (m : Machine). with_job m (new_job asked)) world.now ∙ sym (machine-and_call run world.run asked)
 
-    -- names that may leave, with those that the call may take away
-    still-leaving : (old names : List (List ℕ)) → AreLeaving run old → keeps_few asked ≡ true →
-        ((u : List ℕ) → is_among u names ≡ (is_among u old || may_take held.state asked u)) → AreLeaving (and_call run asked) names
-    still-leaving old names h bare grown = record {
-      calls = λ i call at. at_end run.calls asked i call at (h.calls i call) (λ last is. ap keeps_few is ∙ bare);
-      taken = λ i call at u is.
-          let now : may_take held.state call u ≡ true = ap (λ (m : Machine). may_take m.dirs call u) moved ∙ is in
-          grown u ∙ at_end run.calls asked i call at
-          (λ early. ap (λ b. b || may_take held.state asked u)
-          (h.taken i call early u (sym (ap (λ (m : Machine). may_take m.dirs call u) world.now) ∙ now)))
-          (λ last same.
-          ap (λ b. is_among u old || b) (ap (λ (c : Call). may_take held.state c u) (sym same) ∙ now) ∙ or_true (is_among u old));
-      used = λ u. ap (λ (m : Machine). is_among u names || holds m.dirs u) (sym moved)
-          ∙ ap (λ b. b || holds held.state u) (grown u)
-          ∙ without (is_among u old) (may_take held.state asked u) (holds held.state u) (may-holds held.state asked u)
-          ∙ ap (λ (m : Machine). is_among u old || holds m.dirs u) world.now ∙ h.used u
-          ∙ ap (λ b. b || is_used run u) (sym (makes-none asked u bare))
-          ∙ used-submitted u;
-    }
+    -- what the calls so far may change, now
+    changed-now : (i : ℕ) (call : Call) → slice_get run.calls i ≡ Some call → (u : List ℕ) → may_change held.state call u ≡ true →
+        is_among u used.since ≡ true
+    changed-now i call at u is = world.names.changed i call at u (sym (ap (λ (m : Machine). may_change m.dirs call u) world.now) ∙ is)
+
+    used-now : (u : List ℕ) → is_used_before held.state used u ≡ is_used run u
+    used-now u = ap (λ (m : Machine). is_used_before m.dirs used u) world.now ∙ world.names.same u
+
+    covers-now : Covers held.state used.were
+    covers-now = covered first began jobs events marks held clock effects used world
 
     still-used : (kept : Used) → KeepsMade held.state asked used kept → AreUsed (and_call run asked) kept
-    still-used (Leaving names) made = by used world.names made
-      where
-        by : (before : Used) → AreUsed run before → KeepsLeaving held.state asked before names.items →
-            AreLeaving (and_call run asked) names.items
-        by (Leaving old) h kept = still-leaving old.items names.items h kept.0 kept.1
-        by (All old) h kept = absurd kept
-    still-used (All names) made = λ u.
-        made u ∙ ap (λ b. makes u asked || b) (used-before first began jobs events marks held clock effects used world u) ∙ used-submitted u
+    still-used kept made = record {
+      changed = λ i call at u is.
+          let now : may_change held.state call u ≡ true = ap (λ (m : Machine). may_change m.dirs call u) moved ∙ is in
+          made.since u ∙ at_end run.calls asked i call at
+          (λ early. ap (λ b. may_change held.state asked u || b) (changed-now i call early u now) ∙ or_true (may_change held.state asked u))
+          (λ last same. ap (λ b. b || is_among u used.since) (ap (λ (c : Call). may_change held.state c u) (sym same) ∙ now));
+      same = λ u. ap (λ (m : Machine). is_used_before m.dirs kept u) (sym moved)
+          ∙ ap (λ b. b || holds held.state u) (made.since u)
+          ∙ absorbed (makes u asked) (may_take held.state asked u) (is_among u used.since) (holds held.state u) (take-holds held.state asked u)
+          ∙ ap (λ b. makes u asked || b) (used-now u)
+          ∙ used-submitted u;
+      made = λ i call at. at_end run.calls asked i call at
+          (λ early. grown-made held.state call used.were kept.were made.were (world.names.made i call early))
+          (λ last same. subst (λ (c : Call). HasMade c kept.were) (sym same) made.made);
+      covers = subst (λ (m : Machine). Covers m.dirs kept.were) moved (grown-covers held.state used.were kept.were made.were covers-now);
+    }
+
+    -- where the submit is refused the world is as it was
+    pub refused-kept : (kept : Used) → KeepsUsed held.state used kept →
+        IsWorld run (machine_by held clock jobs effects) held kept events marks
+    refused-kept kept same = record {
+      run = world.run;
+      now = world.now;
+      failed = world.failed;
+      called = world.called;
+      names = record {
+        changed = λ i call at u is. same.since.kept u (world.names.changed i call at u is);
+        same = λ u. ap (λ (m : Machine). is_used_before m.dirs kept u) (sym world.now) ∙ same.since.same u ∙ used-now u;
+        made = λ i call at. grown-made held.state call used.were kept.were same.were (world.names.made i call at);
+        covers = subst (λ (m : Machine). Covers m.dirs kept.were) world.now (grown-covers held.state used.were kept.were same.were covers-now);
+      };
+      as_many = world.as_many;
+    }
 
     -- the names that are kept from then on
     pub submit-kept : submit_refusal run asked ≡ None → (kept : Used) → KeepsMade held.state asked used kept →
@@ -123,36 +147,28 @@ module _ (first : Device) (began : ℕ) (jobs : List JobView) (events : List Eve
     pub effects-submitted : effects_of (and_call run asked) ≡ effects_of run
     effects-submitted = ap (λ (m : Machine). m.effects) (machine-and_call run world.run asked)
 
--- no name is kept
-abbrev pub IsBare : Used → Type 0
-IsBare (Leaving names) = names.items ≡ []
-IsBare (All names) = ⊥
+-- no name is kept of a run, and those that were gathered have all that the directories use
+pub record IsBare (s : State) (used : Used) : Type 0 where
+  pub since : used.since ≡ []
+  pub covers : Covers s used.were
 
 -- A world at its beginning, over directories that may be loaded, by a clock that none of their stamps is past.
-module _ (first : Device) (sound : IsSound first.state) (loaded : load_refusal first.state ≡ None) (clock : ℕ)
-    (stamped : first_clock first.state ≤ clock) where
-  begun-by : (used : Used) → AreUsed (run_of first clock [] [] []) used →
-      IsWorld (run_of first clock [] [] []) (machine_by first clock [] []) first used [] []
-  begun-by used names = record {
-    run = is_run-begun first.state clock first.failures first.calls sound loaded stamped;
-    now = sym (run_from-none (beginning first.state clock []));
-    failed = omega arith;
-    called = omega arith;
-    names = names;
-    as_many = refl;
-  }
-
-  -- with no names kept
-  pub begun-bare : (kept : Used) → IsBare kept → IsWorld (run_of first clock [] [] []) (machine_by first clock [] []) first kept [] []
-  begun-bare (Leaving names) bare = begun-by (Leaving names) (record {
-    calls = λ i call at. cc;
-    taken = λ i call at. cc;
-    used = λ u. ap (λ ns. is_among u ns || holds (machine_of (run_of first clock [] [] [])).dirs u) bare
-        ∙ ap (λ (m : Machine). holds m.dirs u) (run_from-none (beginning first.state clock [])) ∙ or_none (holds first.state u);
-  })
-  begun-bare (All names) bare = absurd bare
-
-  -- with the names of the directories
-  pub begun-world : (used : List (List ℕ)) → ((u : List ℕ) → is_among u used ≡ holds first.state u) →
-      IsWorld (run_of first clock [] [] []) (machine_by first clock [] []) first (All used) [] []
-  begun-world used names = begun-by (All used) (λ u. names u ∙ or_none (holds first.state u))
+pub begun-world : (first : Device) → IsSound first.state → load_refusal first.state ≡ None → (clock : ℕ) → first_clock first.state ≤ clock →
+    (used : Used) → IsBare first.state used → IsWorld (run_of first clock [] [] []) (machine_by first clock [] []) first used [] []
+begun-world first sound loaded clock stamped used bare = record {
+  run = is_run-begun first.state clock first.failures first.calls sound loaded stamped;
+  now = sym now;
+  failed = omega arith;
+  called = omega arith;
+  names = record {
+    changed = λ i call at. cc;
+    same = λ u. ap (λ (m : Machine). is_used_before m.dirs used u) now ∙ ap (λ ns. is_among u ns || holds first.state u) bare.since
+        ∙ or_none (holds first.state u);
+    made = λ i call at. cc;
+    covers = subst (λ (m : Machine). Covers m.dirs used.were) (sym now) bare.covers;
+  };
+  as_many = refl;
+}
+  where
+    now : machine_of (run_of first clock [] [] []) ≡ beginning first.state clock []
+    now = run_from-none (beginning first.state clock [])

@@ -3,9 +3,8 @@ ghost use Rattle.std.specs.Prelude.{◌≡◌, true, false, None, Some, MatchRes
 ghost use Rattle.md_jobs.specs.declared.call.Call.TheVariants.{Deliver, Move, Copy, Clean};
 ghost use Rattle.md_core.specs.Submitting.{submit_refusal, no_folder, too_many, is_used as is_used_by, bad_tries, first_met, checks_of_look_up};
 
-use crate::used::{Used, is_among_keys};
 use crate::world::World;
-use crate::world::reading::is_held;
+use crate::world::reading::holds_name;
 use md_dirs::Dirs;
 use md_jobs::{Call, CoreError};
 use md_name::is_unique_name;
@@ -167,10 +166,6 @@ impl<D: Dirs> World<D> {
     fn is_used(&self, name: &[u8]) -> bool
         ensures { result ≡ is_used_by self.now name.now }
     {
-        match &self.used {
-            Used::Leaving(names) => is_held(&self.dirs, name)
-                || is_among_keys(names.as_slice(), name),
-            Used::All(used) => used.contains(name),
-        }
+        self.used.since.contains(name) || holds_name(&self.dirs, &self.used, name)
     }
 }

@@ -35,6 +35,7 @@ impl<D: Dirs> World<D> {
         ensures err { IfErr result (λ r. r.dirs ≡ dirs) }
     {
         let _sound = dirs.folders();
+        let seed = dirs.hash_seed();
         if let Some(clock) = quick_look(alloc, &dirs) {
             return Ok(World {
                 alloc,
@@ -43,7 +44,7 @@ impl<D: Dirs> World<D> {
                 began: clock,
                 clock,
                 jobs: Vec::new(alloc),
-                used: Used::Leaving(Vec::new(alloc)),
+                used: Used::beginning(alloc, seed, None),
                 log: Log::new(alloc),
             });
         }
@@ -55,7 +56,7 @@ impl<D: Dirs> World<D> {
                 began: looked.clock,
                 clock: looked.clock,
                 jobs: Vec::new(alloc),
-                used: Used::All(looked.used),
+                used: Used::beginning(alloc, seed, Some(looked.used)),
                 log: Log::new(alloc),
             }),
             Err(error) => Err(LoadRefused { error, dirs }),

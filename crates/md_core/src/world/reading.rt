@@ -5,10 +5,12 @@ ghost use Rattle.std.specs.Option.{option_map};
 ghost use Rattle.std.specs.FinMap as finmap;
 ghost use Rattle.md_dirs.specs.State.{IsSound};
 ghost use Rattle.md_core.specs.Alone.{entry_if, is_in_place};
+ghost use Rattle.md_core.specs.Gathering.{Covers, holds};
 ghost use Rattle.md_core.specs.Looking.{is_of, is_tmp_of};
 ghost use Rattle.md_core.specs.Mailbox.{Entry, mailbox_of, is_tmp, HasOnePath};
 ghost use Rattle.md_core.specs.Submitting.{uses};
 
+use crate::used::Used;
 use md_dirs::{Dirs, Place};
 use md_name::split;
 
@@ -75,4 +77,13 @@ pub(crate) fn is_held<D: Dirs>(dirs: &D, name: &[u8]) -> bool
     ensures { result ≡ list_any (λ e. uses name.now e.0) (finmap.entries (D.device dirs.now).state.names) }
 {
     message_bytes(dirs, name).is_some() || is_in_tmp(dirs, name)
+}
+
+/// Whether directories use a name up. They are looked at only where they may.
+pub(crate) fn holds_name<D: Dirs>(dirs: &D, used: &Used, name: &[u8]) -> bool
+    requires one { HasOnePath (D.device dirs.now).state }
+    requires covers { Covers (D.device dirs.now).state used.now.were }
+    ensures { result ≡ holds (D.device dirs.now).state name.now }
+{
+    used.may_be_held(name) && is_held(dirs, name)
 }

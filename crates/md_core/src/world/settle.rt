@@ -9,6 +9,7 @@ use crate::jobs::job::Job;
 use crate::used::Used;
 use crate::world::World;
 use crate::world::log::Log;
+use crate::world::looking::names::kept_at_settle;
 use md_dirs::Dirs;
 use md_jobs::{JobId, Snapshot};
 use thiserror::Error;
@@ -63,8 +64,11 @@ impl<D: Dirs> World<D> {
             alloc,
             dirs,
             clock,
+            used,
             ..
         } = self;
+        let were = kept_at_settle(&dirs, used.were, used.since.len());
+        let used = Used::beginning(alloc, dirs.hash_seed(), were);
         Ok(World {
             alloc,
             image: Snapshot::of(&dirs),
@@ -72,7 +76,7 @@ impl<D: Dirs> World<D> {
             began: clock,
             clock,
             jobs: Vec::new(alloc),
-            used: Used::Leaving(Vec::new(alloc)),
+            used,
             log: Log::new(alloc),
         })
     }

@@ -1,8 +1,10 @@
 //! New jobs.
-ghost use Rattle.std.specs.Prelude.{◌≡◌, ◌+◌, ◌||◌, None, length, vec_len, vec_capacity, MatchResult, IfOk, IfErr, OnOk, OnErr, ◌<◌};
+ghost use Rattle.std.specs.Prelude.{◌≡◌, ◌+◌, ◌&&◌, ◌||◌, None, length, vec_len, vec_capacity, MatchResult, IfOk, IfErr, OnOk, OnErr, ◌<◌};
 ghost use Rattle.md_core.specs.Runs.{and_call, effects_of, IsRefusal};
-ghost use Rattle.md_core.specs.Submitting.{submit_refusal, makes};
-ghost use Rattle.md_core.specs.Gathering.{KeepsMade, IsSame};
+ghost use Rattle.std.specs.Str.{bytes_eq};
+ghost use Rattle.md_core.specs.Mailbox.{HasOnePath};
+ghost use Rattle.md_core.specs.Submitting.{submit_refusal};
+ghost use Rattle.md_core.specs.Gathering.{Covers, GrowsFrom, HasName, KeepsMade, KeepsUsed, holds};
 ghost use Rattle.md_core.specs.Used.{is_among};
 ghost use Rattle.md_core.specs.Interleaving.{Interleaves};
 ghost use Rattle.md_core.specs.Tracing.{trace_of};
@@ -11,7 +13,8 @@ use crate::jobs::job::Job;
 use crate::used::{Used, UsedNames};
 use crate::world::World;
 use crate::world::log::make_room;
-use crate::world::looking::names::{is_for_few, names_with, push_tmp};
+use crate::world::looking::names::{names_in, use_tmp};
+use crate::world::reading::holds_name;
 use md_dirs::Dirs;
 use md_jobs::{Call, CoreError, JobId};
 use std::alloc::{AllocError, Global};
@@ -23,50 +26,79 @@ pub struct SubmitRefused {
     pub call: Call,
 }
 
-// Uses the name that a call makes.
-fn use_name(used: &mut UsedNames, call: &Call) -> Result<(), AllocError>
-    ensures ok { OnOk result ((u : _) → is_among u used.new ≡ (makes u call.now || is_among u used.old)) }
-    ensures err { OnErr result (used.new ≡ used.old) }
+// Adds a name to those that were gathered. All names of the directories are gathered at the first call that makes one.
+fn gather_with<D: Dirs>(
+    alloc: Global,
+    dirs: &D,
+    were: &mut Option<UsedNames>,
+    name: &[u8],
+) -> Result<(), AllocError>
+    ensures grows { GrowsFrom (D.device dirs.now).state were.old were.new }
+    ensures ok { OnOk result (HasName name.now were.new) }
 {
-    match call {
-        Call::Deliver { unique, .. } => used.insert(unique.as_slice())?,
-        Call::Copy { fresh, .. } => used.insert(fresh.as_slice())?,
-        _ => {}
+    if let Some(names) = were {
+        return names.insert(name);
+    }
+    let mut names = names_in(alloc, dirs)?;
+    names.insert(name)?;
+    *were = Some(names);
+    Ok(())
+}
+
+// Uses the name that a call makes.
+fn make_name<D: Dirs>(
+    alloc: Global,
+    dirs: &D,
+    used: &mut Used,
+    name: &[u8],
+) -> Result<(), AllocError>
+    ensures grows { GrowsFrom (D.device dirs.now).state used.old.were used.new.were }
+    ensures has { OnOk result (HasName name.now used.new.were) }
+    ensures ok { OnOk result ((u : _) → is_among u used.new.since ≡ (bytes_eq name.now u || is_among u used.old.since)) }
+    ensures err { OnErr result (used.new.since ≡ used.old.since) }
+{
+    gather_with(alloc, dirs, &mut used.were, name)?;
+    used.since.insert(name)?;
+    Ok(())
+}
+
+// Uses the name of a message that an expunge may take away, if the directories use it.
+fn take_name<D: Dirs>(dirs: &D, used: &mut Used, name: &[u8]) -> Result<(), AllocError>
+    requires one { HasOnePath (D.device dirs.now).state }
+    requires covers { Covers (D.device dirs.now).state used.old.were }
+    ensures were { used.new.were ≡ used.old.were }
+    ensures ok { OnOk result ((u : _) → is_among u used.new.since
+        ≡ (bytes_eq name.now u && holds (D.device dirs.now).state u || is_among u used.old.since)) }
+    ensures err { OnErr result (used.new.since ≡ used.old.since) }
+{
+    if holds_name(dirs, used, name) {
+        used.since.insert(name)?;
     }
     Ok(())
 }
 
-// Uses the name that a call makes. All names are gathered at the first call that needs them: until then the directories hold all that are
-// used, but those that a clean may have taken away, and these are kept from its submit on.
+// Uses the name that a call makes, and those that it may take away: what directories use later is told by these and by a look.
 fn keep_names<D: Dirs>(
     alloc: Global,
     dirs: &D,
     used: &mut Used,
     call: &Call,
 ) -> Result<(), AllocError>
-    ensures used { OnOk result (KeepsMade (D.device dirs.now).state call.now used.old used.new) }
-    ensures same { OnErr result (IsSame used.old used.new) }
+    requires one { HasOnePath (D.device dirs.now).state }
+    requires covers { Covers (D.device dirs.now).state used.old.were }
+    ensures ok { OnOk result (KeepsMade (D.device dirs.now).state call.now used.old used.new) }
+    ensures err { OnErr result (KeepsUsed (D.device dirs.now).state used.old used.new) }
 {
-    let leaving = match used {
-        Used::All(names) => return use_name(names, call),
-        Used::Leaving(leaving) => leaving,
-    };
     match call {
-        Call::Seen { .. } | Call::Flag { .. } | Call::Move { .. } => return Ok(()),
-        Call::Clean { folder } => {
-            if is_for_few(dirs, *folder, leaving.len()) {
-                return push_tmp(alloc, dirs, *folder, leaving);
-            }
-        }
-        Call::Deliver { .. } | Call::Copy { .. } | Call::Expunge { .. } => {}
+        Call::Deliver { unique, .. } => make_name(alloc, dirs, used, unique.as_slice()),
+        Call::Copy { fresh, .. } => make_name(alloc, dirs, used, fresh.as_slice()),
+        Call::Expunge { unique, .. } => take_name(dirs, used, unique.as_slice()),
+        Call::Clean { folder } => use_tmp(alloc, dirs, *folder, &mut used.since),
+        Call::Seen { .. } | Call::Flag { .. } | Call::Move { .. } => Ok(()),
     }
-    let mut names = names_with(alloc, dirs, leaving.as_slice())?;
-    use_name(&mut names, call)?;
-    *used = Used::All(names);
-    Ok(())
 }
 
-// Makes room for the job, and uses the name that its call makes.
+// Makes room for the job, and uses the names of its call.
 fn prepare<D: Dirs>(
     alloc: Global,
     dirs: &D,
@@ -74,11 +106,13 @@ fn prepare<D: Dirs>(
     used: &mut Used,
     call: &Call,
 ) -> Result<(), CoreError>
+    requires one { HasOnePath (D.device dirs.now).state }
+    requires covers { Covers (D.device dirs.now).state used.old.were }
     ensures jobs { jobs.new.items ≡ jobs.old.items }
     ensures room { OnOk result (vec_len jobs.new < vec_capacity jobs.new) }
-    ensures used { OnOk result (KeepsMade (D.device dirs.now).state call.now used.old used.new) }
+    ensures ok { OnOk result (KeepsMade (D.device dirs.now).state call.now used.old used.new) }
     ensures memory { IfErr result (λ e. e ≡ CoreError.NoMemory) }
-    ensures same { OnErr result (IsSame used.old used.new) }
+    ensures err { OnErr result (KeepsUsed (D.device dirs.now).state used.old used.new) }
 {
     make_room(jobs)?;
     keep_names(alloc, dirs, used, call)?;
@@ -99,7 +133,6 @@ impl<D: Dirs> World<D> {
         ensures call { IfErr result (λ r. r.call ≡ call) }
         ensures theorem { OnOk result (Interleaves (trace_of self.new)) }
     {
-        self.gather_for(&call);
         if let Err(error) = self.check_call(&call) {
             return Err(SubmitRefused { error, call });
         }
@@ -115,21 +148,5 @@ impl<D: Dirs> World<D> {
         }
         self.jobs.push_reserved(Job::new(self.alloc, call));
         Ok(self.jobs.len() as u64)
-    }
-
-    // Gathers all names before a call is checked that makes one, where some may have left: else each of many such calls that are refused would
-    // look through those, as they do where memory runs out.
-    fn gather_for(&mut self, call: &Call)
-        ensures { self.new ≡ self.old }
-    {
-        let Used::Leaving(leaving) = &self.used else {
-            return;
-        };
-        if leaving.is_empty() || !matches!(call, Call::Deliver { .. } | Call::Copy { .. }) {
-            return;
-        }
-        if let Ok(names) = names_with(self.alloc, &self.dirs, leaving.as_slice()) {
-            self.used = Used::All(names);
-        }
     }
 }

@@ -1,18 +1,21 @@
 //! The names that directories use up, gathered without a look for faults.
-ghost use Rattle.std.specs.Prelude.{◌≡◌, ◌+◌, ◌||◌, ◌++◌, ◌∷◌, [], is_some, IfOk, OnOk, OnErr};
+ghost use Rattle.std.specs.Prelude.{◌≡◌, ◌+◌, ◌||◌, Some, is_some, IfOk, IfSome, OnOk, OnErr};
 ghost use Rattle.std.specs.FinMap as finmap;
 ghost use Rattle.md_dirs.specs.Path.{path_of, place_index};
 ghost use Rattle.md_dirs.specs.State.{file_at};
 ghost use Rattle.md_dirs.specs.declared.paths.Place.TheVariants.{Tmp as PlaceTmp};
-ghost use Rattle.md_core.specs.Gathering.{AreOf, holds};
+ghost use Rattle.md_core.specs.Gathering.{AreOf, StillUsed};
 ghost use Rattle.md_core.specs.Looking.{entries_before, somewhere};
 ghost use Rattle.md_core.specs.Submitting.{uses};
 ghost use Rattle.md_core.specs.Used.{is_among};
 
-use crate::used::UsedNames;
-use md_dirs::{Dirs, NameKey, Place, RowRef};
+use crate::used::{NameSet, UsedNames};
+use md_dirs::{Dirs, Place, RowRef};
 use md_name::is_message;
 use std::alloc::{AllocError, Global};
+
+/// So few names that it costs little to gather them anew.
+const FEW_NAMES: usize = 1_024;
 
 // Uses the name of one more file: all of it in tmp, and the unique part of a message.
 fn use_part(used: &mut UsedNames, place: Place, row: &RowRef<'_>) -> Result<(), AllocError>
@@ -46,36 +49,20 @@ fn use_directory<D: Dirs>(
     Ok(())
 }
 
-// Adds one more name.
-fn push_name(alloc: Global, keys: &mut Vec<NameKey<'static>>, name: &[u8]) -> Result<(), AllocError>
-    ensures ok { OnOk result (keys.new.items ≡ keys.old.items ++ name.now ∷ []) }
-    ensures err { OnErr result (keys.new.items ≡ keys.old.items) }
-{
-    let key = NameKey::copied(alloc, name)?;
-    keys.reserve(1)?;
-    keys.push_reserved(key);
-    Ok(())
-}
-
-/// Adds the names in tmp of a folder. After a refusal nothing has changed.
-pub(crate) fn push_tmp<D: Dirs>(
+/// Uses the names in tmp of a folder. After a refusal it may have used some of them, which the directories use too.
+pub(crate) fn use_tmp<D: Dirs>(
     alloc: Global,
     dirs: &D,
     folder: u32,
-    keys: &mut Vec<NameKey<'static>>,
+    names: &mut NameSet,
 ) -> Result<(), AllocError>
-    ensures ok { OnOk result ((u : _) → is_among u keys.new.items
-        ≡ (is_among u keys.old.items || is_some (file_at (D.device dirs.now).state (path_of folder PlaceTmp u)))) }
-    ensures err { OnErr result (keys.new.items ≡ keys.old.items) }
+    ensures ok { OnOk result ((u : _) → is_among u names.new
+        ≡ (is_some (file_at (D.device dirs.now).state (path_of folder PlaceTmp u)) || is_among u names.old)) }
+    ensures err { OnErr result (StillUsed (D.device dirs.now).state names.old names.new) }
 {
     let rows = dirs.rows_unordered(alloc, folder, Place::Tmp)?;
-    let len = keys.len();
-    keys.reserve(rows.len())?;
     for row in 0..rows.len() {
-        if let Err(error) = push_name(alloc, keys, rows[row].name()) {
-            keys.truncate(len);
-            return Err(error);
-        }
+        names.insert(rows[row].name())?;
     }
     Ok(())
 }
@@ -93,17 +80,33 @@ pub(super) fn count_all<D: Dirs>(dirs: &D) -> (usize, usize) {
     (messages, tmp)
 }
 
-/// Whether a clean of a folder adds no name to so many, or so few that all are no more than the names of the directories: a folder may be
-/// cleaned again and again.
-pub(crate) fn is_for_few<D: Dirs>(dirs: &D, folder: u32, leaving: usize) -> bool {
-    let more = dirs.count(folder, Place::Tmp);
+/// The names that were gathered, if a world that settles after so many changes of names keeps them. It keeps none where more than half of
+/// them may have left: then they are better gathered anew. It looks at no name, and seldom counts those of the directories.
+pub(crate) fn kept_at_settle<D: Dirs>(
+    dirs: &D,
+    names: Option<UsedNames>,
+    changes: usize,
+) -> Option<UsedNames>
+    ensures { IfSome result (λ kept. names ≡ Some kept) }
+{
+    let mut names = names?;
+    if names.spares(changes) {
+        return Some(names);
+    }
     let (messages, tmp) = count_all(dirs);
-    more == 0 || leaving.saturating_add(more) <= messages.saturating_add(tmp)
+    let held = messages.saturating_add(tmp);
+    let least = held
+        .saturating_add(dirs.folders() as usize)
+        .saturating_add(FEW_NAMES);
+    if names.len() / 2 > least {
+        return None;
+    }
+    Some(names.with_spare(least))
 }
 
-// The names that directories use up: the unique names of messages, and the names in tmp. It makes no directory call, and is refused only
-// when out of memory.
-fn names_in<D: Dirs>(alloc: Global, dirs: &D) -> Result<UsedNames, AllocError>
+/// The names that directories use up: the unique names of messages, and the names in tmp. It makes no directory call, and is refused only
+/// when out of memory.
+pub(crate) fn names_in<D: Dirs>(alloc: Global, dirs: &D) -> Result<UsedNames, AllocError>
     ensures { IfOk result (λ used. AreOf (finmap.entries (D.device dirs.now).state.names) used) }
 {
     let (messages, tmp) = count_all(dirs);
@@ -113,21 +116,6 @@ fn names_in<D: Dirs>(alloc: Global, dirs: &D) -> Result<UsedNames, AllocError>
         use_directory(alloc, dirs, folder, Place::Tmp, &mut used)?;
         use_directory(alloc, dirs, folder, Place::New, &mut used)?;
         use_directory(alloc, dirs, folder, Place::Cur, &mut used)?;
-    }
-    Ok(used)
-}
-
-/// The names that directories use up, and these.
-pub(crate) fn names_with<D: Dirs>(
-    alloc: Global,
-    dirs: &D,
-    keys: &[NameKey<'static>],
-) -> Result<UsedNames, AllocError>
-    ensures { IfOk result (λ used. (u : _) → is_among u used ≡ (is_among u keys.now || holds (D.device dirs.now).state u)) }
-{
-    let mut used = names_in(alloc, dirs)?;
-    for key in 0..keys.len() {
-        used.insert(keys[key].as_slice())?;
     }
     Ok(used)
 }

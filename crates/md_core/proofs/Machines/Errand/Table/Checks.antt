@@ -23,7 +23,7 @@ unmet (check ∷ checks) none = by check.0 (unmet checks) none
     by true rest none = cc
     by false rest none = (refl, rest none)
 
-makes-true : (asked : Call) (u : List ℕ) → MakesMessage asked u → makes u asked ≡ true
+pub makes-true : (asked : Call) (u : List ℕ) → MakesMessage asked u → makes u asked ≡ true
 makes-true (Deliver folder v body chunk) u is = (bytes_eq-Decides v u).1 is
 makes-true (Copy folder v to fresh tries) u is = (bytes_eq-Decides fresh u).1 is
 makes-true other u is = absurd is
