@@ -113,6 +113,14 @@ check_call() {
   esac
 }
 
+check_grade() {
+  case $1 in
+    lost | misled | owed | custom) ;;
+    '' | -*) refuse_words "a value is required for '--least <GRADE>' but none was supplied" ;;
+    *) refuse 64 "$1: not a grade: lost, misled, owed or custom" ;;
+  esac
+}
+
 check_judge() {
   format=
   while [ $# -gt 0 ]; do
@@ -127,6 +135,11 @@ check_judge() {
         shift
         ;;
       --allow=*) check_clause "${1#--allow=}" ;;
+      --least)
+        check_grade "${2-}"
+        shift
+        ;;
+      --least=*) check_grade "${1#--least=}" ;;
       --relies)
         check_call "${2-}"
         shift

@@ -16,11 +16,11 @@ find_last() {
   done
 }
 
-# Whether the last of a command's words is a file: one after the number of threads and index, and none that is an option or the clause of one.
+# Whether the last of a command's words is a file: one after the number of threads and index, and none that is an option or the value of one.
 ends_with_file() {
   find_last "$@"
   case $last in -*) return 1 ;; esac
-  [ "$before" != --allow ] || return 1
+  case $before in --allow | --least | --relies | --by) return 1 ;; esac
   case $1 in
     play | log | judge) [ $# -gt 1 ] ;;
     threads | index) [ $# -gt 2 ] ;;

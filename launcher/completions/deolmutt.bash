@@ -13,14 +13,14 @@ _deolmutt() {
             list) choices='--json --headers -h --help' ;;
             flag) choices='--add --remove -h --help' ;;
             log) choices='--states -h --help' ;;
-            judge) choices='--lines --json --summary --allow --owed --relies --by -h --help' ;;
+            judge) choices='--lines --json --summary --allow --least --owed --relies --by -h --help' ;;
             *) choices='-h --help' ;;
         esac
     elif [[ $command == help ]]; then
         ((COMP_CWORD == 2)) && choices='make deliver list read seen flag move copy expunge clean check play threads index log judge'
     else
         case $before in
-            --folder | --from | --add | --remove | --allow | --relies | --by | =) return 0 ;;
+            --folder | --from | --add | --remove | --allow | --least | --relies | --by | =) return 0 ;;
         esac
         case $COMP_CWORD/$command in
             2/read | 2/seen | 2/flag | 2/move | 2/copy | 2/expunge | 3/move | 3/copy | */make | */deliver | */list | */clean | */check) compopt -o dirnames 2>/dev/null ;;

@@ -34,6 +34,7 @@ complete -c deolmutt -n 'contains -- (commandline -opc)[2] judge' -l lines -d 'P
 complete -c deolmutt -n 'contains -- (commandline -opc)[2] judge' -l json -d 'Prints an object of JSON for each finding'
 complete -c deolmutt -n 'contains -- (commandline -opc)[2] judge' -l summary -d 'Prints how often each clause is broken and at which line first, and the sum'
 complete -c deolmutt -n 'contains -- (commandline -opc)[2] judge' -l allow -x -d 'Leaves this clause out, as a line `allow CLAUSE` of the log; may be repeated'
+complete -c deolmutt -n 'contains -- (commandline -opc)[2] judge' -l least -x -d 'Leaves out findings of a lower grade: lost, misled, owed or custom'
 complete -c deolmutt -n 'contains -- (commandline -opc)[2] judge' -l owed -d 'Judges by what each program owes the others, in place of the law (docs/LAW.md)'
 complete -c deolmutt -n 'contains -- (commandline -opc)[2] judge' -l relies -x -d 'Judges by what this call of deolmutt relies on: deliver, seen, flag, move, copy, expunge or clean'
 complete -c deolmutt -n 'contains -- (commandline -opc)[2] judge' -l by -x -d 'Leaves the steps of this actor out, with --owed or --relies; may be repeated'

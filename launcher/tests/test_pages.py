@@ -34,9 +34,10 @@ COMPLETED = (
     ('deolmutt list box --', ['--json', '--headers', '--help']),
     ('deolmutt flag --r', ['--remove']),
     ('deolmutt clean --', ['--help']),
-    ('deolmutt judge --', ['--lines', '--json', '--summary', '--allow', '--owed', '--relies', '--by', '--help']),
+    ('deolmutt judge --', ['--lines', '--json', '--summary', '--allow', '--least', '--owed', '--relies', '--by', '--help']),
     ('deolmutt log --', ['--states', '--help']),
     ('deolmutt judge --allow ', []),
+    ('deolmutt judge --least ', []),
     ('deolmutt help list ', []),
     ('deolmutt deliver box --folder ', []),
 )

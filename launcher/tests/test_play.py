@@ -29,6 +29,8 @@ WRONG = (
     (('judge', '--allow', 'gone', '--'), "gone: not the name of a clause that may be allowed: a similar one is 'Gone'"),
     (('judge', '--allow=NotADirectory',), "NotADirectory: not the name of a clause that may be allowed"),
     (('judge', '--allow', '--lines'), "a value is required for '--allow <CLAUSE>'"),
+    (('judge', '--least', 'worst'), "worst: not a grade: lost, misled, owed or custom"),
+    (('judge', '--least', '--lines'), "a value is required for '--least <GRADE>'"),
 )
 
 

@@ -110,12 +110,13 @@ def _rows(columns: dict[str, str]) -> Iterator[Row]:
 def _earlier(columns: dict[str, str]) -> Row:
     """The judge finds a clause at a line, and names the earlier line that it goes back to."""
     before = f'"before":{columns["before"]},'.encode()
-    found = f'"clause":"{columns["clause"]}","line":{columns["line"]},'.encode()
+    clause, number = f'"clause":"{columns["clause"]}",'.encode(), f'"line":{columns["line"]},'.encode()
 
     def is_right(ended: Ended) -> bool:
-        return (ended.status, ended.said) == (1, b"") and any(before in line and found in line for line in ended.printed.splitlines())
+        found = (line for line in ended.printed.splitlines() if before in line and clause in line and number in line)
+        return (ended.status, ended.said) == (1, b"") and any(found)
 
-    return Row(["judge", "--json"], _bytes(columns["input"]), is_right, Ended(1, b"{" + before + found + b"}\n", b""))
+    return Row(["judge", "--json"], _bytes(columns["input"]), is_right, Ended(1, b"{" + before + clause + number + b"}\n", b""))
 
 
 def _third_line(columns: dict[str, str]) -> Row:

@@ -32,10 +32,11 @@ SENTENCES: Dict[str, str] = {
 
 
 class Finding(NamedTuple):
-    """A line of the log, and the clause that it breaks."""
+    """A line of the log, the clause that it breaks, and what that costs."""
 
     line: int
     clause: str
+    grade: str = "lost"
 
 
 class Told(NamedTuple):
@@ -61,8 +62,8 @@ def deolmutt() -> str:
 
 def judge(log: bytes, allowed: Iterable[str] = ()) -> List[Finding]:
     """What the judge finds in a log, but for the clauses that are allowed."""
-    found = [line.split() for line in _said("--lines", allowed, input=log)]
-    return [Finding(int(words[0]), words[1]) for words in found]
+    found = map(json.loads, _said("--json", allowed, input=log))
+    return [Finding(each["line"], each["clause"], each["grade"]) for each in found]
 
 
 def judge_file(path: str, allowed: Iterable[str] = ()) -> List[Told]:

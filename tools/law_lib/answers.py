@@ -6,7 +6,7 @@ from typing import NamedTuple
 
 from judge_lib.names import PLACES
 
-from .histories import Answer, At, Between, Call, History, Holds, List, Said, State, is_by, is_call, is_up_to, since
+from .histories import Answer, At, Between, Call, History, Holds, List, Said, State, is_by, is_call, since
 from .messages import is_message_at, is_of, is_there
 from .readings import shown_by
 
@@ -36,8 +36,16 @@ def own(holds: Holds, c: Claim, h: History) -> bool:
     return since(lambda m: is_by(m, c.actor) and tells_nothing(m, c) and holds(m), lambda m: tells_nothing(m, c), h)
 
 
+def is_at_work(c: Claim, h: History) -> bool:
+    return own(lambda m: True, c, h)
+
+
 def lately(holds: Holds, c: Claim, h: History) -> bool:
-    return holds(h) or any(holds(m) and is_up_to(m, h) and own(lambda k: is_up_to(k.before, m), c, h) for m in h.beginnings)
+    return holds(h) or since(
+        lambda m: holds(m) and is_at_work(c, m),
+        lambda m: tells_nothing(m, c) and not (is_by(m, c.actor) and changes_message(m, c)),
+        h,
+    )
 
 
 def acts_by(call: Call, c: Claim, reply: str) -> bool:

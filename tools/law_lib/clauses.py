@@ -10,7 +10,7 @@ from .answers import Claim, acts_on, adds_message, changes_message, lately, look
 from .histories import REPLIES, At, Between, Call, History, List, Said, file_at, file_by, is_by, is_call, once, refusal, since
 from .messages import (
     adds, begins_to_be_seen, files_named, is_cut, is_maker, is_message, is_message_at, is_of, is_seen, is_there, is_trashed, is_unflushed,
-    leaves, names, paths_called, shows_flags, takes, was_in_cur, writes,
+    leaves, may_write, names, paths_called, shows_flags, takes, was_in_cur,
 )  # fmt: skip
 from .readings import Looker, is_listing, is_reading, moments_of, readings_of, shown_by, shows
 
@@ -64,7 +64,7 @@ def makes_message(h: History) -> bool:
 
 
 def writes_seen(h: History) -> bool:
-    return any(writes(h, file, "ok") and is_seen(h.before.at, file) for file in files_named(h))
+    return any(may_write(h, file) and is_seen(h.before.at, file) for file in files_named(h))
 
 
 def shows_cut(h: History) -> bool:
@@ -76,7 +76,7 @@ def seen_before_whole(h: History) -> bool:
 
 
 def mixed(h: History) -> bool:
-    return any(writes(h, file, "ok") and not is_maker(h.before, actor_of(h), file) for file in files_named(h))
+    return any(may_write(h, file) and not is_maker(h.before, actor_of(h), file) for file in files_named(h))
 
 
 def not_flushed(h: History) -> bool:

@@ -4,7 +4,7 @@ from __future__ import annotations
 
 from judge_lib.names import Path, flags_of, unique_of
 
-from .histories import At, History, State, file_at, is_by, is_call, once, since
+from .histories import REPLIES, At, History, State, file_at, is_by, is_call, once, since
 
 
 def is_message(path: Path) -> bool:
@@ -63,6 +63,10 @@ def does(h: History, deed: str, file: int, reply: str) -> bool:
 
 def writes(h: History, file: int, reply: str) -> bool:
     return does(h, "write", file, reply)
+
+
+def may_write(h: History, file: int) -> bool:
+    return any(reply != "notfound" and writes(h, file, reply) for reply in REPLIES)
 
 
 def flushes(h: History, file: int) -> bool:

@@ -161,12 +161,16 @@ def is_shown(j: Judged, test: Callable[[FileKept], bool]) -> bool:
 
 def shows_too_early(j: Judged) -> bool:
     makes = isinstance(j.call, At) and j.call.deed == "create" and j.call.reply == "ok" and is_message(j.call.path)
-    return makes or writes(j, lambda file: is_seen(j.s, file)) or is_shown(j, lambda kept: kept.is_cut)
+    return makes or may_write(j, lambda file: is_seen(j.s, file)) or is_shown(j, lambda kept: kept.is_cut)
 
 
-def writes(j: Judged, test: Callable[[int], bool], *, or_fails: bool = False) -> bool:
-    """It is a write to a file of which the test holds, and done, or may have failed."""
-    return j.written is not None and (j.reply == "ok" or or_fails and j.reply != "notfound") and test(j.written)
+def may_write(j: Judged, test: Callable[[int], bool]) -> bool:
+    """It writes to a file of which the test holds, or may have written a part."""
+    return j.written is not None and j.reply != "notfound" and test(j.written)
+
+
+def mixes(j: Judged) -> bool:
+    return may_write(j, lambda file: not is_maker(j, file))
 
 
 def adds_message(j: Judged, test: Callable[[Path, bytes, int], bool]) -> bool:
@@ -217,10 +221,6 @@ def is_young(j: Judged, file: int) -> bool:
 # ---- what each program owes
 
 
-def may_write(j: Judged, test: Callable[[int], bool]) -> bool:
-    return writes(j, test, or_fails=True)
-
-
 def owes_named_by_another(j: Judged) -> bool:
     return j.named is not None and not is_seen(j.s, j.named[1]) and not is_maker(j, j.named[1])
 
@@ -251,14 +251,13 @@ TWO_NAMES: dict[str, Callable[[Judged], bool]] = {
 LAW: dict[str, Callable[[Judged], bool]] = {
     "Overwritten": lambda j: j.turned is not None,
     "SeenBeforeWhole": shows_too_early,
-    "Mixed": lambda j: writes(j, lambda file: not is_maker(j, file)),
+    "Mixed": mixes,
     "NotFlushed": lambda j: is_shown(j, lambda kept: kept.is_unflushed),
     **TWO_NAMES,
     "Gone": is_gone, "UsedAgain": is_used_again, "MovedBack": is_moved_back, "CleanedEarly": is_cleaned_early,
 }  # fmt: skip
 OWED: dict[str, Callable[[Judged], bool]] = {
-    **TWO_NAMES, "InTwoFolders": owes_in_two_folders,
-    "Mixed": lambda j: may_write(j, lambda file: not is_maker(j, file)),
+    **TWO_NAMES, "InTwoFolders": owes_in_two_folders, "Mixed": mixes,
     "NamedByAnother": owes_named_by_another, "CleanedEarly": is_cleaned_early,
     "Rewritten": lambda j: may_write(j, lambda file: j.kept.files[file].was_seen),
     "MovedBack": is_moved_back, "UsedAgain": owes_used_again, "MadeAgain": owes_made_again, "WrittenLate": owes_written_late,

@@ -1,4 +1,4 @@
-"""What each program owes the others: md_law's Owed, with the three clauses of the law that are owed as they are."""
+"""What each program owes the others: md_law's Owed, with the four clauses of the law that are owed as they are."""
 
 from __future__ import annotations
 
@@ -7,17 +7,9 @@ from typing import Optional
 
 from judge_lib.names import Path, unique_of
 
-from .clauses import actor_of, cleaned_early, moved_back, two_names
-from .histories import REPLIES, History, file_at, file_by, once
-from .messages import adds, files_named, is_maker, is_message, is_message_at, is_seen, names, writes
-
-
-def may_write(h: History, file: int) -> bool:
-    return any(reply != "notfound" and writes(h, file, reply) for reply in REPLIES)
-
-
-def mixed(h: History) -> bool:
-    return any(may_write(h, file) and not is_maker(h.before, actor_of(h), file) for file in files_named(h))
+from .clauses import actor_of, cleaned_early, mixed, moved_back, two_names
+from .histories import History, file_at, file_by, once
+from .messages import adds, files_named, is_maker, is_message, is_message_at, is_seen, may_write, names
 
 
 def rewritten(h: History) -> bool:

@@ -78,9 +78,9 @@ def with_place(place: str, read: Read) -> Read:
 
 
 def with_call(folder: bytes, call: Call, read: Read) -> Read:
-    if isinstance(call, List) and call.reply == "ok":
-        return with_place(call.place, read) if call.folder == folder else read
-    return read
+    if not isinstance(call, List):
+        return NOTHING_READ
+    return with_place(call.place, read) if call.reply == "ok" and call.folder == folder else read
 
 
 def read_of(h: History, actor: bytes, folder: bytes) -> Read:
@@ -95,6 +95,7 @@ def is_listing(first: History, h: History, actor: bytes, folder: bytes) -> bool:
         read_of(first, actor, folder) == NOTHING_READ
         and since(lambda m: m is first, lambda m: read_of(m, actor, folder) != NOTHING_READ, h.before)
         and read_of(h.before, actor, folder) != NOTHING_READ
+        and any(is_part(h, Looker(actor, folder, place), "ok") for place in PLACES)
         and read_of(h, actor, folder) == NOTHING_READ
     )
 

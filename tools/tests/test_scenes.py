@@ -129,8 +129,8 @@ class Scenes(unittest.TestCase):
         """The first line of each, in how many runs, and the log of the worst."""
         log = b"file box/cur/u:2,S 1\nfile box/new/v 1\n1 A rename box/new/v box/new/w ok\n1 B unlink box/cur/u:2,S ok\n"
         gathered = Gathered()
-        gathered.add(log[:-1] + b"\n# one\n", [Finding(3, "Gone")])
-        gathered.add(log, [Finding(3, "Gone"), Finding(4, "Gone")])
+        gathered.add(log[:-1] + b"\n# one\n", [Finding(3, "Gone", "custom")])
+        gathered.add(log, [Finding(3, "Gone", "custom"), Finding(4, "Gone", "lost")])
         self.assertEqual([(each.grade, each.runs, each.line, each.actors) for each in gathered.found()],
                          [("lost", 1, "B unlink box/cur/u:2,S ok", "B"), ("custom", 2, "A rename box/new/v box/new/w ok", "A")])
         self.assertEqual(gathered.log(), log)
@@ -170,12 +170,12 @@ class Scenes(unittest.TestCase):
             self.assertIsNone(kept.former(scene), "it was kept in other words")
 
     def test_judge(self):
-        """The program is one that prints `LINE CLAUSE`, and whose status is 0, 1 or 2."""
+        """The program is one that prints an object of JSON for each finding, and whose status is 0, 1 or 2."""
         program = self.room / "judge"
-        program.write_text("#!/bin/sh\n[ \"$*\" = 'judge --lines' ] || exit 9\nread first\n[ \"$first\" = log ] || { echo bad >&2; exit 2; }\necho '3 Gone'\nexit 1\n")
+        program.write_text("#!/bin/sh\n[ \"$*\" = 'judge --json' ] || exit 9\nread first\n[ \"$first\" = log ] || { echo bad >&2; exit 2; }\necho '{\"line\":3,\"clause\":\"Gone\",\"grade\":\"owed\"}'\nexit 1\n")
         program.chmod(0o755)
         with mock.patch.dict(os.environ, {"DEOLMUTT": str(program)}):
-            self.assertEqual(judge(b"log\n"), [(3, "Gone")])
+            self.assertEqual(judge(b"log\n"), [(3, "Gone", "owed")])
             with self.assertRaisesRegex(Refused, "status 2: bad"):
                 judge(b"no log\n")
         with mock.patch.dict(os.environ, {"DEOLMUTT": "/nowhere"}), self.assertRaisesRegex(Refused, "/nowhere: is no program"):

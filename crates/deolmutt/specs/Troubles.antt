@@ -10,7 +10,7 @@ use Rattle.deolmutt.specs.declared.status.Status.{Status}
 use Rattle.deolmutt.specs.declared.status.Status.TheVariants.{Done, Usage, DataError, NoInput}
 use Rattle.deolmutt.specs.declared.status.Status.TheVariants.{CannotCreate, InputOutput, TryAgain, NoPermission}
 use Rattle.deolmutt.specs.declared.trouble.Trouble.{Trouble}
-use Rattle.deolmutt.specs.declared.trouble.Trouble.TheVariants.{Unflushed, BadKey, BadChange, BadFolder, BadClause, BadCall, SameMaildir, NotThere}
+use Rattle.deolmutt.specs.declared.trouble.Trouble.TheVariants.{Unflushed, BadKey, BadChange, BadFolder, BadClause, BadCall, BadGrade, SameMaildir, NotThere}
 use Rattle.deolmutt.specs.declared.trouble.Trouble.TheVariants.{NotTrashed, OtherInfo, TooLong, NotText, NotAFile, NoMailbox}
 use Rattle.deolmutt.specs.declared.trouble.Trouble.TheVariants.{Flawed, NoMaildir, NoDirectory, NoLog, NameTaken, CannotMake}
 use Rattle.deolmutt.specs.declared.trouble.Trouble.TheVariants.{Unread, Unwritten, Lost, TimedOut, TmpGone, Fault, NoName, NoMemory}
@@ -24,6 +24,7 @@ status_of BadChange = Usage
 status_of BadFolder = Usage
 status_of BadClause = Usage
 status_of BadCall = Usage
+status_of BadGrade = Usage
 status_of SameMaildir = Usage
 status_of NotThere = DataError
 status_of NotTrashed = DataError
@@ -56,6 +57,7 @@ text_of BadChange = codes "not a change of flags, as +FS-T"
 text_of BadFolder = codes "not the name of a folder"
 text_of BadClause = codes "not the name of a clause that may be allowed"
 text_of BadCall = codes "not a call of a job: deliver, seen, flag, move, copy, expunge or clean"
+text_of BadGrade = codes "not a grade: lost, misled, owed or custom"
 text_of SameMaildir = codes "the message is there already"
 text_of NotThere = codes "no such message"
 text_of NotTrashed = codes "the message has not the flag T"

@@ -19,7 +19,7 @@ use crate::status::Status;
 use crate::trouble::Trouble;
 use fault::Fault;
 use lines::judge_lines;
-use md_judge::{CLAUSES, Clause, Session as Judge};
+use md_judge::{CLAUSES, Finding, Grade, Session as Judge};
 use owed::try_owed;
 use page::Page;
 use shown::Shown;
@@ -27,7 +27,7 @@ use std::alloc::{AllocError, Global};
 use std::io::Read;
 use summary::Tally;
 use why::why;
-pub(crate) use words::{Form, Judging, Rules, read_judging};
+pub(crate) use words::{Form, Judging, Rules, Strictness, read_judging};
 
 /// Judges the log of a file or of standard input line by line, and prints its findings once it is over, so that nothing is printed of a log
 /// that is refused.
@@ -69,7 +69,7 @@ fn try_judge<R: Host, L: Read + Drop>(
     log: L,
 ) -> Result<Status, Fault> {
     match &how.rules {
-        Rules::Law { allowed } => try_law(session, how.form, allowed, log),
+        Rules::Law(strictness) => try_law(session, how.form, strictness, log),
         Rules::Owed(owing) => try_owed(session, how.form, owing, log),
     }
 }
@@ -78,37 +78,47 @@ fn try_judge<R: Host, L: Read + Drop>(
 fn try_law<R: Host, L: Read + Drop>(
     session: &Session<'_, R>,
     form: Form,
-    allowed: &[Clause],
+    strictness: &Strictness,
     log: L,
 ) -> Result<Status, Fault> {
     let mut judge = Judge::new(session.alloc);
-    for clause in allowed {
+    for clause in &strictness.allowed {
         judge.allow(*clause);
     }
     judge_lines(session.alloc, &mut judge, log)?;
-    show(session, &judge, form)?;
-    if judge.findings().is_empty() {
-        return Ok(Status::Done);
-    }
-    Ok(Status::Refused)
+    show(session, &judge, form, strictness.least)
 }
 
-// Prints the findings.
-fn show<R: Host>(session: &Session<'_, R>, judge: &Judge, form: Form) -> Result<(), Fault> {
+// Prints the findings of a grade and of the worse ones.
+fn show<R: Host>(
+    session: &Session<'_, R>,
+    judge: &Judge,
+    form: Form,
+    least: Grade,
+) -> Result<Status, Fault> {
     let mut page = Page::new(session.alloc, form, expected(session.alloc)?);
+    let mut status = Status::Done;
     for (at, finding) in judge.findings().iter().copied().enumerate() {
-        let (actor, call) = judge.words(at);
-        let shown = Shown {
-            line: finding.line,
-            actor,
-            call,
-            clause: finding.clause.name(),
-            why: why(finding.clause),
-            before: finding.before,
-        };
-        page.put(session, &shown)?;
+        let grade = judge.grade(at);
+        if grade.is_at_least(least) {
+            page.put(session, &as_shown(judge.words(at), finding, grade))?;
+            status = Status::Refused;
+        }
     }
-    page.end(session)
+    page.end(session)?;
+    Ok(status)
+}
+
+fn as_shown<'a>((actor, call): (&'a [u8], &'a [u8]), finding: Finding, grade: Grade) -> Shown<'a> {
+    Shown {
+        line: finding.line,
+        actor,
+        call,
+        clause: finding.clause.name(),
+        grade,
+        why: why(finding.clause),
+        before: finding.before,
+    }
 }
 
 // The clauses of the law, in its order.

@@ -19,6 +19,7 @@ pub(crate) enum Trouble {
     BadFolder,
     BadClause,
     BadCall,
+    BadGrade,
     SameMaildir,
     /// The message can't be had, or is not as the command wants it.
     NotThere,
@@ -64,6 +65,7 @@ impl Trouble {
             | Trouble::BadFolder
             | Trouble::BadClause
             | Trouble::BadCall
+            | Trouble::BadGrade
             | Trouble::SameMaildir => Status::Usage,
             Trouble::NotThere
             | Trouble::NotTrashed
@@ -98,6 +100,7 @@ impl Trouble {
             Trouble::BadClause => "not the name of a clause that may be allowed",
             Trouble::BadCall =>
                 "not a call of a job: deliver, seen, flag, move, copy, expunge or clean",
+            Trouble::BadGrade => "not a grade: lost, misled, owed or custom",
             Trouble::SameMaildir => "the message is there already",
             Trouble::NotThere => "no such message",
             Trouble::NotTrashed => "the message has not the flag T",

@@ -37,7 +37,7 @@ use Rattle.md_beside.proofs.Replies.{call-made, gives-up-nothing, answers-nothin
 -- it may break, what is owed, and the names of others.
 pub record KeepsPaths (t : Story) (k : ℕ) (x : Step) (own : List ℕ → Type 0) (may : Clause → Type 0) : Type 0 where
   pub whole : SeenBeforeWhole (next_at t k x) → ⊥
-  pub unmixed : owed.Mixed (next_at t k x) → ⊥
+  pub unmixed : Mixed (next_at t k x) → ⊥
   pub unwritten : owed.Rewritten (next_at t k x) → ⊥
   pub unmade : owed.MadeAgain (next_at t k x) → ⊥
   pub one_file : owed.UsedAgain (next_at t k x) → ⊥
@@ -127,10 +127,6 @@ abbrev pub WritesOwn : Story → ℕ → Step → ℕ → Type 0
 WritesOwn t k x job = (n : ℕ) (r : Reply) → Writes (next_at t k x) n r
     → (Once (λ m. IsSeen (at m) n) (history t k) → ⊥) × IsMaker (history t k) (t.actor job) n
 
--- who writes to no file but its own mixes nothing
-mixed-done : (h : History) → (owed.Mixed h → ⊥) → Mixed h → ⊥
-mixed-done h not (actor, n, by, writes, made) = not (actor, n, by, (said.Ok, (λ e. cc), writes), made)
-
 module _ (t : Story) (story : IsStory t) (k : ℕ) (x : Step) (is : step_at t k ≡ Some x) where
   abbrev h : History
   h = next_at t k x
@@ -185,12 +181,12 @@ module _ (t : Story) (story : IsStory t) (k : ℕ) (x : Step) (is : step_at t k 
         sym (ap (actor_seen t.actor) who) ∙ ap (λ (y : Seen). y.actor) same ∙ by.2
 
     writes-unseen : WritesOwn t k x job → WritesSeen h → ⊥
-    writes-unseen own (n, writes, seen) = (own n said.Ok writes).0 (once-now (λ m. IsSeen (at m) n) (history t k) seen)
+    writes-unseen own (n, writes, seen) = (own n writes.0 writes.2).0 (once-now (λ m. IsSeen (at m) n) (history t k) seen)
 
     writes-unwritten : WritesOwn t k x job → owed.Rewritten h → ⊥
     writes-unwritten own (n, writes, seen) = (own n writes.0 writes.2).0 seen
 
-    writes-unmixed : WritesOwn t k x job → owed.Mixed h → ⊥
+    writes-unmixed : WritesOwn t k x job → Mixed h → ⊥
     writes-unmixed own (actor, n, by, writes, not) =
         not (subst (λ (name : List ℕ). IsMaker (history t k) name n) (actor-is actor by) (own n writes.0 writes.2).1)
 
@@ -367,7 +363,7 @@ module _ (t : Story) (story : IsStory t) (k : ℕ) (x : Step) (is : step_at t k 
       keeps-clause clause.NotADirectory not broken = rest.rightly broken
       keeps-clause clause.Overwritten not broken = overwrites-nothing none broken
       keeps-clause clause.SeenBeforeWhole not broken = keeps.whole broken
-      keeps-clause clause.Mixed not broken = mixed-done h keeps.unmixed broken
+      keeps-clause clause.Mixed not broken = keeps.unmixed broken
       keeps-clause clause.NotFlushed not broken = rest.flushed not broken
       keeps-clause clause.TwoNames not broken = no_two_names one broken
       keeps-clause clause.Gone not broken = keeps.there broken

@@ -245,14 +245,20 @@ place-ends Cur r never ends =
     ap (λ (b : Bool). cond {A = Read} b nothing_read (record { new = false; cur = true })) (sym never) ∙ ends in
     let clash : true ≡ false = ap (λ (y : Read). y.cur) is in cc
 
+-- a call that reads nothing breaks a listing off
+nothing-other : (place : Place) (r : Read) → NeverOther place r → NeverOther place nothing_read
+nothing-other Tmp r never = never
+nothing-other New r never = refl
+nothing-other Cur r never = refl
+
 module _ (s : State) (place : Place) (folder : ℕ) where
   call-keeps : (a : Asked) (r : DirReply) (read : Read) → ListsAlone place a → NeverOther place read →
       NeverOther place (with_call folder (call_seen s (asked a) (reply_seen r)) read)
-  call-keeps (create p) r read alone never = never
-  call-keeps (append p bytes) r read alone never = never
-  call-keeps (link old new) r read alone never = never
-  call-keeps (rename old new) r read alone never = never
-  call-keeps (unlink p) r read alone never = never
+  call-keeps (create p) r read alone never = nothing-other place read never
+  call-keeps (append p bytes) r read alone never = nothing-other place read never
+  call-keeps (link old new) r read alone never = nothing-other place read never
+  call-keeps (rename old new) r read alone never = nothing-other place read never
+  call-keeps (unlink p) r read alone never = nothing-other place read never
   call-keeps (list f q) reply.Ok read alone never = by (f == folder)
     where
       by : (b : Bool) → NeverOther place (cond b (with_place q read) read)
@@ -262,21 +268,23 @@ module _ (s : State) (place : Place) (folder : ℕ) where
   call-keeps (list f q) reply.NotFound read alone never = never
   call-keeps (list f q) reply.Fault read alone never = never
 
+  -- a call that ends a reading
   call-ends : (a : Asked) (r : DirReply) (read : Read) → ListsAlone place a → NeverOther place read →
+      (to : Place) (shown : List (List ℕ)) → call_seen s (asked a) (reply_seen r) ≡ told.List folder to said.Ok shown →
       with_call folder (call_seen s (asked a) (reply_seen r)) read ≡ nothing_read → read ≢ nothing_read → ⊥
-  call-ends (create p) r read alone never ends more = more ends
-  call-ends (append p bytes) r read alone never ends more = more ends
-  call-ends (link old new) r read alone never ends more = more ends
-  call-ends (rename old new) r read alone never ends more = more ends
-  call-ends (unlink p) r read alone never ends more = more ends
-  call-ends (list f q) reply.Ok read alone never ends more = by (f == folder) ends
+  call-ends (create p) r read alone never to shown is ends more = cc
+  call-ends (append p bytes) r read alone never to shown is ends more = cc
+  call-ends (link old new) r read alone never to shown is ends more = cc
+  call-ends (rename old new) r read alone never to shown is ends more = cc
+  call-ends (unlink p) r read alone never to shown is ends more = cc
+  call-ends (list f q) reply.Ok read alone never to shown is ends more = by (f == folder) ends
     where
       by : (b : Bool) → cond b (with_place q read) read ≡ nothing_read → ⊥
-      by true is = place-ends place read never (subst (λ (p : Place). with_place p read ≡ nothing_read) alone is)
-      by false is = more is
-  call-ends (list f q) reply.Exists read alone never ends more = more ends
-  call-ends (list f q) reply.NotFound read alone never ends more = more ends
-  call-ends (list f q) reply.Fault read alone never ends more = more ends
+      by true done = place-ends place read never (subst (λ (p : Place). with_place p read ≡ nothing_read) alone done)
+      by false done = more done
+  call-ends (list f q) reply.Exists read alone never to shown is ends more = more ends
+  call-ends (list f q) reply.NotFound read alone never to shown is ends more = more ends
+  call-ends (list f q) reply.Fault read alone never to shown is ends more = more ends
 
 -- a job has read one place alone, in each folder
 abbrev pub ReadsAlone : Story → ℕ → ℕ → Place → Type 0
@@ -342,5 +350,7 @@ module _ (t : Story) (story : IsStory t) (k job : ℕ) (x : Step) (is : step_at 
             sym (ap (actor_seen t.actor) who) ∙ (bytes_eq-Decides (actor_seen t.actor x.who) actor).0 same in
             call-ends (state t k) place folder a x.reply (read_of (history t k) actor folder) lists
             (subst (λ (name : List ℕ). NeverOther place (read_of (history t k) name folder)) its (alone folder))
+            listing.reads.0 listing.reads.1.0 (sym call-is
+            ∙ call-made t k x (told.List folder listing.reads.0 said.Ok listing.reads.1.0) listing.reads.1.1.1)
             (ap (λ (c : Told). with_call folder c (read_of (history t k) actor folder)) (sym call-is) ∙ ends) listing.more
         by false differ ends = listing.more ends

@@ -16,7 +16,7 @@ use Rattle.md_log.specs.declared.line.Deed.TheVariants as deed
 use Rattle.md_log.specs.declared.line.Naming.{Naming}
 use Rattle.md_log.specs.declared.line.Reply.{Reply}
 use Rattle.md_log.specs.declared.line.Reply.TheVariants as said
-use Rattle.md_law.specs.Clauses.{MakesMessage as MakesEmpty, WritesSeen, ShowsCut, NotFlushed, Gone, UsedAgain, MovedBack, CleanedEarly}
+use Rattle.md_law.specs.Clauses.{MakesMessage as MakesEmpty, WritesSeen, ShowsCut, Mixed, NotFlushed, Gone, UsedAgain, MovedBack, CleanedEarly}
 use Rattle.md_law.specs.Files.{Names, Adds, BeginsToBeSeen, Writes}
 use Rattle.md_law.specs.History.{History, at, IsCall, Once}
 use Rattle.md_law.specs.Messages.{IsSeen, IsThere, IsTrashed, IsMessageAt}
@@ -117,7 +117,7 @@ module _ (t : Story) (story : IsStory t) (k : ℕ) (x : Step) (is : step_at t k 
   makes-none (p, call, message) = rearranges.makes p call
 
   writes-none : WritesSeen h → ⊥
-  writes-none (n, writes, seen) = rearranges.writes n said.Ok writes
+  writes-none (n, writes, seen) = rearranges.writes n writes.0 writes.2
 
   shows-none : ShowsCut h → ⊥
   shows-none (n, begins, cut) = seen-before n begins
@@ -125,7 +125,7 @@ module _ (t : Story) (story : IsStory t) (k : ℕ) (x : Step) (is : step_at t k 
   pub flushes-all : NotFlushed h → ⊥
   flushes-all (n, begins, unflushed) = seen-before n begins
 
-  writes-own : owed.Mixed h → ⊥
+  writes-own : Mixed h → ⊥
   writes-own (actor, n, by, writes, made) = rearranges.writes n writes.0 writes.2
 
   rewrites-none : owed.Rewritten h → ⊥

@@ -2,6 +2,7 @@
 use Rattle.std.proofs.Common.{ℕ, ◌≡◌, ◌⊎◌, inl, inr, Bool, true, false, cond, List, Option, Some, None, refl, sym, ap, subst, ◌∙◌, ◌==◌}
 use Rattle.std.specs.Str.{bytes_eq}
 use Rattle.md_dirs.specs.State.{State}
+use Rattle.md_dirs.specs.declared.paths.Place.{Place}
 use Rattle.md_dirs.specs.declared.paths.Place.TheVariants.{Tmp}
 use Rattle.md_dirs.specs.declared.calls.DirError.{DirError}
 use Rattle.md_dirs.specs.declared.calls.DirError.TheVariants as error
@@ -12,6 +13,7 @@ use Rattle.md_jobs.specs.declared.step.DirReply.TheVariants as reply
 use Rattle.md_log.specs.declared.line.Call.{Call as Told}
 use Rattle.md_log.specs.declared.line.Call.TheVariants as told
 use Rattle.md_log.specs.declared.line.Reply.{Reply}
+use Rattle.md_log.specs.declared.line.Reply.TheVariants as answered
 use Rattle.md_log.specs.declared.line.Said.{Said}
 use Rattle.md_log.specs.declared.line.Step.{Step as Seen}
 use Rattle.md_law.specs.Answers.{Claim, Tells}
@@ -70,14 +72,14 @@ unfolding Once
 up_to-itself (opening m) = refl
 up_to-itself (next past x) = inl refl
 
-no-reading : (s : State) (folder : ℕ) (a : Asked) (r : Reply) (read : Read) → IsNoReading a →
-    with_call folder (call_seen s (asked a) r) read ≡ read
-no-reading s folder (create p) r read plain = refl
-no-reading s folder (append p bytes) r read plain = refl
-no-reading s folder (link old new) r read plain = refl
-no-reading s folder (rename old new) r read plain = refl
-no-reading s folder (unlink p) r read plain = refl
-no-reading s folder (list f place) r read plain = absurd plain
+no-list : (s : State) (a : Asked) (r : Reply) → IsNoReading a → (folder : ℕ) (place : Place) (q : Reply) (shown : List (List ℕ)) →
+    call_seen s (asked a) r ≡ told.List folder place q shown → ⊥
+no-list s (create p) r plain folder place q shown is = cc
+no-list s (append p bytes) r plain folder place q shown is = cc
+no-list s (link old new) r plain folder place q shown is = cc
+no-list s (rename old new) r plain folder place q shown is = cc
+no-list s (unlink p) r plain folder place q shown is = cc
+no-list s (list f p) r plain folder place q shown is = absurd plain
 
 either : {A : Type 0} (b : Bool) (x y : A) → x ≡ y → cond b x y ≡ y
 either true x y same = same
@@ -97,17 +99,12 @@ read-same h y actor folder keeps =
     either (bytes_eq y.actor actor) (with_call folder y.call (read_of h actor folder)) (read_of h actor folder)
     (keeps (read_of h actor folder))
 
--- a call that reads neither new nor cur completes no listing
-lists-neither : (t : Story) (k : ℕ) (x : Step) →
-    ((folder : ℕ) (read : Read) → with_call folder (call_seen (state t k) x.did (reply_seen x.reply)) read ≡ read) →
-    Unlisted (next_at t k x) → ⊥
-lists-neither t k x keeps (begun, actor, folder, unique, listing, there, shown) =
-    listing.more (sym (read-same (history t k) (step_seen t.actor (state t k) x) actor folder (keeps folder)) ∙ listing.ends)
-
+-- a reading of tmp completes no listing
 pub lists-tmp : (t : Story) (k : ℕ) (x : Step) (f : ℕ) → x.did ≡ asked (list f Tmp) → Unlisted (next_at t k x) → ⊥
-lists-tmp t k x f did = lists-neither t k x (λ folder read.
+lists-tmp t k x f did (begun, actor, folder, unique, listing, there, shown) = listing.more
+    (sym (read-same (history t k) (step_seen t.actor (state t k) x) actor folder (λ read.
     ap (λ (d : Did). with_call folder (call_seen (state t k) d (reply_seen x.reply)) read) did
-    ∙ tmp-reading (state t k) folder f x.reply read)
+    ∙ tmp-reading (state t k) folder f x.reply read)) ∙ listing.ends)
 
 -- ---- answers
 
@@ -143,8 +140,11 @@ module _ (t : Story) (story : IsStory t) (k : ℕ) (x : Step) (is : step_at t k 
       (subst (IsWrongCall (next_at t k x) actor) (sym (call-made t k x c call) ∙ made) wrong)
 
   pub lists-nothing : Unlisted (next_at t k x) → ⊥
-  lists-nothing = lists-neither t k x (λ folder read.
-      ap (λ (c : Told). with_call folder c read) made ∙ no-reading (state t k) folder a (reply_seen x.reply) read plain)
+  lists-nothing (begun, actor, folder, unique, listing, there, shown) =
+      let place = listing.reads.0 in
+      let part = listing.reads.1 in
+      no-list (state t k) a (reply_seen x.reply) plain folder place answered.Ok part.0
+      (sym made ∙ call-made t k x (told.List folder place answered.Ok part.0) part.1.1)
 
 -- no step of a story is an answer
 pub gives-up-nothing : (t : Story) (k : ℕ) (x : Step) → GaveUp (next_at t k x) → ⊥

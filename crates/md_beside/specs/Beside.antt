@@ -77,7 +77,7 @@ pub record Owes (h : History) : Type 0 where
   pub one_name : law.TwoNames h → ⊥
   pub one_folder : owed.InTwoFolders h → ⊥
   -- to deliveries
-  pub unmixed : owed.Mixed h → ⊥
+  pub unmixed : law.Mixed h → ⊥
   pub unnamed : owed.NamedByAnother h → ⊥
   pub uncleaned : law.CleanedEarly h → ⊥
   -- to copies, whose messages share a file

@@ -41,7 +41,7 @@ pub record OwesJobs (h : History) : Type 0 where
 
 -- To deliveries also: no step writes to a file that another made, or gives a path to a file that another made and that readers don't see.
 pub record OwesDeliveries (h : History) : Type 0 where
-  pub unmixed : owed.Mixed h → ⊥
+  pub unmixed : law.Mixed h → ⊥
   pub unnamed : owed.NamedByAnother h → ⊥
 
 -- it is so after each step of another program

@@ -5,12 +5,15 @@
 #![tactic(auto)]
 
 mod clauses;
-mod judge;
+mod costs;
+mod grade;
 mod log;
+mod order;
 mod session;
 mod stretch;
 mod words;
 
+pub use grade::{GRADES, Grade};
 pub use log::{Finding, judge_log};
 pub use md_log::{CLAUSES, Clause, LineFault, LogFault};
 pub use session::Session;

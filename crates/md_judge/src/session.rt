@@ -17,8 +17,10 @@ ghost use Rattle.md_judge.specs.Placed.{IsUnplaced, HasLines, HasWaiting, HasPla
 ghost use Rattle.md_judge.specs.Taken.{IsWithoutTicks, Agrees, Answers, AnswersAny, HasTaken, HasEnded, with_given};
 
 use crate::clauses::Clauses;
-use crate::judge::Judge;
+use crate::costs::Costs;
+use crate::grade::Grade;
 use crate::log::Finding;
+use crate::order::order;
 use crate::stretch::{Stretch, Waiting};
 use crate::words::Passages;
 use md_dirs::Path;
@@ -41,12 +43,13 @@ pub struct Session {
     has_begun: bool,
     watch: Watch,
     allowed: Clauses,
-    /// It says in which order calls that overlap may have been made, and to which earlier line a finding goes back.
-    judge: Judge,
     findings: Vec<Finding>,
     passages: Passages,
+    costs: Costs,
     lines: u64,
     stretch: Stretch,
+    /// The line of each entry of the watch: of the files and the further names of the beginning, and then of the steps.
+    entries: Vec<u32>,
 }
 
 impl Session {
@@ -60,11 +63,12 @@ impl Session {
             has_begun: false,
             watch: Watch::new(alloc),
             allowed: Clauses::none(),
-            judge: Judge::new(alloc),
             findings: Vec::new(alloc),
             passages: Passages::new(alloc),
+            costs: Costs::new(alloc),
             lines: 0,
             stretch: Stretch::new(alloc),
+            entries: Vec::new(alloc),
         }
     }
 
@@ -148,6 +152,7 @@ impl Session {
             }
         }
         self.passages.sort(&order)?;
+        self.costs.sort(&order)?;
         self.findings = findings;
         Ok(())
     }
@@ -169,6 +174,11 @@ impl Session {
     /// The actor and the call of a finding, by its number from 0, as the log spells them. The names that a `list` line shows are left out.
     pub fn words(&self, finding: usize) -> (&[u8], &[u8]) {
         self.passages.words(finding)
+    }
+
+    /// What a finding costs, by its number from 0. That an actor removed a message as its user wished is known once he says so.
+    pub fn grade(&self, finding: usize) -> Grade {
+        self.costs.grade(finding)
     }
 
     /// Hands out what was found. The session is not to be asked any more.
@@ -215,8 +225,8 @@ impl Session {
                 self.allowed.add(clause);
                 Ok(())
             }
-            Line::File { path, stamp } => self.put_file(number as usize, &path, stamp),
-            Line::Also { path, old } => self.put_name(number as usize, &path, &old),
+            Line::File { path, stamp } => self.put_file(number, &path, stamp),
+            Line::Also { path, old } => self.put_name(number, &path, &old),
             Line::Step(_) => Ok(()),
         }
     }
@@ -229,11 +239,10 @@ impl Session {
     {
         name_folder(&mut self.folders, name)?;
         self.watch.put_folder()?;
-        self.judge.add_folder()?;
         Ok(())
     }
 
-    fn put_file(&mut self, line: usize, path: &Path, stamp: u64) -> Result<(), LineFault>
+    fn put_file(&mut self, line: u64, path: &Path, stamp: u64) -> Result<(), LineFault>
         ensures puts { (m : Moment) → Holds (opening m) self.old.watch → OnOk result (PutsFile m path.now stamp self.new.watch) }
         ensures refused { (m : Moment) → Holds (opening m) self.old.watch
             → IfErr result (λ fault. fault ≢ NoMemory → IsPathRefused m path.now fault) }
@@ -241,10 +250,11 @@ impl Session {
         ensures folders { self.new.folders ≡ self.old.folders }
     {
         self.watch.put_file(path, stamp)?;
-        known(self.judge.put_file(line, path, stamp))
+        self.entries.push(short(line))?;
+        Ok(())
     }
 
-    fn put_name(&mut self, line: usize, path: &Path, old: &Path) -> Result<(), LineFault>
+    fn put_name(&mut self, line: u64, path: &Path, old: &Path) -> Result<(), LineFault>
         ensures puts { (m : Moment) → Holds (opening m) self.old.watch → OnOk result (PutsName m path.now old.now self.new.watch) }
         ensures refused { (m : Moment) → Holds (opening m) self.old.watch
             → IfErr result (λ fault. fault ≢ NoMemory → IsNameRefused m path.now old.now fault) }
@@ -252,7 +262,8 @@ impl Session {
         ensures folders { self.new.folders ≡ self.old.folders }
     {
         self.watch.put_name(path, old)?;
-        known(self.judge.put_name(line, path, old))
+        self.entries.push(short(line))?;
+        Ok(())
     }
 
     fn take_step(&mut self, number: u64, step: Step, text: &[u8]) -> Result<(), LogFault>
@@ -266,7 +277,7 @@ impl Session {
             return done_at(number, waits);
         }
         self.judge_stretch()?;
-        match self.judge_step(number as usize, number, &step, text) {
+        match self.judge_step(number, &step, text) {
             Ok(_) => Ok(()),
             Err(AllocError) => Err(fault_at(number, LineFault::NoMemory)),
         }
@@ -282,7 +293,7 @@ impl Session {
         if self.stretch.is_empty() {
             return Ok(());
         }
-        let order = match self.judge.order(self.stretch.steps(), self.stretch.lines()) {
+        let order = match order(self.alloc, &self.watch, self.stretch.steps()) {
             Ok(order) => order,
             Err(stop) => return Err(fault_at(self.stretch.line(stop.step), stop.why.fault())),
         };
@@ -314,7 +325,7 @@ impl Session {
         };
         let judged = {
             let Waiting { step, text } = waiting;
-            self.judge_step(moment as usize, line, &step, &text)
+            self.judge_step(line, &step, &text)
         };
         match judged {
             Ok(false) => Ok(()),
@@ -324,23 +335,17 @@ impl Session {
     }
 
     /// Judges the next step, and says whether directories don't give its reply.
-    fn judge_step(
-        &mut self,
-        moment: usize,
-        line: u64,
-        step: &Step,
-        text: &[u8],
-    ) -> Result<bool, AllocError>
+    fn judge_step(&mut self, line: u64, step: &Step, text: &[u8]) -> Result<bool, AllocError>
         ensures judges { (h : History) → Holds h self.old.watch → OnOk result (Judges h line step.now self.old self.new) }
         ensures wrong { (h : History) → Holds h self.old.watch → IfOk result (λ is_wrong. IsTrue is_wrong ↔ Breaks NotADirectory (next h step.now)) }
         ensures keeps { OnOk result (KeepsHead self.old self.new) }
     {
-        self.judge.go_to(moment);
-        self.judge.step(moment, step)?;
         let broken = self.watch.step(step)?;
+        self.entries.push(short(line))?;
         for clause in CLAUSES {
-            self.note(line, clause, &broken, text)?;
+            self.note(line, clause, step, &broken, text)?;
         }
+        self.costs.hear(step)?;
         Ok(broken.breaks(Clause::NotADirectory))
     }
 
@@ -348,6 +353,7 @@ impl Session {
         &mut self,
         line: u64,
         clause: Clause,
+        step: &Step,
         broken: &Broken,
         text: &[u8],
     ) -> Result<(), AllocError>
@@ -362,32 +368,28 @@ impl Session {
             → AreInOrderAtLines self.new.findings.items × AreBelowAtLine self.new.findings.items line (suc (clause_index clause))) }
     {
         if broken.breaks(clause) && !self.allowed.contains(clause) {
-            let before = self.before(clause);
+            let before = self.before(step, clause);
             self.findings.push(Finding {
                 line,
                 clause,
                 before,
             })?;
             self.passages.add(text)?;
+            self.costs.add(clause, step, broken)?;
         }
         Ok(())
     }
 
-    /// The earlier line that a finding goes back to, where there is one.
-    fn before(&self, clause: Clause) -> Option<u64> {
-        let moment = self.judge.before(clause)?;
-        Some(self.stretch.line_at(moment))
+    /// The earlier line that a finding of the last step goes back to, where there is one.
+    fn before(&self, step: &Step, clause: Clause) -> Option<u64> {
+        let entry = self.watch.earlier(step, clause)?;
+        Some(u64::from(*self.entries.get(entry)?))
     }
 }
 
-/// The watch has taken what is put at the beginning: it is put, or there is no memory.
-fn known(put: Result<(), LineFault>) -> Result<(), LineFault>
-    ensures { IfErr result (λ fault. fault ≡ NoMemory) }
-{
-    match put {
-        Ok(()) => Ok(()),
-        Err(_) => Err(LineFault::NoMemory),
-    }
+/// A line, as it is kept: it takes four bytes. A log has none past 4,294,967,294.
+fn short(line: u64) -> u32 {
+    u32::try_from(line).unwrap_or(u32::MAX)
 }
 
 /// The number of the next line. There is no memory for a line past 18,446,744,073,709,551,615.

@@ -52,23 +52,11 @@ impl Stretch {
         self.steps.as_slice()
     }
 
-    pub(crate) fn lines(&self) -> &[usize] {
-        self.lines.as_slice()
-    }
-
     /// The line of a waiting step, by its number from 0.
     pub(crate) fn line(&self, at: usize) -> u64
         ensures { result ≡ unwrap_or (slice_get self.now.lines.items at) 0 }
     {
         self.lines.get(at).copied().unwrap_or(0) as u64
-    }
-
-    /// The line whose step was placed at a moment.
-    pub(crate) fn line_at(&self, moment: usize) -> u64 {
-        match self.moved.get(&moment) {
-            None => moment as u64,
-            Some(line) => *line,
-        }
     }
 
     pub(crate) fn add(

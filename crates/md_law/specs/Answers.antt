@@ -9,7 +9,7 @@ use Rattle.md_log.specs.declared.line.Deed.TheVariants as deed
 use Rattle.md_log.specs.declared.line.Reply.{Reply}
 use Rattle.md_log.specs.declared.line.Reply.TheVariants as reply
 use Rattle.md_log.specs.declared.line.Said.{Said}
-use Rattle.md_law.specs.History.{History, at, before, IsCall, IsBy, Since, IsUpTo}
+use Rattle.md_law.specs.History.{History, at, before, IsCall, IsBy, Since}
 use Rattle.md_law.specs.Messages.{is_tmp, IsOf, IsMessageAt, IsThere}
 use Rattle.md_law.specs.Readings.{ShowsNames}
 
@@ -26,15 +26,6 @@ Tells h c s = IsBy h c.actor × IsCall h (call.Answer s c.folder c.unique)
 -- the last step is no answer of the actor's about the message
 abbrev pub TellsNothing : History → Claim → Type 0
 TellsNothing h c = (s : Said) → Tells h c s → ⊥
-
--- it was so at a step of the actor's own since its last answer about the message
-abbrev pub Own : (History → Type 0) → Claim → History → Type 0
-Own P c h = Since (λ m. IsBy m c.actor × TellsNothing m c × P m) (λ m. TellsNothing m c) h
-
--- it is so now, or was so at a moment that a step of the actor's own, since its last answer about the message, had not passed: the moment
--- before that step counts
-abbrev pub Lately : (History → Type 0) → Claim → History → Type 0
-Lately P c h = P h ⊎ ((m : History) × P m × IsUpTo m h × Own (λ k. IsUpTo (before k) m) c h)
 
 -- ---- the last step
 
@@ -68,3 +59,17 @@ LosesPath old new c =
 -- it changes the paths of the message
 abbrev pub ChangesMessage : History → Claim → Type 0
 ChangesMessage h c = LosesPath (at (before h)) (at h) c ⊎ LosesPath (at h) (at (before h)) c
+
+-- ---- since the actor's last answer about the message
+
+-- it was so at a step of the actor's own
+abbrev pub Own : (History → Type 0) → Claim → History → Type 0
+Own P c h = Since (λ m. IsBy m c.actor × TellsNothing m c × P m) (λ m. TellsNothing m c) h
+
+-- the actor took a step
+abbrev pub IsAtWork : Claim → History → Type 0
+IsAtWork c h = Own (λ m. Unit {0}) c h
+
+-- it is so now, or was so at a moment while the actor was at work, and the actor did not change the message itself since then
+abbrev pub Lately : (History → Type 0) → Claim → History → Type 0
+Lately P c h = P h ⊎ Since (λ m. P m × IsAtWork c m) (λ m. TellsNothing m c × (IsBy m c.actor × ChangesMessage m c → ⊥)) h

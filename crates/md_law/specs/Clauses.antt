@@ -19,7 +19,7 @@ use Rattle.md_log.specs.declared.line.Said.TheVariants as said
 use Rattle.md_name.specs.Names.{unique_of}
 use Rattle.md_law.specs.History.{History, at, now, before, ask_at, ask_between, IsCall, IsBy, Once, Since}
 use Rattle.md_law.specs.Messages.{is_message, IsOf, IsMessageAt, IsThere, IsSeen, IsTrashed, ShowsFlags}
-use Rattle.md_law.specs.Files.{Names, Leaves, Adds, Takes, BeginsToBeSeen, Writes, IsUnflushed, IsCut, WasInCur, IsMaker}
+use Rattle.md_law.specs.Files.{Names, Leaves, Adds, Takes, BeginsToBeSeen, MayWrite, IsUnflushed, IsCut, WasInCur, IsMaker}
 use Rattle.md_law.specs.Readings.{Looker, IsReading, IsMomentOf, Shows, IsListing, IsOfListing}
 use Rattle.md_law.specs.Answers.{Claim, Tells, TellsNothing, Own, Lately, ActsOn, Looks, AddsMessage, TakesMessage, ChangesMessage}
 
@@ -76,9 +76,9 @@ Overwritten h = (p : Path) × (m n : ℕ) × (file_at (at (before h)) p ≡ Some
 abbrev pub MakesMessage : History → Type 0
 MakesMessage h = (p : Path) × IsCall h (call.At deed.Create p reply.Ok) × (is_message p ≡ true)
 
--- a message is written to where readers see it
+-- a message is written to where readers see it, or may have been
 abbrev pub WritesSeen : History → Type 0
-WritesSeen h = (file : ℕ) × Writes h file reply.Ok × IsSeen (at (before h)) file
+WritesSeen h = (file : ℕ) × MayWrite h file × IsSeen (at (before h)) file
 
 -- a file begins to be seen whose last write has failed
 abbrev pub ShowsCut : History → Type 0
@@ -89,9 +89,10 @@ ShowsCut h = (file : ℕ) × BeginsToBeSeen h file × IsCut (before h) file
 abbrev pub SeenBeforeWhole : History → Type 0
 SeenBeforeWhole h = MakesMessage h ⊎ WritesSeen h ⊎ ShowsCut h
 
--- "Using maildir format", tmp/unique is the deliverer's own: a file is written to by an actor that did not make it.
+-- "Using maildir format", tmp/unique is the deliverer's own: a file is written to by an actor that did not make it. (Also where the write
+-- failed.)
 abbrev pub Mixed : History → Type 0
-Mixed h = (actor : List ℕ) × (file : ℕ) × IsBy h actor × Writes h file reply.Ok × (IsMaker (before h) actor file → ⊥)
+Mixed h = (actor : List ℕ) × (file : ℕ) × IsBy h actor × MayWrite h file × (IsMaker (before h) actor file → ⊥)
 
 -- "Using maildir format", the deliverer calls fsync before it links: readers begin to see bytes that were not flushed.
 abbrev pub NotFlushed : History → Type 0
@@ -170,7 +171,7 @@ abbrev pub GaveUp : History → Type 0
 GaveUp h = (c : Claim) × (s : Said) × Tells h c s × IsSuccess s × IsThere (at (before h)) c.folder c.unique × IsLeft c (before h)
 
 -- what an answer says is so: of deliveries, moves and expunges by a step of the actor's own; of flags and of what is not there at a moment
--- while it was at work; of a failure, that no step of its own changed the message
+-- while it was at work, and since it last changed the message itself; of a failure, that no step of its own changed the message
 abbrev pub IsSo : Said → Claim → History → Type 0
 IsSo said.Delivered c h = Own (λ m. AddsMessage m c) c h
 IsSo (said.Flags flags) c h = Lately (λ m. (p : Path) × (file : ℕ) × IsMessageAt (at m) c.folder c.unique p file × (p.place ≡ Cur)

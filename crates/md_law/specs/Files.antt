@@ -36,6 +36,10 @@ BeginsToBeSeen h file = IsSeen (at h) file × (IsSeen (at (before h)) file → �
 abbrev pub Writes : History → ℕ → Reply → Type 0
 Writes h file r = (p : Path) × IsCall h (call.At deed.Write p r) × (file_at (at (before h)) p ≡ Some file)
 
+-- it is a write to the file, done or failed: one that failed may have left a part of its bytes
+abbrev pub MayWrite : History → ℕ → Type 0
+MayWrite h file = (r : Reply) × (r ≢ reply.NotFound) × Writes h file r
+
 -- it flushes the file
 abbrev pub Flushes : History → ℕ → Type 0
 Flushes h file = (p : Path) × IsCall h (call.At deed.Flush p reply.Ok) × (file_at (at (before h)) p ≡ Some file)

@@ -1,25 +1,15 @@
--- What each program owes the others, so that a job which runs beside it keeps its promises: clauses that are sharper than those of the law
--- of the same name, and further ones. Each says of a history that its last step breaks the clause.
+-- What each program owes the others, so that a job which runs beside it keeps its promises: these clauses, of which one is sharper than that
+-- of the law of the same name, beside TwoNames, Mixed, CleanedEarly and MovedBack of the law. Each says of a history that its last step
+-- breaks the clause.
 use Rattle.std.specs.Prelude.{ℕ, ◌≡◌, ◌≢◌, ◌≤◌, ◌-◌, List, Some, true}
 use Rattle.md_dirs.specs.State.{file_at, file_by}
 use Rattle.md_dirs.specs.declared.paths.File.{File}
 use Rattle.md_dirs.specs.declared.paths.Path.{Path}
 use Rattle.md_dirs.specs.declared.paths.Place.TheVariants.{Tmp}
 use Rattle.md_name.specs.Names.{unique_of}
-use Rattle.md_log.specs.declared.line.Reply.{Reply}
-use Rattle.md_log.specs.declared.line.Reply.TheVariants as reply
 use Rattle.md_law.specs.History.{History, at, now, before, IsBy, Once}
 use Rattle.md_law.specs.Messages.{is_message, IsSeen, IsMessageAt}
-use Rattle.md_law.specs.Files.{Names, Adds, Writes, IsMaker}
-
--- the last step is a write to the file, done or failed: one that failed may have left a part of its bytes
-abbrev pub MayWrite : History → ℕ → Type 0
-MayWrite h file = (r : Reply) × (r ≢ reply.NotFound) × Writes h file r
-
--- "Using maildir format", tmp/unique is the deliverer's own: a file is written to by another actor than made it. (Also where the write
--- failed.)
-abbrev pub Mixed : History → Type 0
-Mixed h = (actor : List ℕ) × (file : ℕ) × IsBy h actor × MayWrite h file × (IsMaker (before h) actor file → ⊥)
+use Rattle.md_law.specs.Files.{Names, Adds, MayWrite, IsMaker}
 
 -- "Using maildir format", a message is written in tmp: a file is written to that readers saw once.
 abbrev pub Rewritten : History → Type 0

@@ -68,9 +68,12 @@ with_place Tmp r = r
 with_place New r = if r.cur then nothing_read else record { new = true; cur = false }
 with_place Cur r = if r.new then nothing_read else record { new = false; cur = true }
 
+-- What an actor moves between its readings it knows of, so a call that is no reading breaks its listings off: the next reading begins one
+-- anew. A reading that is open at such a call counts once it is whole, since a loop that moves what it reads shows it before.
 abbrev pub with_call : ℕ → Call → Read → Read
 with_call folder (call.List f place reply.Ok shown) r = if f == folder then with_place place r else r
-with_call folder c r = r
+with_call folder (call.List f place q shown) r = r
+with_call folder c r = nothing_read
 
 -- what the actor's listing of the folder has read
 unfoldable pub read_of : History → List ℕ → ℕ → Read
@@ -78,12 +81,13 @@ read_of (opening m) actor folder = nothing_read
 read_of (next past x) actor folder =
     if bytes_eq x.actor actor then with_call folder x.call (read_of past actor folder) else read_of past actor folder
 
--- The last step completes a listing of a folder by an actor: of that listing it had read nothing at the moment of a history, and something
--- at each moment since.
+-- The last step completes a listing of a folder by an actor: it ends a reading, and of that listing the actor had read nothing at the moment
+-- of a history, and something at each moment since.
 pub record IsListing (first h : History) (actor : List ℕ) (folder : ℕ) : Type 0 where
   pub begins : read_of first actor folder ≡ nothing_read
   pub goes_on : Since (λ m. m ≡ first) (λ m. read_of m actor folder ≢ nothing_read) (before h)
   pub more : read_of (before h) actor folder ≢ nothing_read
+  pub reads : (place : Place) × IsPart h (record { actor = actor; folder = folder; place = place }) reply.Ok
   pub ends : read_of h actor folder ≡ nothing_read
 
 -- a whole reading of new or cur is one of the listing's

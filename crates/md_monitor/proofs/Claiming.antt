@@ -19,10 +19,10 @@ use Rattle.md_log.specs.declared.line.Reply.{Reply}
 use Rattle.md_log.specs.declared.line.Reply.TheVariants as reply
 use Rattle.md_log.specs.declared.line.Said.{Said}
 use Rattle.md_log.specs.declared.line.Step.{Step}
-use Rattle.md_law.specs.History.{Moment, History, opening, next, at, now, before, moment, Once, Since, IsUpTo, IsBy, IsCall}
+use Rattle.md_law.specs.History.{Moment, History, opening, next, at, now, moment, Since, IsBy, IsCall}
 use Rattle.md_law.specs.Messages.{is_tmp, IsOf, IsMessageAt, IsThere, ShowsFlags}
 use Rattle.md_law.specs.Readings.{ShowsNames}
-use Rattle.md_law.specs.Answers.{Claim, TellsNothing, Own, ActsBy, ActsOn, Looks, AddsMessage, TakesMessage, ChangesMessage}
+use Rattle.md_law.specs.Answers.{Claim, TellsNothing, Own, IsAtWork, ActsBy, ActsOn, Looks, AddsMessage, TakesMessage, ChangesMessage}
 use Rattle.md_law.specs.Clauses.{IsLeft}
 use Rattle.md_monitor.specs.Changes.{change_of}
 use Rattle.md_monitor.specs.Files.{is_some_and}
@@ -37,7 +37,6 @@ use Rattle.md_monitor.proofs.Telling.{turned-is, left-is}
 use Rattle.md_monitor.proofs.Remembering.{of-is}
 use Rattle.md_monitor.proofs.Noticing.{is-there}
 use Rattle.md_monitor.proofs.Parts.{more-is}
-use Rattle.md_monitor.proofs.Moments.{upto-itself, upto-next, upto-before, upto-trans, upto-same, since-map}
 
 -- ---- what directories show of a message
 
@@ -111,17 +110,9 @@ unlinked-by k = (λ t. absurd (cc), λ (p, r, is). absurd (cc is))
 
 -- ---- a step
 
--- it is so at a moment that a step of the actor's own, since its last answer, had not passed
+-- it was so at a moment while the actor was at work, and the actor did not change the message itself since then
 abbrev pub Was : (History → Type 0) → Claim → History → Type 0
-Was P c h = (m : History) × P m × IsUpTo m h × Own (λ k. IsUpTo (before k) m) c h
-
--- a step of the actor's own, since its last answer
-abbrev pub IsAtWork : Claim → History → Type 0
-IsAtWork c h = Own (λ m. Unit {0}) c h
-
-pub own-map : (c : Claim) (P R : History → Type 0) (h : History) → ((k : History) → IsUpTo k h → P k → R k) → Own P c h → Own R c h
-own-map c P R h map own = since-map (λ m. IsBy m c.actor × TellsNothing m c × P m) (λ m. IsBy m c.actor × TellsNothing m c × R m)
-    (λ m. TellsNothing m c) h (λ k up (by, nothing, holds). (by, nothing, map k up holds)) own
+Was P c h = Since (λ m. P m × IsAtWork c m) (λ m. TellsNothing m c × (IsBy m c.actor × ChangesMessage m c → ⊥)) h
 
 module _ (past : History) (x : Step) (c : Claim) where
   abbrev h : History
@@ -214,41 +205,13 @@ module _ (past : History) (x : Step) (c : Claim) where
 
   -- ---- what was so at a moment
 
-  abbrev WasNext : (History → Type 0) → Type 0
-  WasNext P = TellsNothing h c × ((IsBy h c.actor × (P past ⊎ P h)) ⊎ ((IsAtWork c past × P h) ⊎ Was P c past))
-
-  was-to : (P : History → Type 0) → Was P c h → WasNext P
-  unfolding Once Since
-  was-to P (m, is, inl same, inl own) = (own.1, inl (own.0, inr (subst P (sym same) is)))
-  was-to P (m, is, inr low, inl own) = (own.1, inl (own.0, inl (subst P (upto-same m past low own.2) is)))
-  was-to P (m, is, inl same, inr rest) =
-      (rest.0, inr (inl (own-map c (λ k. IsUpTo (before k) m) (λ k. Unit {0}) past (λ k up step. tt) rest.1, subst P (sym same) is)))
-  was-to P (m, is, inr low, inr rest) = (rest.0, inr (inr (m, is, low, rest.1)))
-
-  was-from : (P : History → Type 0) → WasNext P → Was P c h
-  unfolding Once Since
-  was-from P (nothing, inl (by, inl is)) = (past, is, inr (upto-itself past), inl (by, nothing, upto-itself past))
-  was-from P (nothing, inl (by, inr is)) = (h, is, upto-itself h, inl (by, nothing, inr (upto-itself past)))
-  was-from P (nothing, inr (inl (work, is))) = (
-    h,
-    is,
-    upto-itself h,
-    inr (
-      nothing,
-      own-map c (λ k. Unit {0}) (λ k. IsUpTo (before k) h) past
-          (λ k up step. upto-next (before k) past x (upto-trans (before k) k past (upto-before k) up)) work,
-    ),
-  )
-  was-from P (nothing, inr (inr (m, is, low, own))) = (m, is, inr low, inr (nothing, own))
-
-  -- what the monitor keeps of it
-  lately-next : (is : State → Bool) (P : History → Type 0) → ((m : History) → Decides (is (at m)) (P m)) → (work old : Bool)
-      → Decides work (IsAtWork c past) → Decides old (Was P c past)
-      → Decides (found.lately_after (at past) (now h) x c is work old) (Was P c h)
-  unfolding moment
-  lately-next is P each work old working was = Decides-like _ (was-from P) (was-to P) (Decides-and _ _ nothing-is
-      (Decides-or _ _ (Decides-and _ _ own-is (Decides-or _ _ (each past) (each h)))
-      (Decides-or _ _ (Decides-and _ _ working (each h)) was)))
+  lately-next : (is work old : Bool) (P : History → Type 0) → Decides is (P h) → Decides work (IsAtWork c past)
+      → Decides old (Was P c past) → Decides (found.lately_after (at past) (now h) x c is work old) (Was P c h)
+  unfolding Since
+  lately-next is work old P here working was = Decides-or _ _
+      (Decides-like _ (λ (at_work, is). (is, at_work)) (λ (is, at_work). (at_work, is))
+      (Decides-and _ _ (own-next true work (λ m. Unit {0}) (λ t. tt, λ u. refl) working) here))
+      (Decides-and _ _ (Decides-and _ _ nothing-is (Decides-not _ (Decides-and _ _ own-is changes-is))) was)
 
 -- ---- what is kept
 
@@ -270,7 +233,8 @@ module _ (m : Moment) (c : Claim) where
   own-first P = (λ t. absurd (cc), λ own. absurd (let none = own.0.1 in cc))
 
   was-first : (P : History → Type 0) → Decides false (Was P c (opening m))
-  was-first P = (λ t. absurd (cc), λ was. absurd (let none = (own-first (λ k. IsUpTo (before k) was.0)).1 was.3 in cc))
+  unfolding Since
+  was-first P = (λ t. absurd (cc), λ was. absurd (let none = (own-first (λ k. Unit {0})).1 was.1 in cc))
 
   claim-first : IsClaimKept (opening m) c claim_first
   unfolding Since
@@ -287,7 +251,7 @@ module _ (m : Moment) (c : Claim) where
 
 claim-next : (past : History) (x : Step) (c : Claim) (k : ClaimKept) → IsClaimKept past c k
     → IsClaimKept (next past x) c (claim_after (at past) (now (next past x)) x c k)
-unfolding Since
+unfolding Since moment
 claim-next past x c k was = record {
   is_left = Decides-or _ _ (refused-is past x c)
       (Decides-and _ _ (Decides-and _ _ (nothing-is past x c) (untried-is past x c)) was.is_left);
@@ -297,10 +261,10 @@ claim-next past x c k was = record {
   has_expunged = own-next past x c _ _ (λ m. TakesMessage m c × ((p : Path) × (r : Reply) × IsCall m (call.At deed.Unlink p r)))
       (expunges-is past x c) was.has_expunged;
   has_changed = own-next past x c _ _ (λ m. ChangesMessage m c) (changes-is past x c) was.has_changed;
-  was_absent = lately-next past x c (λ s. not (is_there s c.folder c.unique)) (λ m. IsThere (at m) c.folder c.unique → ⊥)
-      (λ m. Decides-not _ (is-there m c.folder c.unique)) k.is_at_work k.was_absent was.is_at_work was.was_absent;
-  was_flagged = λ flags. lately-next past x c (λ s. is_flagged s c flags) (IsFlagged c flags)
-      (flagged-is c flags) k.is_at_work (k.was_flagged flags) was.is_at_work (was.was_flagged flags);
+  was_absent = lately-next past x c _ k.is_at_work k.was_absent (λ m. IsThere (at m) c.folder c.unique → ⊥)
+      (Decides-not _ (is-there (next past x) c.folder c.unique)) was.is_at_work was.was_absent;
+  was_flagged = λ flags. lately-next past x c _ k.is_at_work (k.was_flagged flags) (IsFlagged c flags)
+      (flagged-is c flags (next past x)) was.is_at_work (was.was_flagged flags);
 }
 
 pub claim-kept : (h : History) (c : Claim) → IsClaimKept h c (claims_kept h c)

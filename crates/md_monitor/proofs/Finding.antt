@@ -17,16 +17,16 @@ use Rattle.md_log.specs.declared.line.Reply.TheVariants as reply
 use Rattle.md_log.specs.declared.line.Step.{Step}
 use Rattle.md_law.specs.History.{History, next, at, now, moment}
 use Rattle.md_law.specs.Messages.{is_message, IsSeen}
-use Rattle.md_law.specs.Files.{Writes, Leaves, IsCut, IsUnflushed, IsMaker}
+use Rattle.md_law.specs.Files.{Leaves, IsCut, IsUnflushed, IsMaker}
 use Rattle.md_law.specs.Clauses as law
 use Rattle.md_monitor.specs.Changes.{change_of, turned_by}
-use Rattle.md_monitor.specs.Files.{files_kept, is_some_and, is_new, is_ok, is_seen, written_by}
+use Rattle.md_monitor.specs.Files.{files_kept, is_new}
 use Rattle.md_monitor.specs.Found.{breaks_by_files, makes_message, is_from_new, is_cleaned_early}
-use Rattle.md_monitor.proofs.Tests.{some-and, some-is, ok-is, tmp-is, new-is}
+use Rattle.md_monitor.proofs.Tests.{some-and, some-is, tmp-is, new-is}
 use Rattle.md_monitor.proofs.Seeing.{seen-is}
 use Rattle.md_monitor.proofs.Stepping.{is-call, is-by}
 use Rattle.md_monitor.proofs.Keeping.{kept}
-use Rattle.md_monitor.proofs.Telling.{made-it, other-than, back-is, shown-is, written-is, turned-is, left-is}
+use Rattle.md_monitor.proofs.Telling.{made-it, other-than, back-is, shown-is, may_write-is, turned-is, left-is}
 
 -- a call from a path of a message in new
 abbrev IsFromNew : Call → Type 0
@@ -64,23 +64,18 @@ module _ (past : History) (x : Step) where
       (λ (p, is, message). (p, (is-call past x _).0 is, message))
       (makes_message-is x.call)
 
-  writes_seen : Decides (is_some_and (written_by (at past) x.call) (λ w. is_ok w.1 && is_seen (at past) w.0)) (law.WritesSeen h)
-  writes_seen = Decides-like _
-      (λ (n, r, ok, wrote, seen). (n, subst (λ q. Writes h n q) ok wrote, seen))
-      (λ (n, wrote, seen). (n, reply.Ok, refl, wrote, seen))
-      (written-is past x is_ok (λ r. r ≡ reply.Ok) ok-is _ (IsSeen (at past)) (seen-is (at past)))
-
   pub seen_before_whole : Decides (found clause.SeenBeforeWhole) (law.SeenBeforeWhole h)
   seen_before_whole = Decides-like _
       (λ either. elim either [ inl makes ↦ inl makes | inr rest ↦ inr rest ])
       (λ either. elim either [ inl makes ↦ inl makes | inr rest ↦ inr rest ])
-      (Decides-or _ _ makes_seen (Decides-or _ _ writes_seen (shown-is past x _ (IsCut past) (λ n. (kept past n).is_cut))))
+      (Decides-or _ _ makes_seen
+      (Decides-or _ _ (may_write-is past x _ (IsSeen (at past)) (seen-is (at past))) (shown-is past x _ (IsCut past) (λ n. (kept past n).is_cut))))
 
   pub mixed : Decides (found clause.Mixed) (law.Mixed h)
   mixed = Decides-like _
-      (λ (n, r, ok, wrote, other). (x.actor, n, (is-by past x x.actor).1 refl, subst (λ q. Writes h n q) ok wrote, other))
-      (λ (actor, n, by, wrote, other). (n, reply.Ok, refl, wrote, other-than past x past actor n by other))
-      (written-is past x is_ok (λ r. r ≡ reply.Ok) ok-is _ (λ n. IsMaker past x.actor n → ⊥) (λ n. Decides-not _ (made-it past n x.actor)))
+      (λ (n, may, other). (x.actor, n, (is-by past x x.actor).1 refl, may, other))
+      (λ (actor, n, by, may, other). (n, may, other-than past x past actor n by other))
+      (may_write-is past x _ (λ n. IsMaker past x.actor n → ⊥) (λ n. Decides-not _ (made-it past n x.actor)))
 
   pub not_flushed : Decides (found clause.NotFlushed) (law.NotFlushed h)
   not_flushed = shown-is past x _ (IsUnflushed past) (λ n. (kept past n).is_unflushed)

@@ -74,7 +74,7 @@ module _ (past : History) (x : Step) where
   -- what is found of what is owed is what is owed
   pub owed-is : (c : OwedClause) → Decides (finds_owed (at past) (now h) (kept_of past) x c) (BreaksOwed c h)
   owed-is two_names = messages.two_names past x
-  owed-is mixed = owing.mixed past x
+  owed-is mixed = files.mixed past x
   owed-is named_by_another = owing.named_by_another past x
   owed-is cleaned_early = files.cleaned_early past x
   owed-is rewritten = owing.rewritten past x

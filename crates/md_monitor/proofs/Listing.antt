@@ -17,7 +17,7 @@ use Rattle.md_log.specs.declared.line.Reply.TheVariants as reply
 use Rattle.md_log.specs.declared.line.Step.{Step}
 use Rattle.md_law.specs.History.{Moment, History, opening, next, at, before, Since}
 use Rattle.md_law.specs.Messages.{is_message, IsThere}
-use Rattle.md_law.specs.Readings.{Looker, Reads, nothing_read, with_call, read_of, IsListing, IsMomentOf, IsOfListing}
+use Rattle.md_law.specs.Readings.{Looker, Reads, IsPart, nothing_read, with_call, read_of, IsListing, IsMomentOf, IsOfListing}
 use Rattle.md_law.specs.Clauses.{WasThere, WasListed, Unlisted}
 use Rattle.md_monitor.specs.Files.{count_where}
 use Rattle.md_monitor.specs.Messages.{is_there}
@@ -255,11 +255,32 @@ module _ (past : History) (x : Step) (actor : List ℕ) (folder : ℕ) where
   abbrev IsUnlisted : Path → Type 0
   IsUnlisted p = ((is_message p ≡ true) × (p.folder ≡ folder)) × IsLeftOut (unique_of p.name)
 
-  unlisted-by : Decides (found.is_complete x (readings_kept past) actor folder listing
+  -- a part of a reading that completes the listing ends that reading
+  ends-reading : (place : Place) (r : Reply) (shown : List (List ℕ)) → x.call ≡ call.List folder place r shown → IsComplete
+      → IsPart last (looker actor folder place) reply.Ok
+  unfolding read_of
+  ends-reading place r shown is complete = by (bytes_eq x.actor actor) refl r is
+    where
+      same : (b : Bool) (c : Call) → (bytes_eq x.actor actor) ≡ b → x.call ≡ c
+          → read_of last actor folder ≡ cond b (with_call folder c (read_of past actor folder)) (read_of past actor folder)
+      same b c is call-is = λ i. cond (is i) (with_call folder (call-is i) (read_of past actor folder)) (read_of past actor folder)
+
+      still : read_of last actor folder ≡ read_of past actor folder → IsPart last (looker actor folder place) reply.Ok
+      still same = absurd (complete.1 (λ none. complete.0 (sym same ∙ none)))
+
+      by : (b : Bool) → bytes_eq x.actor actor ≡ b → (q : Reply) → x.call ≡ call.List folder place q shown
+          → IsPart last (looker actor folder place) reply.Ok
+      by false other q call-is = still (same false x.call other refl)
+      by true own reply.Ok call-is = (shown, ((is-by past x actor).1 ((bytes_eq-Decides x.actor actor).0 own), (is-call past x _).1 call-is))
+      by true own q call-is = still (same true (call.List folder place q shown) own call-is)
+
+  unlisted-by : (place : Place) (r : Reply) (shown : List (List ℕ)) → x.call ≡ call.List folder place r shown
+      → Decides (found.is_complete x (readings_kept past) actor folder listing
       && nat_lt 0 (count_where (λ e. found.is_unlisted x (readings_kept past) actor folder listing e.0) (at past)))
       ((begun : History) × (unique : List ℕ) × IsListing begun last actor folder × IsLacking begun unique)
-  unlisted-by = Decides-like _ to from (Decides-and _ _ complete-is (some-where _ (λ p n. IsUnlisted p) (λ e. Decides-and _ _
-      (Decides-and (is_message e.0) _ (λ t. t, λ t. t) (Decides-eqb e.0.folder folder)) (left_out-is (unique_of e.0.name))) (at past)))
+  unlisted-by place r shown call-is = Decides-like _ to from (Decides-and _ _ complete-is (some-where _ (λ p n. IsUnlisted p)
+      (λ e. Decides-and _ _ (Decides-and (is_message e.0) _ (λ t. t, λ t. t) (Decides-eqb e.0.folder folder))
+      (left_out-is (unique_of e.0.name))) (at past)))
     where
       nothing : (HasRead actor folder last → ⊥) → (b : Bool) → has_read (read_of last actor folder) ≡ b
           → read_of last actor folder ≡ nothing_read
@@ -274,6 +295,7 @@ module _ (past : History) (x : Step) (actor : List ℕ) (folder : ℕ) where
             begins = it.1;
             goes_on = it.2;
             more = complete.0;
+            reads = (place, ends-reading place r shown call-is complete);
             ends = nothing complete.1 (has_read (read_of last actor folder)) refl;
           } in
           (it.0, unique_of p.name, is, to-lacking it.0 is (unique_of p.name) lacks.1)
@@ -296,13 +318,15 @@ module _ (past : History) (x : Step) (actor : List ℕ) (folder : ℕ) where
 
 module _ (past : History) (x : Step) where
   -- the call reads a directory of a folder of which the test holds
-  folder-is : (c : Call) (test : ℕ → Bool) (P : ℕ → Type 0) → ((folder : ℕ) → Decides (test folder) (P folder))
+  folder-is : (c : Call) (test : ℕ → Bool) (P : ℕ → Type 0)
+      → ((folder : ℕ) (place : Place) (r : Reply) (shown : List (List ℕ)) → c ≡ call.List folder place r shown
+      → Decides (test folder) (P folder))
       → Decides (reads_folder c test)
       ((folder : ℕ) × ((place : Place) × (r : Reply) × (shown : List (List ℕ)) × (c ≡ call.List folder place r shown)) × P folder)
   folder-is (call.List f place r shown) test P each = Decides-like _
       (λ holds. (f, (place, r, shown, refl), holds))
       (λ (folder, (q, e, names, is), holds). subst P (let same : f ≡ folder = cc is in sym same) holds)
-      (each f)
+      (each f place r shown refl)
   folder-is c test P each = (λ t. absurd (cc), λ (folder, (q, e, names, is), holds). absurd (cc is))
 
   pub unlisted : Decides (breaks_unlisted (at past) (readings_kept past) (listings_kept past) x) (Unlisted (next past x))
@@ -321,4 +345,4 @@ module _ (past : History) (x : Step) where
         ),
       ))
       (folder-is x.call _ (λ folder. (begun : History) × (unique : List ℕ) × IsListing begun (next past x) x.actor folder
-      × IsLacking past x x.actor folder begun unique) (λ folder. unlisted-by past x x.actor folder))
+      × IsLacking past x x.actor folder begun unique) (λ folder place r shown is. unlisted-by past x x.actor folder place r shown is))

@@ -55,12 +55,6 @@ upto-either a b (next past x) (inr low) (inr low') = upto-either a b past low lo
 
 -- ---- what has been so since a moment
 
-pub since-map : (P R Q : History → Type 0) (h : History) → ((k : History) → IsUpTo k h → P k → R k) → Since P Q h → Since R Q h
-unfolding Once Since
-since-map P R Q (opening m) map holds = map (opening m) refl holds
-since-map P R Q (next past x) map (inl is) = inl (map (next past x) (inl refl) is)
-since-map P R Q (next past x) map (inr rest) = inr (rest.0, since-map P R Q past (λ k low. map k (inr low)) rest.1)
-
 -- at each moment from the first on to the last, but at the first itself, this is so
 abbrev pub HoldsFrom : History → History → (History → Type 0) → Type 0
 HoldsFrom m h Q = (j : History) → IsUpTo m j → IsUpTo j h → (j ≡ m) ⊎ Q j

@@ -1,11 +1,10 @@
 -- What a monitor finds by files of what each program owes is what each owes.
-use Rattle.std.proofs.Common.{ℕ, ◌≡◌, ◌≢◌, ◌-◌, ◌≤◌, Some, Bool, refl}
+use Rattle.std.proofs.Common.{ℕ, ◌≡◌, ◌-◌, ◌≤◌, Some, refl}
 use Rattle.std.specs.Bool.{Decides}
 use Rattle.std.proofs.lemmas.Bool.Decides.{Decides-and, Decides-not, Decides-like}
 use Rattle.std.proofs.lemmas.Bool.{leb-true, le-leb}
 use Rattle.md_dirs.specs.State.{file_by}
 use Rattle.md_dirs.specs.declared.paths.File.{File}
-use Rattle.md_log.specs.declared.line.Reply.TheVariants as reply
 use Rattle.md_log.specs.declared.line.Step.{Step}
 use Rattle.md_law.specs.History.{History, next, at, now, Once}
 use Rattle.md_law.specs.Messages.{IsSeen}
@@ -13,32 +12,19 @@ use Rattle.md_law.specs.Files.{IsMaker}
 use Rattle.md_law.specs.Owed as owed
 use Rattle.md_monitor.specs.Files.{files_kept}
 use Rattle.md_monitor.specs.Found as found
-use Rattle.md_monitor.proofs.Tests.{some-and, not_found-is}
+use Rattle.md_monitor.proofs.Tests.{some-and}
 use Rattle.md_monitor.proofs.Seeing.{seen-is}
 use Rattle.md_monitor.proofs.Stepping.{is-by}
 use Rattle.md_monitor.proofs.Keeping.{kept}
 use Rattle.md_monitor.proofs.Once.{named-is}
-use Rattle.md_monitor.proofs.Telling.{made-it, other-than, written-is}
+use Rattle.md_monitor.proofs.Telling.{made-it, other-than, may_write-is}
 
 module _ (past : History) (x : Step) where
   abbrev h : History
   h = next past x
 
-  may_write-is : (test : ℕ → Bool) (P : ℕ → Type 0) → ((n : ℕ) → Decides (test n) (P n))
-      → Decides (found.may_write (at past) (now h) (files_kept past) x test) ((n : ℕ) × owed.MayWrite h n × P n)
-  may_write-is test P each = Decides-like _
-      (λ (n, r, answer, wrote, holds). (n, (r, answer, wrote), holds))
-      (λ (n, may, holds). (n, may.0, may.1, may.2, holds))
-      (written-is past x _ (λ r. r ≢ reply.NotFound) (λ r. Decides-not _ (not_found-is r)) test P each)
-
-  pub mixed : Decides (found.owes_mixed (at past) (now h) (files_kept past) x) (owed.Mixed h)
-  mixed = Decides-like _
-      (λ (n, may, other). (x.actor, n, (is-by past x x.actor).1 refl, may, other))
-      (λ (actor, n, by, may, other). (n, may, other-than past x past actor n by other))
-      (may_write-is _ (λ n. IsMaker past x.actor n → ⊥) (λ n. Decides-not _ (made-it past n x.actor)))
-
   pub rewritten : Decides (found.owes_rewritten (at past) (now h) (files_kept past) x) (owed.Rewritten h)
-  rewritten = may_write-is _ (λ n. Once (λ m. IsSeen (at m) n) past) (λ n. (kept past n).was_seen)
+  rewritten = may_write-is past x _ (λ n. Once (λ m. IsSeen (at m) n) past) (λ n. (kept past n).was_seen)
 
   pub named_by_another : Decides (found.owes_named_by_another (at past) (now h) (files_kept past) x) (owed.NamedByAnother h)
   unfolding files_kept
@@ -52,6 +38,6 @@ module _ (past : History) (x : Step) where
   written_late = Decides-like _
       (λ (n, may, (file, is, old)). (n, file, may, is, old))
       (λ (n, file, may, is, old). (n, may, (file, is, old)))
-      (may_write-is _ (λ n. (file : File) × (file_by (at past).files n ≡ Some file) × (129600 ≤ now h - file.stamp))
+      (may_write-is past x _ (λ n. (file : File) × (file_by (at past).files n ≡ Some file) × (129600 ≤ now h - file.stamp))
       (λ n. some-and (file_by (at past).files n) _ (λ file. 129600 ≤ now h - file.stamp)
       (λ file. (leb-true 129600 (now h - file.stamp), le-leb 129600 (now h - file.stamp)))))

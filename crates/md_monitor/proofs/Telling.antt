@@ -8,15 +8,15 @@ use Rattle.std.proofs.lemmas.Slice.Eq.{bytes_eq-Decides}
 use Rattle.md_dirs.specs.State.{State, file_at}
 use Rattle.md_dirs.specs.declared.paths.Path.{Path}
 use Rattle.md_dirs.specs.declared.paths.Place.TheVariants.{New}
-use Rattle.md_log.specs.declared.line.Reply.{Reply}
+use Rattle.md_log.specs.declared.line.Reply.TheVariants as reply
 use Rattle.md_log.specs.declared.line.Step.{Step}
 use Rattle.md_law.specs.History.{History, next, at, now, IsBy}
 use Rattle.md_law.specs.Messages.{is_message, IsSeen}
-use Rattle.md_law.specs.Files.{Names, Leaves, Writes, BeginsToBeSeen, WasInCur, IsMaker}
+use Rattle.md_law.specs.Files.{Names, Leaves, MayWrite, BeginsToBeSeen, WasInCur, IsMaker}
 use Rattle.md_monitor.specs.Changes.{change_of, turned_by}
-use Rattle.md_monitor.specs.Files.{files_kept, is_some_and, is_seen, is_new, written_by}
-use Rattle.md_monitor.specs.Found.{is_maker, is_moved_back}
-use Rattle.md_monitor.proofs.Tests.{some-and, new-is}
+use Rattle.md_monitor.specs.Files.{files_kept, is_some_and, is_seen, is_new, is_not_found, written_by}
+use Rattle.md_monitor.specs.Found.{is_maker, is_moved_back, may_write}
+use Rattle.md_monitor.proofs.Tests.{some-and, new-is, not_found-is}
 use Rattle.md_monitor.proofs.Changing.{with_file-is}
 use Rattle.md_monitor.proofs.Seeing.{seen-is}
 use Rattle.md_monitor.proofs.Stepping.{is-by, names, writes, changes}
@@ -60,14 +60,14 @@ module _ (past : History) (x : Step) where
   back-is = named-is past x _ (λ p n. ((is_message p ≡ true) × (p.place ≡ New)) × WasInCur past n)
       (λ e. Decides-and _ _ (Decides-and (is_message e.0) (is_new e.0.place) (λ t. t, λ t. t) (new-is e.0.place)) (kept past e.1).was_cur)
 
-  -- the step is a write to a file of which the test holds, and its answer is one of these
-  pub written-is : (answer : Reply → Bool) (A : Reply → Type 0) → ((r : Reply) → Decides (answer r) (A r))
-      → (test : ℕ → Bool) (P : ℕ → Type 0) → ((n : ℕ) → Decides (test n) (P n))
-      → Decides (is_some_and (written_by s x.call) (λ w. answer w.1 && test w.0)) ((n : ℕ) × (r : Reply) × A r × Writes h n r × P n)
-  written-is answer A answers test P each = Decides-like _
-      (λ (w, is, both). (w.0, w.1, both.0, (writes past x w.0 w.1).0 is, both.1))
-      (λ (n, r, a, wrote, holds). ((n, r), (writes past x n r).1 wrote, (a, holds)))
-      (some-and (written_by s x.call) _ (λ w. A w.1 × P w.0) (λ w. Decides-and (answer w.1) (test w.0) (answers w.1) (each w.0)))
+  -- the step is a write to a file of which the test holds, or may have written a part
+  pub may_write-is : (test : ℕ → Bool) (P : ℕ → Type 0) → ((n : ℕ) → Decides (test n) (P n))
+      → Decides (may_write s (now h) (files_kept past) x test) ((n : ℕ) × MayWrite h n × P n)
+  may_write-is test P each = Decides-like _
+      (λ (w, is, both). (w.0, (w.1, both.0, (writes past x w.0 w.1).0 is), both.1))
+      (λ (n, (r, a, wrote), holds). ((n, r), (writes past x n r).1 wrote, (a, holds)))
+      (some-and (written_by s x.call) _ (λ w. (w.1 ≢ reply.NotFound) × P w.0)
+      (λ w. Decides-and (not (is_not_found w.1)) (test w.0) (Decides-not _ (not_found-is w.1)) (each w.0)))
 
   -- ---- paths that no longer name a file
 

@@ -2,8 +2,6 @@
 use Rattle.std.proofs.Common.{ℕ, ◌≡◌, ◌≢◌, ◌⊎◌, inl, inr, ◌||◌, cond, ◌==◌, List, Bool, true, false, refl, sym, ap, subst}
 use Rattle.std.specs.Bool.{Decides}
 use Rattle.std.specs.Str.{bytes_eq}
-use Rattle.std.proofs.lemmas.Bool.Decides.{Decides-eqb}
-use Rattle.std.proofs.lemmas.Slice.Eq.{bytes_eq-Decides}
 use Rattle.md_dirs.specs.Path.{path_of}
 use Rattle.md_dirs.specs.declared.paths.Place.{Place}
 use Rattle.md_dirs.specs.declared.paths.Place.TheVariants.{Tmp, New, Cur}
@@ -15,7 +13,7 @@ use Rattle.md_law.specs.History.{History, opening, next, at, before, IsBy, Since
 use Rattle.md_law.specs.Messages.{IsOf, IsThere}
 use Rattle.md_law.specs.Readings.{Looker, Reads, IsWholeReading, IsMomentOf, Shows, Read, nothing_read, with_place, with_call, read_of, IsListing}
 use Rattle.md_monitor.specs.Listings.{has_read}
-use Rattle.md_monitor.proofs.Stepping.{is-by}
+use Rattle.md_monitor.proofs.Stepping.{is-call}
 use Rattle.md_monitor.proofs.Moments.{HoldsFrom, upto-itself, upto-next, upto-before, upto-trans, upto-either, not-after, since-now, since-found, since-from}
 use Rattle.md_monitor.proofs.Parts.{During, ShowsOne, HasShown, moment-since, since-moment, shown-to, shown-from}
 use Rattle.md_monitor.proofs.Reading.{IsWithout, IsNameOf, first-of}
@@ -49,19 +47,14 @@ completing Cur r some none same = cc same
 abbrev pub IsEnd : ℕ → Call → Type 0
 IsEnd folder c = (place : Place) × (shown : List (List ℕ)) × (c ≡ call.List folder place reply.Ok shown) × (place ≢ Tmp)
 
--- the call that completes a listing is such a one
-ends-by : (folder : ℕ) (c : Call) (r : Read) → r ≢ nothing_read → with_call folder c r ≡ nothing_read → IsEnd folder c
-ends-by folder (call.List f place reply.Ok shown) r some none = by (f == folder) refl none
+-- the end of a reading that completes a listing is such a one
+ends-by : (folder : ℕ) (place : Place) (shown : List (List ℕ)) (r : Read) → r ≢ nothing_read
+    → with_call folder (call.List folder place reply.Ok shown) r ≡ nothing_read → place ≢ Tmp
+ends-by folder place shown r some = by (folder == folder)
   where
-    by : (b : Bool) → (f == folder) ≡ b → cond b (with_place place r) r ≡ nothing_read → IsEnd folder (call.List f place reply.Ok shown)
-    by true t ended = (
-      place,
-      shown,
-      ap (λ (g : ℕ). call.List g place reply.Ok shown) ((Decides-eqb f folder).0 t),
-      completing place r some ended,
-    )
-    by false t ended = absurd (some ended)
-ends-by folder c r some none = absurd (some none)
+    by : (b : Bool) → cond b (with_place place r) r ≡ nothing_read → place ≢ Tmp
+    by true ended = completing place r some ended
+    by false ended = absurd (some ended)
 
 module _ (actor : List ℕ) (folder : ℕ) where
   -- the listing has read new or cur
@@ -80,16 +73,17 @@ module _ (actor : List ℕ) (folder : ℕ) where
   pub ends-listing : (begun past : History) (x : Step) → IsListing begun (next past x) actor folder
       → IsBy (next past x) actor × IsEnd folder x.call
   unfolding read_of
-  ends-listing begun past x listing = by (bytes_eq x.actor actor) refl listing.ends
+  ends-listing begun past x listing =
+      let place = listing.reads.0 in
+      let part = listing.reads.1 in
+      let is : x.call ≡ call.List folder place reply.Ok part.0 = (is-call past x _).0 part.1.1 in
+      (part.1.0, (place, part.0, is, by (bytes_eq x.actor actor) place part.0 is listing.ends))
     where
-      by : (b : Bool) → bytes_eq x.actor actor ≡ b
-          → cond b (with_call folder x.call (read_of past actor folder)) (read_of past actor folder) ≡ nothing_read
-          → IsBy (next past x) actor × IsEnd folder x.call
-      by true t none = (
-        (is-by past x actor).1 ((bytes_eq-Decides x.actor actor).0 t),
-        ends-by folder x.call (read_of past actor folder) listing.more none,
-      )
-      by false t none = absurd (listing.more none)
+      by : (b : Bool) (place : Place) (shown : List (List ℕ)) → x.call ≡ call.List folder place reply.Ok shown
+          → cond b (with_call folder x.call (read_of past actor folder)) (read_of past actor folder) ≡ nothing_read → place ≢ Tmp
+      by true place shown is none = ends-by folder place shown (read_of past actor folder) listing.more
+          (subst (λ c. with_call folder c (read_of past actor folder) ≡ nothing_read) is none)
+      by false place shown is none = absurd (listing.more none)
 
   -- it began at a moment at which it had read nothing, and has read something since
   abbrev pub HasBegun : History → Type 0

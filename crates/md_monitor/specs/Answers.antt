@@ -34,7 +34,7 @@ pub record ClaimKept : Type 0 where
   pub has_expunged : Bool
   -- one changed the paths of the message
   pub has_changed : Bool
-  -- at a moment that a step of its own had not passed, the message was not there
+  -- the message was not there at a moment when the actor had made a step, and no step of its own changed it since then
   pub was_absent : Bool
   -- at such a moment cur had it with these flags
   pub was_flagged : Set → Bool
@@ -113,11 +113,6 @@ module _ (s : State) (now : ℕ) (x : Step) (c : Claim) where
   abbrev pub own_after : Bool → Bool → Bool
   own_after is old = (is_own && (not is_answer && is)) || (not is_answer && old)
 
-  -- it was so at a moment that a step of the actor's own had not passed, by whether it is so of the directories before the step and after
-  -- it, whether the actor had made a step, and whether it was so
-  abbrev pub lately_after : (State → Bool) → Bool → Bool → Bool
-  lately_after is at_work old = not is_answer && ((is_own && (is s || is after)) || ((at_work && is after) || old))
-
   abbrev pub adds_message : Bool
   adds_message = not (is_there s c.folder c.unique) && is_there after c.folder c.unique
 
@@ -128,6 +123,11 @@ module _ (s : State) (now : ℕ) (x : Step) (c : Claim) where
   changes_message = is_some_and (change_of s x.call).named (λ e. is_of c.folder c.unique e.0)
       || is_some_and (change_of s x.call).taken (λ e. is_of c.folder c.unique e.0)
 
+  -- it was so at a moment when the actor had made a step, and no step of its own changed the message since then: by whether it is so after
+  -- the step, whether the actor had made one before, and whether it was so
+  abbrev pub lately_after : Bool → Bool → Bool → Bool
+  lately_after is at_work old = (own_after true at_work && is) || ((not is_answer && not (is_own && changes_message)) && old)
+
   -- what is kept after the step, by what was kept before it
   abbrev pub claim_after : ClaimKept → ClaimKept
   claim_after kept = record {
@@ -137,8 +137,8 @@ module _ (s : State) (now : ℕ) (x : Step) (c : Claim) where
     has_moved = λ to. own_after (takes_message && is_there after to c.unique) (kept.has_moved to);
     has_expunged = own_after (takes_message && is_unlink x.call) kept.has_expunged;
     has_changed = own_after changes_message kept.has_changed;
-    was_absent = lately_after (λ m. not (is_there m c.folder c.unique)) kept.is_at_work kept.was_absent;
-    was_flagged = λ flags. lately_after (λ m. is_flagged m c flags) kept.is_at_work (kept.was_flagged flags);
+    was_absent = lately_after (not (is_there after c.folder c.unique)) kept.is_at_work kept.was_absent;
+    was_flagged = λ flags. lately_after (is_flagged after c flags) kept.is_at_work (kept.was_flagged flags);
   }
 
 unfoldable pub claims_kept : History → Claim → ClaimKept

@@ -24,7 +24,7 @@ Finds = (past : History) (x : Step) (c : Clause)
 
 -- ---- what each program owes the others
 
--- The clauses of what each program owes the others: three of the law, and those that are owed beside it.
+-- The clauses of what each program owes the others: four of the law, and those that are owed beside it.
 pub data OwedClause : Type 0 where
   two_names : OwedClause
   mixed : OwedClause
@@ -40,7 +40,7 @@ pub data OwedClause : Type 0 where
 -- the last step breaks such a clause
 abbrev pub BreaksOwed : OwedClause → History → Type 0
 BreaksOwed two_names h = law.TwoNames h
-BreaksOwed mixed h = owed.Mixed h
+BreaksOwed mixed h = law.Mixed h
 BreaksOwed named_by_another h = owed.NamedByAnother h
 BreaksOwed cleaned_early h = law.CleanedEarly h
 BreaksOwed rewritten h = owed.Rewritten h
@@ -53,7 +53,7 @@ BreaksOwed written_late h = owed.WrittenLate h
 -- the step breaks such a clause, by the directories before it, the clock after it, and what was kept
 abbrev pub finds_owed : State → ℕ → Kept → Step → OwedClause → Bool
 finds_owed s now kept x two_names = finds s now kept x clause.TwoNames
-finds_owed s now kept x mixed = files.owes_mixed s now kept.files x
+finds_owed s now kept x mixed = finds s now kept x clause.Mixed
 finds_owed s now kept x named_by_another = files.owes_named_by_another s now kept.files x
 finds_owed s now kept x cleaned_early = finds s now kept x clause.CleanedEarly
 finds_owed s now kept x rewritten = files.owes_rewritten s now kept.files x

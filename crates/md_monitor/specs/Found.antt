@@ -13,7 +13,7 @@ use Rattle.md_log.specs.declared.line.Step.{Step}
 use Rattle.md_law.specs.History.{after_call}
 use Rattle.md_law.specs.Messages.{is_message, is_tmp}
 use Rattle.md_monitor.specs.Changes.{change_of, turned_by}
-use Rattle.md_monitor.specs.Files.{FileKept, is_some_and, is_seen, is_new, is_ok, is_not_found, written_by, kept_after}
+use Rattle.md_monitor.specs.Files.{FileKept, is_some_and, is_seen, is_new, is_not_found, written_by, kept_after}
 
 -- the actor made the file
 abbrev pub is_maker : FileKept → List ℕ → Bool
@@ -38,6 +38,10 @@ module _ (s : State) (now : ℕ) (kept : ℕ → FileKept) (x : Step) where
   abbrev is_shown : Path × ℕ → Bool
   is_shown e = is_message e.0 && not (is_seen s e.1)
 
+  -- the call writes to a file of which the test holds, or may have written a part
+  abbrev pub may_write : (ℕ → Bool) → Bool
+  may_write test = is_some_and (written_by s x.call) (λ w. not (is_not_found w.1) && test w.0)
+
   -- ---- clauses of the law
 
   abbrev overwrites : Bool
@@ -45,12 +49,10 @@ module _ (s : State) (now : ℕ) (kept : ℕ → FileKept) (x : Step) where
 
   abbrev shows_too_early : Bool
   shows_too_early =
-      makes_message x.call
-      || (is_some_and (written_by s x.call) (λ w. is_ok w.1 && is_seen s w.0)
-      || is_some_and named (λ e. is_shown e && (kept e.1).is_cut))
+      makes_message x.call || (may_write (is_seen s) || is_some_and named (λ e. is_shown e && (kept e.1).is_cut))
 
   abbrev mixes : Bool
-  mixes = is_some_and (written_by s x.call) (λ w. is_ok w.1 && not (is_maker (kept w.0) x.actor))
+  mixes = may_write (λ n. not (is_maker (kept n) x.actor))
 
   abbrev shows_unflushed : Bool
   shows_unflushed = is_some_and named (λ e. is_shown e && (kept e.1).is_unflushed)
@@ -80,13 +82,6 @@ module _ (s : State) (now : ℕ) (kept : ℕ → FileKept) (x : Step) where
   breaks_by_files c = false
 
   -- ---- what each program owes
-
-  -- the file to which a call writes, or may have written a part
-  abbrev pub may_write : (ℕ → Bool) → Bool
-  may_write test = is_some_and (written_by s x.call) (λ w. not (is_not_found w.1) && test w.0)
-
-  abbrev pub owes_mixed : Bool
-  owes_mixed = may_write (λ n. not (is_maker (kept n) x.actor))
 
   abbrev pub owes_rewritten : Bool
   owes_rewritten = may_write (λ n. (kept n).was_seen)

@@ -63,7 +63,7 @@ module _ (x : Step) (readings : Looker → ReadingKept) (actor : List ℕ) (fold
       is_shown = λ unique. has_read (read_after kept.read) && (shows unique || kept.is_shown unique);
     }
 
-    -- the step completes the listing
+    -- the step completes the listing, where it is a part of a reading; else it breaks the listing off
     abbrev pub is_complete : Bool
     is_complete = has_read kept.read && not (has_read (read_after kept.read))
 

@@ -44,7 +44,7 @@ pub claims-step : (h : History) (x : Step) (n : ℕ) (t : Turn) → t ≡ turn (
     → (told told' : MessagesKept) (m m' : Messages) → AreMessages (at h) told m → AreMessages (at (next h x)) told' m'
     → (presences presences' : Presences) → ArePresences n (at h) presences → PassesAll (at h) (at (next h x)) n presences presences'
     → (flagged flagged' : Flagged) → AreFlagged n (at h) flagged → PassesFlags (at h) (at (next h x)) n flagged flagged'
-    → (old new : Claims) → Steps x t (in_folders m t) (in_folders m' t) n old new
+    → (old new : Claims) → Steps x t (in_folders m t) (in_folders m' t) (n + 1) old new
     → AreClaims n (at h) presences flagged old (claims_kept h)
     → AreClaims (n + 1) (at (next h x)) presences' flagged' new (claims_kept (next h x))
 unfolding moment claims_kept
@@ -52,7 +52,7 @@ claims-step h x n t is told told' m m' before after presences presences' there p
     claims-next n (at h) (now (next h x)) x (spell_at presences.messages) (spell_at presences'.messages)
     (spell_in flagged) (spell_in flagged') there.messages passes.messages flags.timely flags-pass m m' before.in_folder after.in_folder
     old new (claims_kept h) are
-    (subst (λ (u : Turn). Steps x u (in_folders m u) (in_folders m' u) n old new) is steps)
+    (subst (λ (u : Turn). Steps x u (in_folders m u) (in_folders m' u) (n + 1) old new) is steps)
 
 -- ---- answers
 

@@ -85,10 +85,9 @@ module _ (h : History) (x : Step) (w new : Watch) (holds : Holds h w) (after : H
       ∙ wrong-is (at h) clock (readings_kept h) x.actor x.call heard.read.misread hears.misread
   is-law clause.Overwritten = refl
   is-law clause.SeenBeforeWhole =
-      ap (λ f. found.shows_too_early (clocked w x) x.call (found.wrote_by f x.call) t.named) (same-paths (clocked w x) before)
+      ap (λ f. found.shows_too_early (clocked w x) x.call (found.written_by f x.call) t.named) (same-paths (clocked w x) before)
       ∙ noticing.seen_before_whole (at h) (files_kept h) (clocked w x) holds.keeps.files clock x
-  is-law clause.Mixed = ap (λ f. found.is_mixed (clocked w x) x.actor (found.wrote_by f x.call)) (same-paths (clocked w x) before)
-      ∙ noticing.law_mixed (at h) (files_kept h) (clocked w x) holds.keeps.files clock x
+  is-law clause.Mixed = is-found Mixed
   is-law clause.NotFlushed = noticing.not_flushed (at h) (files_kept h) (clocked w x) holds.keeps.files clock x
   is-law clause.TwoNames = is-found TwoNames
   is-law clause.Gone = noticing.gone (at h) clock (messages_kept h) x (messages_kept (next h x)) new after.keeps.messages

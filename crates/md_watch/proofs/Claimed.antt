@@ -37,7 +37,7 @@ abbrev owned : Bool → Bool → Bool → Bool → Bool
 owned own told is old = (own && (not (own && told) && is)) || (not (own && told) && old)
 
 abbrev lately : Bool → Bool → Bool → Bool → Bool → Bool → Bool
-lately own told was is work old = not (own && told) && ((own && (was || is)) || ((work && is) || old))
+lately own told changes is work old = (owned own told true work && is) || ((not (own && told) && not (own && changes)) && old)
 
 abbrev left-by : Bool → Bool → Bool → Bool → Bool → Bool
 left-by own told refused again old = (own && refused) || ((not (own && told) && not (own && again)) && old)
@@ -63,6 +63,7 @@ module _ (n : ℕ) (s : State) (clock : ℕ) (x : Step) (there there' : MessageS
       → IsClaim (n + 1) after there' shown' c o (claim_after s clock x c kept)
   other c o kept not-own is =
       let d = did_by o c.folder c.unique in
+      let changes : Bool = has c.folder c.unique t.named || has c.folder c.unique t.taken in
       record {
         left = is.left ∙ sym (λ i. left-by (not-own i) (is_told_by x.call c) (acts_by x.call c (λ r. not (is_ok r)))
             (acts_by x.call c (λ r. true) || looks_by x.call c) kept.is_left);
@@ -75,21 +76,20 @@ module _ (n : ℕ) (s : State) (clock : ℕ) (x : Step) (there there' : MessageS
             ((is_there s c.folder c.unique && not (is_there after c.folder c.unique)) && is_there after to c.unique) (kept.has_moved to));
         expunged = is.expunged ∙ sym (λ i. owned (not-own i) (is_told_by x.call c)
             ((is_there s c.folder c.unique && not (is_there after c.folder c.unique)) && is_unlink x.call) kept.has_expunged);
-        changed = is.changed ∙ sym (λ i. owned (not-own i) (is_told_by x.call c)
-            (has c.folder c.unique t.named || has c.folder c.unique t.taken) kept.has_changed);
+        changed = is.changed ∙ sym (λ i. owned (not-own i) (is_told_by x.call c) changes kept.has_changed);
         absent = gone-other n (is_there s c.folder c.unique) (is_there after c.folder c.unique) (there c.folder c.unique)
             (there' c.folder c.unique) (timely c.folder c.unique) (passes c.folder c.unique) d.begun is.begun
             ∙ (λ i. (is.at_work i && not (is_there after c.folder c.unique)) || is.absent i)
-            ∙ sym (λ i. lately (not-own i) (is_told_by x.call c) (not (is_there s c.folder c.unique))
-            (not (is_there after c.folder c.unique)) kept.is_at_work kept.was_absent);
+            ∙ sym (λ i. lately (not-own i) (is_told_by x.call c) changes (not (is_there after c.folder c.unique)) kept.is_at_work
+            kept.was_absent);
         flagged = λ flags letters. shown-other n (is_flagged s c flags) (is_flagged after c flags) (shown c.folder c.unique flags)
             (shown' c.folder c.unique flags) (flags-timely c flags letters) (flags-pass c flags letters) d.begun is.begun
             ∙ (λ i. (is.at_work i && is_flagged after c flags) || is.flagged flags letters i)
-            ∙ sym (λ i. lately (not-own i) (is_told_by x.call c) (is_flagged s c flags) (is_flagged after c flags) kept.is_at_work
+            ∙ sym (λ i. lately (not-own i) (is_told_by x.call c) changes (is_flagged after c flags) kept.is_at_work
             (kept.was_flagged flags));
         begun = before-next (n + 1) d.begun is.begun;
-        refused = before-next n d.refused is.refused;
-        look = before-next n (look_of o c.folder) is.look;
+        refused = before-next (n + 1) d.refused is.refused;
+        look = before-next (n + 1) (look_of o c.folder) is.look;
         taken = later n d.taken is.taken;
         told = is.told;
       }
@@ -97,7 +97,7 @@ module _ (n : ℕ) (s : State) (clock : ℕ) (x : Step) (there there' : MessageS
   -- ---- a step of the actor's own
 
   module _ (before left : InFolders) (c : Claim) (o o' : Option Actor) (kept : ClaimKept) (is : IsClaim n s there shown c o kept)
-      (own : bytes_eq x.actor c.actor ≡ true) (acts : ActsAs x.call t before left n o o') where
+      (own : bytes_eq x.actor c.actor ≡ true) (acts : ActsAs x.call t before left (n + 1) o o') where
     abbrev was-in : Bool
     was-in = is_there s c.folder c.unique
 
@@ -115,7 +115,7 @@ module _ (n : ℕ) (s : State) (clock : ℕ) (x : Step) (there there' : MessageS
 
     -- what was done about the message before paths change
     abbrev acted : Did
-    acted = act_by x.call n c.folder c.unique (begin (unwrap_or d.begun n) d)
+    acted = act_by x.call (n + 1) c.folder c.unique (begin (unwrap_or d.begun (n + 1)) d)
 
     abbrev of-named : Bool
     of-named = has c.folder c.unique t.named
@@ -130,10 +130,10 @@ module _ (n : ℕ) (s : State) (clock : ℕ) (x : Step) (there there' : MessageS
 
       cleared : d' ≡ nothing None
       cleared = acts.deeds c.folder c.unique ∙ ap (λ b. cond b (nothing None)
-          (change_by t.named before.named left.named unlinks n c.folder c.unique
-          (change_by t.taken before.taken left.taken unlinks n c.folder c.unique
-          (act_by x.call n c.folder c.unique (cond (is_told (told_of o) c.folder c.unique) (begin n (did_before o n c.folder c.unique))
-          (did_before o n c.folder c.unique)))))) told-so
+          (change_by t.named before.named left.named unlinks (n + 1) c.folder c.unique
+          (change_by t.taken before.taken left.taken unlinks (n + 1) c.folder c.unique
+          (act_by x.call (n + 1) c.folder c.unique (cond (is_told (told_of o) c.folder c.unique)
+          (begin (n + 1) (did_before o (n + 1) c.folder c.unique)) (did_before o (n + 1) c.folder c.unique)))))) told-so
 
       answered : IsClaim (n + 1) after there' shown' c o' (claim_after s clock x c kept)
       answered = record {
@@ -151,13 +151,14 @@ module _ (n : ℕ) (s : State) (clock : ℕ) (x : Step) (there there' : MessageS
             ((was-in && not is-in) && unlinks) kept.has_expunged);
         changed = ap (λ (e : Did). e.has_changed) cleared ∙ sym (λ i. owned (own i) (told i) (of-named || of-taken) kept.has_changed);
         absent = ap (λ (e : Did). was_gone (n + 1) after there' c.folder c.unique e.begun) cleared
-            ∙ sym (λ i. lately (own i) (told i) (not was-in) (not is-in)
-            kept.is_at_work kept.was_absent);
+            ∙ sym (λ i. lately (own i) (told i) (of-named || of-taken) (not is-in) kept.is_at_work kept.was_absent);
         flagged = λ flags letters. ap (λ (e : Did). was_shown after shown' c flags e.begun) cleared
-            ∙ sym (λ i. lately (own i) (told i) (is_flagged s c flags) (is_flagged after c flags) kept.is_at_work (kept.was_flagged flags));
+            ∙ sym (λ i. lately (own i) (told i) (of-named || of-taken) (is_flagged after c flags) kept.is_at_work
+            (kept.was_flagged flags));
         begun = subst (λ (e : Did). IsBefore (n + 1 + 1) e.begun) (sym cleared) tt;
-        refused = subst (λ (e : Did). IsBefore (n + 1) e.refused) (sym cleared) tt;
-        look = subst (λ k. IsBefore (n + 1) k) (sym (acts.looks c.folder)) (look-next x.call n c.folder (look_of o c.folder) is.look);
+        refused = subst (λ (e : Did). IsBefore (n + 1 + 1) e.refused) (sym cleared) tt;
+        look = subst (λ k. IsBefore (n + 1 + 1) k) (sym (acts.looks c.folder))
+            (look-next x.call (n + 1) c.folder (look_of o c.folder) is.look);
         taken = ap (λ (e : Did). list_all (λ k. nat_le k (n + 1)) e.taken) cleared;
         told = ap (λ k. is_told k c.folder c.unique) acts.told ∙ told-so
             ∙ sym (λ i. acts.there i && not (is_some ((cleared i).begun)));
@@ -169,50 +170,52 @@ module _ (n : ℕ) (s : State) (clock : ℕ) (x : Step) (there there' : MessageS
         (taken-so : of-taken ≡ true → (before.taken ≡ was-in) × (left.taken ≡ is-in))
         (same : (of-named || of-taken) ≡ false → is-in ≡ was-in) where
       abbrev done : Did
-      done = twice was-in is-in unlinks n acted of-named of-taken
+      done = twice was-in is-in unlinks (n + 1) acted of-named of-taken
 
       so : (b : Bool) (w i was is : Bool) → (b ≡ true → (w ≡ was) × (i ≡ is)) → (e : Did)
-          → cond b (change w i unlinks n e) e ≡ cond b (change was is unlinks n e) e
-      so true w i was is both e = let e-so = both refl in (λ j. change (e-so.0 j) (e-so.1 j) unlinks n e)
+          → cond b (change w i unlinks (n + 1) e) e ≡ cond b (change was is unlinks (n + 1) e) e
+      so true w i was is both e = let e-so = both refl in (λ j. change (e-so.0 j) (e-so.1 j) unlinks (n + 1) e)
       so false w i was is both e = refl
 
       did-so : d' ≡ done
       did-so = acts.deeds c.folder c.unique
           ∙ ap (λ b. cond b (nothing None)
-          (change_by t.named before.named left.named unlinks n c.folder c.unique
-          (change_by t.taken before.taken left.taken unlinks n c.folder c.unique
-          (act_by x.call n c.folder c.unique (cond (is_told (told_of o) c.folder c.unique) (begin n (did_before o n c.folder c.unique))
-          (did_before o n c.folder c.unique)))))) (told-is x.call c ∙ untold)
-          ∙ ap (λ e. change_by t.named before.named left.named unlinks n c.folder c.unique
-          (change_by t.taken before.taken left.taken unlinks n c.folder c.unique (act_by x.call n c.folder c.unique e)))
-          (begun-so o n c.folder c.unique is.told)
-          ∙ ap (λ e. change_by t.named before.named left.named unlinks n c.folder c.unique e)
+          (change_by t.named before.named left.named unlinks (n + 1) c.folder c.unique
+          (change_by t.taken before.taken left.taken unlinks (n + 1) c.folder c.unique
+          (act_by x.call (n + 1) c.folder c.unique (cond (is_told (told_of o) c.folder c.unique)
+          (begin (n + 1) (did_before o (n + 1) c.folder c.unique)) (did_before o (n + 1) c.folder c.unique)))))) (told-is x.call c ∙ untold)
+          ∙ ap (λ e. change_by t.named before.named left.named unlinks (n + 1) c.folder c.unique
+          (change_by t.taken before.taken left.taken unlinks (n + 1) c.folder c.unique (act_by x.call (n + 1) c.folder c.unique e)))
+          (begun-so o (n + 1) c.folder c.unique is.told)
+          ∙ ap (λ e. change_by t.named before.named left.named unlinks (n + 1) c.folder c.unique e)
           (so of-taken before.taken left.taken _ _ taken-so acted)
           ∙ so of-named before.named left.named _ _ named-so _
 
-      acted-so : acted ≡ record (begin (unwrap_or d.begun n) d) { refused = acted.refused }
-      acted-so = act-only x.call n c.folder c.unique (begin (unwrap_or d.begun n) d)
+      acted-so : acted ≡ record (begin (unwrap_or d.begun (n + 1)) d) { refused = acted.refused }
+      acted-so = act-only x.call (n + 1) c.folder c.unique (begin (unwrap_or d.begun (n + 1)) d)
 
-      began : d'.begun ≡ Some (unwrap_or d.begun n)
-      began = ap (λ (e : Did). e.begun) did-so ∙ twice-begun was-in is-in unlinks n acted of-named of-taken
-          ∙ ap (λ (e : Did). e.begun) acted-so
+      began : d'.begun ≡ Some (cond (of-named || of-taken) (n + 1) (unwrap_or d.begun (n + 1)))
+      began = ap (λ (e : Did). e.begun) did-so ∙ twice-begun was-in is-in unlinks (n + 1) acted (unwrap_or d.begun (n + 1))
+          (ap (λ (e : Did). e.begun) acted-so) of-named of-taken
 
-      began-by : (b : Option ℕ) → IsBefore (n + 1) b → IsBefore (n + 1 + 1) (Some (unwrap_or b n))
-      began-by None before = omega arith
-      began-by (Some k) before = omega (arith, before)
+      began-by : (changes : Bool) (b : Option ℕ) → IsBefore (n + 1) b
+          → IsBefore (n + 1 + 1) (Some (cond changes (n + 1) (unwrap_or b (n + 1))))
+      began-by true b before = omega arith
+      began-by false None before = omega arith
+      began-by false (Some k) before = omega (arith, before)
 
       left-so : is_left_by d'.refused (look_of o' c.folder)
           ≡ (acts_by x.call c (λ r. not (is_ok r)) || (not (acts_by x.call c (λ r. true) || looks_by x.call c) && kept.is_left))
       left-so = (λ i. is_left_by ((did-so i).refused) (acts.looks c.folder i))
-          ∙ ap (λ r. is_left_by r (look_by x.call n c.folder (look_of o c.folder)))
-          (twice-refused was-in is-in unlinks n acted of-named of-taken)
-          ∙ left-own x.call c n (begin (unwrap_or d.begun n) d) (look_of o c.folder) is.refused is.look
+          ∙ ap (λ r. is_left_by r (look_by x.call (n + 1) c.folder (look_of o c.folder)))
+          (twice-refused was-in is-in unlinks (n + 1) acted of-named of-taken)
+          ∙ left-own x.call c (n + 1) (begin (unwrap_or d.begun (n + 1)) d) (look_of o c.folder) is.refused is.look
           ∙ ap (λ b. acts_by x.call c (λ r. not (is_ok r)) || (not (acts_by x.call c (λ r. true) || looks_by x.call c) && b)) is.left
 
       moved-so : (to : ℕ) → list_any (was_at after there' to c.unique) d'.taken
           ≡ (((was-in && not is-in) && is_there after to c.unique) || kept.has_moved to)
       moved-so to = ap (λ (e : Did). list_any (was_at after there' to c.unique) e.taken) did-so
-          ∙ twice-taken was-in is-in unlinks n acted of-named of-taken same (was_at after there' to c.unique)
+          ∙ twice-taken was-in is-in unlinks (n + 1) acted of-named of-taken same (was_at after there' to c.unique)
           ∙ (λ i. ((was-in && not is-in)
           && now-here n (is_there s to c.unique) (is_there after to c.unique) (there to c.unique) (there' to c.unique)
           (timely to c.unique) (passes to c.unique) i) || list_any (was_at after there' to c.unique) ((acted-so i).taken))
@@ -225,44 +228,42 @@ module _ (n : ℕ) (s : State) (clock : ℕ) (x : Step) (there there' : MessageS
         left = left-so ∙ sym (λ i. left-by (own i) (untold i) (acts_by x.call c (λ r. not (is_ok r)))
             (acts_by x.call c (λ r. true) || looks_by x.call c) kept.is_left);
         at_work = ap is_some began ∙ sym (λ i. owned (own i) (untold i) true kept.is_at_work);
-        added = ap (λ (e : Did). e.has_added) did-so ∙ twice-added was-in is-in unlinks n acted of-named of-taken same
+        added = ap (λ (e : Did). e.has_added) did-so ∙ twice-added was-in is-in unlinks (n + 1) acted of-named of-taken same
             ∙ ap (λ (e : Did). (not was-in && is-in) || e.has_added) acted-so
             ∙ ap (λ b. (not was-in && is-in) || b) is.added
             ∙ sym (λ i. owned (own i) (untold i)
             (not was-in && is-in) kept.has_added);
         moved = λ to. moved-so to ∙ sym (λ i. owned (own i) (untold i)
             ((was-in && not is-in) && is_there after to c.unique) (kept.has_moved to));
-        expunged = ap (λ (e : Did). e.has_expunged) did-so ∙ twice-expunged was-in is-in unlinks n acted of-named of-taken same
+        expunged = ap (λ (e : Did). e.has_expunged) did-so ∙ twice-expunged was-in is-in unlinks (n + 1) acted of-named of-taken same
             ∙ ap (λ (e : Did). ((was-in && not is-in) && unlinks)
             || e.has_expunged) acted-so
             ∙ ap (λ b. ((was-in && not is-in) && unlinks) || b) is.expunged
             ∙ sym (λ i. owned (own i) (untold i)
             ((was-in && not is-in) && unlinks) kept.has_expunged);
-        changed = ap (λ (e : Did). e.has_changed) did-so ∙ twice-changed was-in is-in unlinks n acted of-named of-taken
+        changed = ap (λ (e : Did). e.has_changed) did-so ∙ twice-changed was-in is-in unlinks (n + 1) acted of-named of-taken
             ∙ ap (λ (e : Did). (of-named || of-taken) || e.has_changed) acted-so ∙ ap (λ b. (of-named || of-taken) || b) is.changed
             ∙ sym (λ i. owned (own i) (untold i) (of-named || of-taken) kept.has_changed);
         absent = ap (was_gone (n + 1) after there' c.folder c.unique) began
             ∙ gone-own n was-in is-in (there c.folder c.unique)
-            (there' c.folder c.unique) (timely c.folder c.unique) (passes c.folder c.unique) d.begun is.begun
-            ∙ (λ i. (not was-in || not is-in)
-            || ((is.at_work i && not is-in) || is.absent i))
-            ∙ sym (λ i. lately (own i) (untold i) (not was-in) (not is-in)
-            kept.is_at_work kept.was_absent);
+            (there' c.folder c.unique) (timely c.folder c.unique) (passes c.folder c.unique) (of-named || of-taken) d.begun is.begun
+            ∙ (λ i. not is-in || (not (of-named || of-taken) && is.absent i))
+            ∙ sym (λ i. lately (own i) (untold i) (of-named || of-taken) (not is-in) kept.is_at_work kept.was_absent);
         flagged = λ flags letters. ap (was_shown after shown' c flags) began
             ∙ shown-own n (is_flagged s c flags) (is_flagged after c flags) (shown c.folder c.unique flags)
-            (shown' c.folder c.unique flags) (flags-timely c flags letters) (flags-pass c flags letters) d.begun is.begun
-            ∙ (λ i. (is_flagged s c flags || is_flagged after c flags)
-            || ((is.at_work i && is_flagged after c flags) || is.flagged flags letters i))
-            ∙ sym (λ i. lately (own i) (untold i) (is_flagged s c flags) (is_flagged after c flags) kept.is_at_work
+            (shown' c.folder c.unique flags) (flags-timely c flags letters) (flags-pass c flags letters) (of-named || of-taken) d.begun is.begun
+            ∙ (λ i. is_flagged after c flags || (not (of-named || of-taken) && is.flagged flags letters i))
+            ∙ sym (λ i. lately (own i) (untold i) (of-named || of-taken) (is_flagged after c flags) kept.is_at_work
             (kept.was_flagged flags));
-        begun = subst (λ k. IsBefore (n + 1 + 1) k) (sym began) (began-by d.begun is.begun);
-        refused = subst (λ k. IsBefore (n + 1) k)
-            (sym (ap (λ (e : Did). e.refused) did-so ∙ twice-refused was-in is-in unlinks n acted of-named of-taken))
-            (refused-next x.call n c.folder c.unique (begin (unwrap_or d.begun n) d) is.refused);
-        look = subst (λ k. IsBefore (n + 1) k) (sym (acts.looks c.folder)) (look-next x.call n c.folder (look_of o c.folder) is.look);
+        begun = subst (λ k. IsBefore (n + 1 + 1) k) (sym began) (began-by (of-named || of-taken) d.begun is.begun);
+        refused = subst (λ k. IsBefore (n + 1 + 1) k)
+            (sym (ap (λ (e : Did). e.refused) did-so ∙ twice-refused was-in is-in unlinks (n + 1) acted of-named of-taken))
+            (refused-next x.call (n + 1) c.folder c.unique (begin (unwrap_or d.begun (n + 1)) d) is.refused);
+        look = subst (λ k. IsBefore (n + 1 + 1) k) (sym (acts.looks c.folder))
+            (look-next x.call (n + 1) c.folder (look_of o c.folder) is.look);
         taken = ap (λ (e : Did). list_all (λ k. nat_le k (n + 1)) e.taken) did-so
-            ∙ twice-all was-in is-in unlinks n acted of-named of-taken
-            (ap (λ (e : Did). list_all (λ k. nat_le k n) e.taken) acted-so ∙ is.taken);
+            ∙ twice-all was-in is-in unlinks (n + 1) acted of-named of-taken
+            (ap (λ (e : Did). list_all (λ k. nat_le k (n + 1)) e.taken) acted-so ∙ later n d.taken is.taken);
         told = ap (λ k. is_told k c.folder c.unique) acts.told ∙ told-is x.call c ∙ untold
             ∙ sym (λ i. acts.there i && not (is_some (began i)));
       }
@@ -290,7 +291,7 @@ module _ (n : ℕ) (s : State) (clock : ℕ) (x : Step) (there there' : MessageS
             ap (nat_lt 0) same
 
     own-step : (c : Claim) (o o' : Option Actor) (kept : ClaimKept) → bytes_eq x.actor c.actor ≡ true → IsClaim n s there shown c o kept
-        → ActsAs x.call t (in_folders m t) (in_folders m' t) n o o'
+        → ActsAs x.call t (in_folders m t) (in_folders m' t) (n + 1) o o'
         → IsClaim (n + 1) after there' shown' c o' (claim_after s clock x c kept)
     own-step c o o' kept own is acts = by (is_told_by x.call c) refl
       where
@@ -302,14 +303,14 @@ module _ (n : ℕ) (s : State) (clock : ℕ) (x : Step) (there there' : MessageS
             (unvisited c.folder c.unique)
 
     pub claims-next : (old new : Claims) (kept : Claim → ClaimKept) → AreClaimsBy n s there shown old kept
-        → Steps x t (in_folders m t) (in_folders m' t) n old new
+        → Steps x t (in_folders m t) (in_folders m' t) (n + 1) old new
         → AreClaimsBy (n + 1) after there' shown' new (λ c. claim_after s clock x c (kept c))
     claims-next old new kept are steps c = by (bytes_eq x.actor c.actor) refl
       where
         by : (b : Bool) → bytes_eq x.actor c.actor ≡ b
             → IsClaim (n + 1) after there' shown' c (actor_in new c.actor) (claim_after s clock x c (kept c))
         by true own = own-step c (actor_in old c.actor) (actor_in new c.actor) (kept c) own (are c)
-            (subst (λ (a : List ℕ). ActsAs x.call t (in_folders m t) (in_folders m' t) n (actor_in old a) (actor_in new a))
+            (subst (λ (a : List ℕ). ActsAs x.call t (in_folders m t) (in_folders m' t) (n + 1) (actor_in old a) (actor_in new a))
             ((bytes_eq-Decides x.actor c.actor).0 own) steps.own)
         by false not-own = subst (λ o. IsClaim (n + 1) after there' shown' c o (claim_after s clock x c (kept c)))
             (sym (steps.others c.actor not-own)) (other c (actor_in old c.actor) (kept c) not-own (are c))

@@ -1,7 +1,10 @@
 -- A step of an actor, by its parts.
-use Rattle.std.proofs.Common.{ℕ, ◌≡◌, ◌&&◌, ◌||◌, cond, [], Option, Some, None, Bool, true, false, refl, sym, ap, subst, ◌∙◌}
+use Rattle.std.proofs.Common.{ℕ, ◌≡◌, ◌&&◌, ◌||◌, ◌==◌, cond, [], List, Option, Some, None, Bool, true, false, refl, sym, ap, subst, ◌∙◌}
 use Rattle.std.specs.Option.{option_or}
+use Rattle.std.specs.Str.{bytes_eq}
 use Rattle.md_dirs.specs.declared.paths.Path.{Path}
+use Rattle.md_name.specs.Names.{unique_of}
+use Rattle.md_law.specs.Messages.{is_message}
 use Rattle.md_log.specs.declared.line.Call.{Call}
 use Rattle.md_log.specs.declared.line.Call.TheVariants as call
 use Rattle.md_log.specs.declared.line.Naming.{Naming}
@@ -12,12 +15,13 @@ use Rattle.md_monitor.specs.Messages.{is_of}
 use Rattle.md_monitor.specs.Answers.{is_unlink}
 use Rattle.md_watch.specs.declared.claims.Claims.{Claims}
 use Rattle.md_watch.specs.declared.claims.actor.Actor.{Actor}
+use Rattle.md_watch.specs.declared.claims.deeds.Deeds.{Deeds}
 use Rattle.md_watch.specs.declared.presences.InFolders.{InFolders}
 use Rattle.md_watch.specs.declared.table.Table.{Table}
-use Rattle.md_watch.specs.Changes.{Turn}
-use Rattle.md_watch.specs.Tables.{value_at, Puts}
-use Rattle.md_watch.specs.Claims.{Acts, ActsAs, Answers, Begins, Did, Does, IsNew, Looks, Steps, act, act_at, act_by, actor_in, change_by, did_after, did_in, did_or, is_told, look_by, nothing, told_by}
-use Rattle.md_watch.proofs.Keys.{key-is}
+use Rattle.md_watch.specs.Changes.{Turn, message_of}
+use Rattle.md_watch.specs.Tables.{value_at, is_key, Puts}
+use Rattle.md_watch.specs.Claims.{Acts, ActsAs, Answers, Begins, Did, Does, IsNew, Looks, Steps, act, act_at, act_by, actor_in, change, change_by, did_after, did_in, did_of, did_or, is_told, look_by, nothing, told_by}
+use Rattle.md_watch.proofs.Keys.{key-is, message-is}
 
 -- a call on two paths that is not done is one by the first of them
 pub act-undone : (n : Naming) (p q : Path) (r : Reply) (now : ℕ) (old new : Actor) → is_ok r ≡ false
@@ -33,6 +37,38 @@ act-undone n p q r now old new undone does = record {
     by true b d = refl
     by false true d = sym (ap (λ k. cond k (act r now d) d) undone)
     by false false d = refl
+
+-- the deeds about the message of a path are taken out, and put back changed
+pub changes : (p : Path) (n : ℕ) (u : List ℕ) (was is unlinks : Bool) (now : ℕ) (old mid new : Actor) (taken deeds : Deeds)
+    → Some u ≡ message_of p → did_of taken ≡ did_in old p.folder u → did_of deeds ≡ change was is unlinks now (did_of taken)
+    → Puts p.folder u None old.deeds mid.deeds → Puts p.folder u (Some deeds) mid.deeds new.deeds
+    → new.first ≡ old.first → new.told ≡ old.told → new.looks ≡ old.looks
+    → Does (change_by (Some (p, n)) was is unlinks now) old new
+changes p n u was is unlinks now old mid new taken deeds named had so took put first told looks = record {
+  first = first;
+  told = told;
+  looks = looks;
+  deeds = λ f q. by f q (is_key (p.folder, u) (f, q)) refl;
+}
+  where
+    message : (is_message p ≡ true) × (u ≡ unique_of p.name)
+    message = message-is p u named
+
+    of-key : (f : ℕ) (q : List ℕ) → is_of f q p ≡ is_key (p.folder, u) (f, q)
+    of-key f q = (λ i. message.0 i && p.folder == f && bytes_eq ((sym message.1) i) q)
+
+    by : (f : ℕ) (q : List ℕ) (b : Bool) → is_key (p.folder, u) (f, q) ≡ b
+        → did_in new f q ≡ change_by (Some (p, n)) was is unlinks now f q (did_in old f q)
+    by f q true same =
+        let parts = (key-is (p.folder, u) (f, q)).0 same in
+        ap (did_or new.first) (put f q ∙ ap (λ b. cond b (Some deeds) (value_at mid.deeds f q)) same) ∙ so
+        ∙ ap (change was is unlinks now) (had ∙ (λ i. did_in old (parts.0 i) (parts.1 i)))
+        ∙ sym (ap (λ b. cond b (change was is unlinks now (did_in old f q)) (did_in old f q)) (of-key f q ∙ same))
+    by f q false other =
+        ap (did_or new.first) (put f q ∙ ap (λ b. cond b (Some deeds) (value_at mid.deeds f q)) other
+        ∙ took f q ∙ ap (λ b. cond b None (value_at old.deeds f q)) other)
+        ∙ (λ i. did_or (first i) (value_at old.deeds f q))
+        ∙ sym (ap (λ b. cond b (change was is unlinks now (did_in old f q)) (did_in old f q)) (of-key f q ∙ other))
 
 or-none : {A : Type 0} (o : Option A) → option_or o None ≡ o
 or-none None = refl

@@ -63,11 +63,12 @@ module _ (was is unlinks : Bool) (now : ℕ) (d : Did) where
   abbrev pub twice : Bool → Bool → Did
   twice named taken = cond named (changed (cond taken (changed d) d)) (cond taken (changed d) d)
 
-  pub twice-begun : (named taken : Bool) → (twice named taken).begun ≡ d.begun
-  twice-begun true true = refl
-  twice-begun true false = refl
-  twice-begun false true = refl
-  twice-begun false false = refl
+  pub twice-begun : (first : ℕ) → d.begun ≡ Some first → (named taken : Bool)
+      → (twice named taken).begun ≡ Some (cond (named || taken) now first)
+  twice-begun first is true true = refl
+  twice-begun first is true false = refl
+  twice-begun first is false true = refl
+  twice-begun first is false false = is
 
   pub twice-refused : (named taken : Bool) → (twice named taken).refused ≡ d.refused
   twice-refused true true = refl
@@ -101,15 +102,15 @@ module _ (was is unlinks : Bool) (now : ℕ) (d : Did) where
     or-last false true = refl
     or-last false false = refl
 
-    any-one : (b : Bool) (ts : List ℕ) → list_any test (cond b (ts ++ (now + 1) ∷ []) ts) ≡ ((b && test (now + 1)) || list_any test ts)
-    any-one true ts = list_any-append test ts ((now + 1) ∷ []) ∙ or-last (list_any test ts) (test (now + 1))
+    any-one : (b : Bool) (ts : List ℕ) → list_any test (cond b (ts ++ now ∷ []) ts) ≡ ((b && test now) || list_any test ts)
+    any-one true ts = list_any-append test ts (now ∷ []) ∙ or-last (list_any test ts) (test now)
     any-one false ts = refl
 
     taken-by : (named taken : Bool) → list_any test (twice named taken).taken
-        ≡ ((((named || taken) && (was && not is)) && test (now + 1)) || list_any test d.taken)
+        ≡ ((((named || taken) && (was && not is)) && test now) || list_any test d.taken)
     taken-by true true = any-one (was && not is) (changed d).taken
-        ∙ ap (λ b. ((was && not is) && test (now + 1)) || b) (any-one (was && not is) d.taken)
-        ∙ once ((was && not is) && test (now + 1)) (list_any test d.taken)
+        ∙ ap (λ b. ((was && not is) && test now) || b) (any-one (was && not is) d.taken)
+        ∙ once ((was && not is) && test now) (list_any test d.taken)
     taken-by true false = any-one (was && not is) d.taken
     taken-by false true = any-one (was && not is) d.taken
     taken-by false false = refl
@@ -122,24 +123,24 @@ module _ (was is unlinks : Bool) (now : ℕ) (d : Did) where
     twice-expunged = expunged-by named taken ∙ ap (λ b. (b && unlinks) || d.has_expunged) (only-taken (named || taken) was is same)
 
     pub twice-taken : (test : ℕ → Bool) → list_any test (twice named taken).taken
-        ≡ (((was && not is) && test (now + 1)) || list_any test d.taken)
+        ≡ (((was && not is) && test now) || list_any test d.taken)
     twice-taken test = taken-by test named taken
-        ∙ ap (λ b. (b && test (now + 1)) || list_any test d.taken) (only-taken (named || taken) was is same)
+        ∙ ap (λ b. (b && test now) || list_any test d.taken) (only-taken (named || taken) was is same)
 
   both-true : (a b : Bool) → a ≡ true → b ≡ true → (a && (b && true)) ≡ true
   both-true true true one two = refl
   both-true true false one two = cc
   both-true false b one two = cc
 
-  all-one : (b : Bool) (ts : List ℕ) → list_all (λ t. nat_le t (now + 1)) ts ≡ true
-      → list_all (λ t. nat_le t (now + 1)) (cond b (ts ++ (now + 1) ∷ []) ts) ≡ true
-  all-one true ts all = list_all-append (λ t. nat_le t (now + 1)) ts ((now + 1) ∷ [])
-      ∙ both-true _ _ all (le-leb (now + 1) (now + 1) (omega arith))
+  all-one : (b : Bool) (ts : List ℕ) → list_all (λ t. nat_le t now) ts ≡ true
+      → list_all (λ t. nat_le t now) (cond b (ts ++ now ∷ []) ts) ≡ true
+  all-one true ts all = list_all-append (λ t. nat_le t now) ts (now ∷ [])
+      ∙ both-true _ _ all (le-leb now now (omega arith))
   all-one false ts all = all
 
   pub twice-all : (named taken : Bool) → list_all (λ t. nat_le t now) d.taken ≡ true
-      → list_all (λ t. nat_le t (now + 1)) (twice named taken).taken ≡ true
-  twice-all true true all = all-one (was && not is) (changed d).taken (all-one (was && not is) d.taken (later now d.taken all))
-  twice-all true false all = all-one (was && not is) d.taken (later now d.taken all)
-  twice-all false true all = all-one (was && not is) d.taken (later now d.taken all)
-  twice-all false false all = later now d.taken all
+      → list_all (λ t. nat_le t now) (twice named taken).taken ≡ true
+  twice-all true true all = all-one (was && not is) (changed d).taken (all-one (was && not is) d.taken all)
+  twice-all true false all = all-one (was && not is) d.taken all
+  twice-all false true all = all-one (was && not is) d.taken all
+  twice-all false false all = all

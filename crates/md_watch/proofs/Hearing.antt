@@ -21,11 +21,10 @@ use Rattle.md_watch.specs.declared.readings.Reading.{Reading}
 use Rattle.md_watch.specs.Changes.{file_in}
 use Rattle.md_watch.specs.Claims.{AreClaims}
 use Rattle.md_watch.specs.Flagged.{AreFlagged}
-use Rattle.md_watch.specs.Listings.{IsWhole, is_completing, is_unlisted}
+use Rattle.md_watch.specs.Listings.{IsWhole, is_completing, is_unlisted, listing_in}
 use Rattle.md_watch.specs.Memory.{steps_of, Remembers, joining, Reads, Hears}
 use Rattle.md_watch.specs.Messages.{count_in_folder}
 use Rattle.md_watch.specs.Readings.{TakesIn, TakesPart, reading_in, is_wrong}
-use Rattle.md_watch.specs.Tables.{value_at}
 use Rattle.md_watch.specs.Watches.{AreMessages}
 use Rattle.md_watch.proofs.Answering.{given-up, answered-falsely}
 use Rattle.md_watch.proofs.Lacking.{unlisted, unlisted-none}
@@ -83,9 +82,9 @@ module _ (h : History) (x : Step) (paths : Paths) (same : (q : Path) → file_in
       let d = looker x folder place in
       reads.misread ∙ ap (λ k. is_wrong paths old.presences.names d k (reading_in old.readings d) r shown) was.steps
       ∙ wrong-is paths (at h) same n old.presences d (readings_kept h d) (reading_in old.readings d) (was.readings d) r shown
-  misread-is (call.At d p r) reads = reads.1
-  misread-is (call.Between d p q r) reads = reads.1
-  misread-is (call.Answer said folder unique) reads = reads.1
+  misread-is (call.At d p r) reads = reads.misread
+  misread-is (call.Between d p q r) reads = reads.misread
+  misread-is (call.Answer said folder unique) reads = reads.misread
 
   none-unlisted : (lacks : Bool) → lacks ≡ false → is_completing x.call ≡ false
       → lacks ≡ breaks_unlisted (at h) (readings_kept h) (listings_kept h) x
@@ -109,14 +108,14 @@ module _ (h : History) (x : Step) (paths : Paths) (same : (q : Path) → file_in
           let whole-here : IsWhole n (at h) old.presences d (readings_kept h d) shown whole =
           whole-is n (at h) old.presences d (readings_kept h d) (reading_in old.readings d) shown whole (was.readings d)
           (subst (λ k. TakesIn k d shown (reading_in old.readings d) whole) was.steps ok.1) in
-          joins.unlisted ∙ ap (λ k. is_unlisted (value_at old.listings.all there.folder x.actor) place whole k there) was.steps
+          joins.unlisted ∙ ap (λ k. is_unlisted (listing_in old.listings there.folder x.actor) place whole k there) was.steps
           ∙ sym (unlisted n (at h) old.presences x (readings_kept h) (listings_kept h) old.listings there place shown whole was.listings
           (present-is (at h) paths same old.presences there joins.is_there.presences joins.is_there.new joins.is_there.cur)
           (call-is ∙ (λ i. call.List ((sym joins.folder) i) place (ok.0 i) shown))
           (subst (λ f. IsWhole n (at h) old.presences (looker x f place) (readings_kept h (looker x f place)) shown whole)
           (sym joins.folder)
           whole-here))
-  unlisted-is c call-is reads = none-unlisted heard.read.unlisted reads.2 (ap is_completing call-is)
+  unlisted-is c call-is reads = none-unlisted heard.read.unlisted reads.unlisted (ap is_completing call-is)
 
   pub heard-is : IsHeard h x heard
   heard-is = record {

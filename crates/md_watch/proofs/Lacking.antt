@@ -30,9 +30,9 @@ use Rattle.md_watch.specs.declared.listings.Listings.{Listings}
 use Rattle.md_watch.specs.declared.listings.Present.{Present}
 use Rattle.md_watch.specs.declared.presences.Presences.{Presences}
 use Rattle.md_watch.specs.declared.readings.Reading.{Reading}
-use Rattle.md_watch.specs.Listings.{read_in, always_during, IsListingKept, AreListings, IsWhole, is_completing, is_completed_by, is_left_out, is_lacked, is_unlisted, AreNames, IsPresent}
+use Rattle.md_watch.specs.Listings.{read_in, always_during, IsListingKept, listing_in, AreListings, IsWhole, is_completing, is_completed_by, is_left_out, is_lacked, is_unlisted, AreNames, IsPresent}
+use Rattle.md_watch.specs.Readings.{is_list}
 use Rattle.md_watch.specs.Spells.{always_by, spell_at}
-use Rattle.md_watch.specs.Tables.{value_at}
 use Rattle.md_watch.proofs.Keys.{same-tests}
 use Rattle.md_watch.proofs.Listing.{looker, read-there, apart-none, eq-self, bytes-self, read-now, misses-now, shows-now}
 
@@ -197,27 +197,27 @@ module _ (n : ℕ) (s : State) (p : Presences) (x : Step) (readings : Looker →
 -- a step that completes no reading of new or cur completes no listing
 pub unlisted-none : (s : State) (readings : Looker → ReadingKept) (listed : List ℕ → ℕ → ListingKept) (x : Step)
     → is_completing x.call ≡ false → breaks_unlisted s readings listed x ≡ false
-unlisted-none s readings listed x none = by x.call
+unlisted-none s readings listed x none = by x.call refl
   where
     on-and-off : (b c : Bool) → ((b && not b) && c) ≡ false
     on-and-off true c = refl
     on-and-off false c = refl
 
-    by : (c : Call) → listings.reads_folder c (λ f. listings.is_complete x readings x.actor f (listed x.actor f)
+    by : (c : Call) → x.call ≡ c → listings.reads_folder c (λ f. listings.is_complete x readings x.actor f (listed x.actor f)
         && nat_lt 0 (count_where (λ e. listings.is_unlisted x readings x.actor f (listed x.actor f) e.0) s)) ≡ false
-    by (call.List f place r shown) =
+    by (call.List f place r shown) is =
         let kept = listed x.actor f in
-        (λ i. (has_read kept.read && not (has_read ((apart-none x readings x.actor f none).read kept.read i)))
+        (λ i. (has_read kept.read && not (has_read ((apart-none x readings x.actor f (ap is_list is) none).read kept.read i)))
         && nat_lt 0 (count_where (λ e. listings.is_unlisted x readings x.actor f kept e.0) s))
         ∙ on-and-off (has_read kept.read) _
-    by c = refl
+    by c is = refl
 
 -- What is found of a step that completes a reading of a directory is what the monitor finds.
 pub unlisted : (n : ℕ) (s : State) (p : Presences) (x : Step) (readings : Looker → ReadingKept) (listed : List ℕ → ℕ → ListingKept)
     (w : Listings) (there : Present) (place : Place) (shown : List (List ℕ)) (r : Reading)
     → AreListings n s p listed w → IsPresent s p there → x.call ≡ call.List there.folder place reply.Ok shown
     → IsWhole n s p (looker x there.folder place) (readings (looker x there.folder place)) shown r
-    → breaks_unlisted s readings listed x ≡ is_unlisted (value_at w.all there.folder x.actor) place r n there
+    → breaks_unlisted s readings listed x ≡ is_unlisted (listing_in w there.folder x.actor) place r n there
 unlisted n s p x readings listed w there place shown r are present is whole = by place is whole
   where
     none : (o : Option Listing) → is_unlisted o Tmp r n there ≡ false
@@ -226,9 +226,9 @@ unlisted n s p x readings listed w there place shown r are present is whole = by
 
     by : (to : Place) → x.call ≡ call.List there.folder to reply.Ok shown
         → IsWhole n s p (looker x there.folder to) (readings (looker x there.folder to)) shown r
-        → breaks_unlisted s readings listed x ≡ is_unlisted (value_at w.all there.folder x.actor) to r n there
-    by Tmp is whole = unlisted-none s readings listed x (ap is_completing is) ∙ sym (none (value_at w.all there.folder x.actor))
+        → breaks_unlisted s readings listed x ≡ is_unlisted (listing_in w there.folder x.actor) to r n there
+    by Tmp is whole = unlisted-none s readings listed x (ap is_completing is) ∙ sym (none (listing_in w there.folder x.actor))
     by New is whole = unlisted-by n s p x readings listed there present New refl shown is r whole
-        (value_at w.all there.folder x.actor) (are x.actor there.folder)
+        (listing_in w there.folder x.actor) (are x.actor there.folder).listing
     by Cur is whole = unlisted-by n s p x readings listed there present Cur refl shown is r whole
-        (value_at w.all there.folder x.actor) (are x.actor there.folder)
+        (listing_in w there.folder x.actor) (are x.actor there.folder).listing

@@ -1,5 +1,5 @@
 -- What is kept of listings goes on as the monitor's.
-use Rattle.std.proofs.Common.{ℕ, ◌≡◌, ◌+◌, ◌≤◌, ◌==◌, ◌&&◌, ◌||◌, ◌++◌, cond, not, List, [], ◌∷◌, Option, Some, None, Bool, true, false, is_some, refl, sym, ap, subst, ◌∙◌, arith}
+use Rattle.std.proofs.Common.{ℕ, ◌≡◌, ◌+◌, ◌≤◌, ◌==◌, ◌&&◌, ◌||◌, ◌++◌, cond, not, List, [], ◌∷◌, Option, Some, None, unwrap_or, Bool, true, false, is_some, refl, sym, ap, subst, ◌∙◌, arith}
 use Rattle.std.specs.List.{list_any}
 use Rattle.std.specs.Str.{bytes_eq}
 use Rattle.std.proofs.lemmas.Bool.{true≢false}
@@ -16,7 +16,7 @@ use Rattle.md_log.specs.declared.line.Reply.TheVariants as reply
 use Rattle.md_log.specs.declared.line.Step.{Step}
 use Rattle.md_law.specs.History.{Moment, opening}
 use Rattle.md_law.specs.Messages.{is_tmp}
-use Rattle.md_law.specs.Readings.{Looker, Read, with_place, with_call}
+use Rattle.md_law.specs.Readings.{Looker, Read, nothing_read, with_place, with_call}
 use Rattle.md_monitor.specs.Messages.{is_there}
 use Rattle.md_monitor.specs.Readings.{ReadingKept, is_name_of}
 use Rattle.md_monitor.specs.Listings as listings
@@ -26,11 +26,14 @@ use Rattle.md_watch.specs.declared.listings.Listings.{Listings}
 use Rattle.md_watch.specs.declared.presences.Presences.{Presences}
 use Rattle.md_watch.specs.declared.readings.Reading.{Reading}
 use Rattle.md_watch.specs.declared.spells.Spell.{Spell}
-use Rattle.md_watch.specs.Listings.{read_in, spans_in, shows_in, AreWithin, always_during, IsListingKept, AreListings, IsWhole, is_completing, Joins, joining, Completes}
+use Rattle.md_watch.specs.declared.table.Table.{Table}
+use Rattle.md_watch.specs.Listings.{read_in, spans_in, shows_in, AreWithin, always_during, IsListingKept, unbroken, listing_in, HasBegunBy, IsListingIn, AreListings, IsWhole, is_completing, Joins, joining, Completes, Breaks}
 use Rattle.md_watch.specs.Presences.{ArePresences, PassesAll}
 use Rattle.md_watch.specs.Spells.{IsTimely, Passes, always_by, spell_at}
-use Rattle.md_watch.specs.Tables.{value_at, is_key}
+use Rattle.md_watch.specs.Readings.{is_list}
+use Rattle.md_watch.specs.Tables.{value_at, count_at, is_key}
 use Rattle.md_watch.proofs.Keys.{key-is}
+use Rattle.md_watch.proofs.Joining.{unbroken-past}
 use Rattle.md_watch.proofs.Spelling.{always-stays}
 
 -- a listing is kept just where one has read something
@@ -42,13 +45,19 @@ read-there (Some l) = elim l.of_cur as (λ b. (not b || b) ≡ true) [ true ↦ 
 pub listings-begin : (m : Moment) (p : Presences) (w : Listings) → ((folder : ℕ) (actor : List ℕ) → value_at w.all folder actor ≡ None)
     → AreListings 0 m.state p (listings_kept (opening m)) w
 unfolding listings_kept
-listings-begin m p w none actor folder =
-    subst (IsListingKept 0 m.state p folder (listings_kept (opening m) actor folder)) (sym (none folder actor)) (record {
-      read = refl;
-      was_always = λ unique. refl;
-      is_shown = λ unique. refl;
-      within = tt;
-    })
+listings-begin m p w none actor folder = record {
+  listing = subst (IsListingKept 0 m.state p folder (listings_kept (opening m) actor folder))
+      (sym (ap (unbroken (count_at w.breaks 0 actor)) (none folder actor))) (record {
+        read = refl;
+        was_always = λ unique. refl;
+        is_shown = λ unique. refl;
+        within = tt;
+      });
+  begun = subst (HasBegunBy (count_at w.breaks 0 actor)) (sym (none folder actor)) tt;
+}
+
+begun-as : (c c' : ℕ) (o o' : Option Listing) → c' ≡ c → o' ≡ o → HasBegunBy c o → HasBegunBy c' o'
+begun-as c c' o o' counts same begun = subst (HasBegunBy c') (sym same) (subst (λ k. HasBegunBy k o) (sym counts) begun)
 
 -- ---- what is said of spans stays so
 
@@ -113,11 +122,12 @@ module _ (x : Step) (readings : Looker → ReadingKept) (actor : List ℕ) (fold
 
 -- ---- which steps these are
 
--- a call that completes no reading of new or cur
-no-read : (folder : ℕ) (c : Call) (r : Read) → is_completing c ≡ false → with_call folder c r ≡ r
-no-read folder (call.List f Tmp reply.Ok shown) r none = elim (f == folder) as (λ b. cond b r r ≡ r) [ true ↦ refl | false ↦ refl ]
-no-read folder (call.List f place reply.Ok shown) r none = absurd (cc)
-no-read folder c r none = refl
+-- a part of a reading that completes none of new or cur
+no-read : (folder : ℕ) (c : Call) (r : Read) → is_list c ≡ true → is_completing c ≡ false → with_call folder c r ≡ r
+no-read folder (call.List f Tmp reply.Ok shown) r list none = elim (f == folder) as (λ b. cond b r r ≡ r) [ true ↦ refl | false ↦ refl ]
+no-read folder (call.List f place reply.Ok shown) r list none = absurd (cc)
+no-read folder (call.List f place q shown) r list none = refl
+no-read folder c r list none = absurd (cc)
 
 completes-none : (x : Step) (readings : Looker → ReadingKept) (actor : List ℕ) (folder : ℕ) (c : Call)
     (test : Looker → List (List ℕ) → Bool) → is_completing c ≡ false → listings.completes_by x readings actor folder c test ≡ false
@@ -133,10 +143,10 @@ and-false : (a b : Bool) → b ≡ false → (a && b) ≡ false
 and-false true b is = is
 and-false false b is = refl
 
-pub apart-none : (x : Step) (readings : Looker → ReadingKept) (actor : List ℕ) (folder : ℕ) → is_completing x.call ≡ false
-    → IsApart x readings actor folder
-apart-none x readings actor folder none = record {
-  read = λ r. ap (λ q. cond (bytes_eq x.actor actor) q r) (no-read folder x.call r none)
+pub apart-none : (x : Step) (readings : Looker → ReadingKept) (actor : List ℕ) (folder : ℕ) → is_list x.call ≡ true
+    → is_completing x.call ≡ false → IsApart x readings actor folder
+apart-none x readings actor folder list none = record {
+  read = λ r. ap (λ q. cond (bytes_eq x.actor actor) q r) (no-read folder x.call r list none)
       ∙ elim (bytes_eq x.actor actor) as (λ b. cond b r r ≡ r) [ true ↦ refl | false ↦ refl ];
   misses = λ unique. and-false (bytes_eq x.actor actor) _ (completes-none x readings actor folder x.call _ none);
   shows = λ unique. and-false (bytes_eq x.actor actor) _ (completes-none x readings actor folder x.call _ none);
@@ -167,13 +177,97 @@ apart-other readings x f place shown is actor folder apart = record {
       ∙ other-none (bytes_eq x.actor actor) (f == folder) _ _ apart;
 }
 
--- what is kept of listings goes on where a step completes no reading of new or cur
+-- a step of another actor
+apart-by : (x : Step) (readings : Looker → ReadingKept) (actor : List ℕ) (folder : ℕ) → bytes_eq x.actor actor ≡ false
+    → IsApart x readings actor folder
+apart-by x readings actor folder other = record {
+  read = λ r. ap (λ b. cond b (with_call folder x.call r) r) other;
+  misses = λ unique. ap (λ b. b && listings.completes_by x readings actor folder x.call
+      (λ d names. not ((readings d).message_was_always unique))) other;
+  shows = λ unique. ap (λ b. b && listings.completes_by x readings actor folder x.call
+      (λ d names. list_any (is_name_of d unique) names || (readings d).message_is_shown unique)) other;
+}
+
+-- what is kept of listings goes on where a part of a reading completes none of new or cur
 pub listings-stay : (n : ℕ) (s s' : State) (p p' : Presences) → ArePresences n s p → PassesAll s s' n p p'
-    → (x : Step) (readings : Looker → ReadingKept) (kept : List ℕ → ℕ → ListingKept) (w : Listings) → is_completing x.call ≡ false
-    → AreListings n s p kept w → AreListings (n + 1) s' p' (λ actor folder. listing_after x readings actor folder (kept actor folder)) w
-listings-stay n s s' p p' there passes x readings kept w none are actor folder =
-    still x readings actor folder n s s' p p' there passes (apart-none x readings actor folder none) (kept actor folder)
-    (value_at w.all folder actor) (are actor folder)
+    → (x : Step) (readings : Looker → ReadingKept) (kept : List ℕ → ℕ → ListingKept) (w : Listings) → is_list x.call ≡ true
+    → is_completing x.call ≡ false → AreListings n s p kept w
+    → AreListings (n + 1) s' p' (λ actor folder. listing_after x readings actor folder (kept actor folder)) w
+listings-stay n s s' p p' there passes x readings kept w list none are actor folder = record {
+  listing = still x readings actor folder n s s' p p' there passes (apart-none x readings actor folder list none) (kept actor folder)
+      (listing_in w folder actor) (are actor folder).listing;
+  begun = (are actor folder).begun;
+}
+
+-- ---- a call that reads nothing
+
+breaks-read : (folder : ℕ) (c : Call) (r : Read) → is_list c ≡ false → with_call folder c r ≡ nothing_read
+breaks-read folder (call.List f place q shown) r none = absurd (cc)
+breaks-read folder c r none = refl
+
+-- what is kept of listings goes on with such a call, which breaks off those of its actor
+pub listings-break : (n : ℕ) (s s' : State) (p p' : Presences) → ArePresences n s p → PassesAll s s' n p p'
+    → (x : Step) (readings : Looker → ReadingKept) (kept : List ℕ → ℕ → ListingKept) (w w' : Listings) → is_list x.call ≡ false
+    → Breaks x.actor w w' → AreListings n s p kept w
+    → AreListings (n + 1) s' p' (λ actor folder. listing_after x readings actor folder (kept actor folder)) w'
+listings-break n s s' p p' there passes x readings kept w w' none breaks are actor folder = by (bytes_eq x.actor actor) refl
+  where
+    is : IsListingIn n s p (kept actor folder) w folder actor
+    is = are actor folder
+
+    after : ListingKept
+    after = listing_after x readings actor folder (kept actor folder)
+
+    count : ℕ
+    count = count_at w.breaks 0 actor
+
+    -- with a call of the actor's own nothing is read
+    nothing : bytes_eq x.actor actor ≡ true → IsListingKept (n + 1) s' p' folder after None
+    nothing own = record {
+      read = read;
+      was_always = λ unique. ap (λ q. has_read q && (not (listings.misses x readings actor folder unique)
+          && (not (has_read (kept actor folder).read) || (kept actor folder).was_always unique))) read;
+      is_shown = λ unique. ap (λ q. has_read q && (listings.shows x readings actor folder unique
+          || (kept actor folder).is_shown unique)) read;
+      within = tt;
+    }
+      where
+        read : listings.read_after x readings actor folder (kept actor folder).read ≡ nothing_read
+        read = ap (λ b. cond b (with_call folder x.call (kept actor folder).read) (kept actor folder).read) own
+            ∙ breaks-read folder x.call (kept actor folder).read none
+
+    value-with : (b : Bool) → bytes_eq x.actor actor ≡ b
+        → value_at w'.breaks 0 actor ≡ cond b (Some (count_at w.breaks 0 x.actor + 1)) (value_at w.breaks 0 actor)
+    value-with b own = breaks.breaks 0 actor
+        ∙ ap (λ a. cond a (Some (count_at w.breaks 0 x.actor + 1)) (value_at w.breaks 0 actor)) own
+
+    counted : bytes_eq x.actor actor ≡ true → count_at w'.breaks 0 actor ≡ count + 1
+    counted own = ap (λ (o : Option ℕ). unwrap_or o 0) (value-with true own)
+        ∙ ap (λ q. count_at w.breaks 0 q + 1) ((bytes_eq-Decides x.actor actor).0 own)
+
+    same-count : bytes_eq x.actor actor ≡ false → count_at w'.breaks 0 actor ≡ count
+    same-count other = ap (λ (o : Option ℕ). unwrap_or o 0) (value-with false other)
+
+    more : (o : Option Listing) → HasBegunBy count o → HasBegunBy (count + 1) o
+    more None begun = tt
+    more (Some l) begun = let by : l.breaks ≤ count = begun in omega arith
+
+    by : (b : Bool) → bytes_eq x.actor actor ≡ b → IsListingIn (n + 1) s' p' after w' folder actor
+    by true own = record {
+      listing = subst (IsListingKept (n + 1) s' p' folder after)
+          (sym ((λ i. unbroken (counted own i) (value_at (breaks.all i) folder actor))
+          ∙ unbroken-past count (value_at w.all folder actor) is.begun)) (nothing own);
+      begun = begun-as (count + 1) (count_at w'.breaks 0 actor) (value_at w.all folder actor) (value_at w'.all folder actor)
+          (counted own) (ap (λ (t : Table Listing). value_at t folder actor) breaks.all) (more (value_at w.all folder actor) is.begun);
+    }
+    by false other = record {
+      listing = subst (IsListingKept (n + 1) s' p' folder after)
+          (sym (λ i. unbroken (same-count other i) (value_at (breaks.all i) folder actor)))
+          (still x readings actor folder n s s' p p' there passes (apart-by x readings actor folder other) (kept actor folder)
+          (listing_in w folder actor) is.listing);
+      begun = begun-as count (count_at w'.breaks 0 actor) (value_at w.all folder actor) (value_at w'.all folder actor)
+          (same-count other) (ap (λ (t : Table Listing). value_at t folder actor) breaks.all) is.begun;
+    }
 
 -- ---- a reading of the listing
 
@@ -302,26 +396,41 @@ pub listings-complete : (n : ℕ) (s s' : State) (p p' : Presences) → ArePrese
     → AreListings (n + 1) s' p' (λ actor f. listing_after x readings actor f (kept actor f)) w'
 listings-complete n s s' p p' there passes x readings kept w w' folder place shown r is whole done are actor f = by place is whole done.here
   where
-    After : ℕ → List ℕ → Option Listing → Type 0
-    After m q o = IsListingKept (n + 1) s' p' m (listing_after x readings q m (kept q m)) o
+    after : ℕ → List ℕ → ListingKept
+    after m q = listing_after x readings q m (kept q m)
 
-    elsewhere : (m : ℕ) (q : List ℕ) → is_key (folder, x.actor) (m, q) ≡ false → After m q (value_at w'.all m q)
-    elsewhere m q apart = subst (After m q) (sym (done.others m q apart))
-        (still x readings q m n s s' p p' there passes (apart-other readings x folder place shown is q m apart) (kept q m)
-        (value_at w.all m q) (are q m))
+    After : ℕ → List ℕ → Type 0
+    After m q = IsListingIn (n + 1) s' p' (after m q) w' m q
+
+    counts : (q : List ℕ) → count_at w'.breaks 0 q ≡ count_at w.breaks 0 q
+    counts q = ap (λ (t : Table ℕ). count_at t 0 q) done.breaks
+
+    elsewhere : (m : ℕ) (q : List ℕ) → is_key (folder, x.actor) (m, q) ≡ false → After m q
+    elsewhere m q apart = record {
+      listing = subst (IsListingKept (n + 1) s' p' m (after m q)) (sym (λ i. unbroken (counts q i) (done.others m q apart i)))
+          (still x readings q m n s s' p p' there passes (apart-other readings x folder place shown is q m apart) (kept q m)
+          (listing_in w m q) (are q m).listing);
+      begun = begun-as (count_at w.breaks 0 q) (count_at w'.breaks 0 q) (value_at w.all m q) (value_at w'.all m q) (counts q)
+          (done.others m q apart) (are q m).begun;
+    }
+
+    here-with : IsListingKept (n + 1) s' p' folder (after folder x.actor) (listing_in w' folder x.actor) → After folder x.actor
+    here-with listing = record {
+      listing = listing;
+      begun = subst (λ c. HasBegunBy c (value_at w'.all folder x.actor)) (sym (counts x.actor))
+          (done.begun (are x.actor folder).begun);
+    }
 
     by : (to : Place) → x.call ≡ call.List folder to reply.Ok shown
         → IsWhole n s p (looker x folder to) (readings (looker x folder to)) shown r
-        → joining to r n (value_at w.all folder x.actor) (value_at w'.all folder x.actor) → After f actor (value_at w'.all f actor)
-    by Tmp is whole here =
-        at-key folder x.actor (λ m q. After m q (value_at w'.all m q))
-        (subst (After folder x.actor) (sym here)
-        (listings-stay n s s' p p' there passes x readings kept w (ap is_completing is) are x.actor folder)) elsewhere f actor
-    by New is whole here =
-        at-key folder x.actor (λ m q. After m q (value_at w'.all m q))
-        (joined n s s' p p' there passes x readings folder New refl shown is r whole (kept x.actor folder) (value_at w.all folder x.actor)
-        (value_at w'.all folder x.actor) (are x.actor folder) here) elsewhere f actor
-    by Cur is whole here =
-        at-key folder x.actor (λ m q. After m q (value_at w'.all m q))
-        (joined n s s' p p' there passes x readings folder Cur refl shown is r whole (kept x.actor folder) (value_at w.all folder x.actor)
-        (value_at w'.all folder x.actor) (are x.actor folder) here) elsewhere f actor
+        → joining to r n (listing_in w folder x.actor) (listing_in w' folder x.actor) → After f actor
+    by Tmp is whole here = at-key folder x.actor After (here-with
+        (subst (IsListingKept (n + 1) s' p' folder (after folder x.actor)) (sym here)
+        (listings-stay n s s' p p' there passes x readings kept w (ap is_list is) (ap is_completing is) are x.actor folder).listing))
+        elsewhere f actor
+    by New is whole here = at-key folder x.actor After (here-with
+        (joined n s s' p p' there passes x readings folder New refl shown is r whole (kept x.actor folder) (listing_in w folder x.actor)
+        (listing_in w' folder x.actor) (are x.actor folder).listing here)) elsewhere f actor
+    by Cur is whole here = at-key folder x.actor After (here-with
+        (joined n s s' p p' there passes x readings folder Cur refl shown is r whole (kept x.actor folder) (listing_in w folder x.actor)
+        (listing_in w' folder x.actor) (are x.actor folder).listing here)) elsewhere f actor

@@ -21,7 +21,7 @@ use Rattle.md_log.specs.declared.line.Step.{Step}
 use Rattle.md_law.specs.History.{after_call}
 use Rattle.md_law.specs.Messages.{is_message, is_tmp}
 use Rattle.md_monitor.specs.Changes.{no_change, change_of, naming_change, turned_by, with_file, is_file}
-use Rattle.md_monitor.specs.Files.{FileKept, is_some_and, is_seen, is_new, is_cur, is_ok, is_not_found, made_by, written_by as writes_by}
+use Rattle.md_monitor.specs.Files.{FileKept, is_some_and, is_seen, is_new, is_cur, is_not_found, made_by, written_by as writes_by}
 use Rattle.md_monitor.specs.Messages.{MessagesKept, is_of_any, paths_of, paths_beside, named_other}
 use Rattle.md_monitor.specs.Messages as messages
 use Rattle.md_monitor.specs.Found as files
@@ -65,25 +65,6 @@ module _ (s : State) (test : ℕ → Bool) where
   wrote (call.At deed.Write p r) = wrote-file r (file_at s p)
   wrote c = refl
 
--- the same of a write that is done
-module _ (s : State) (test : ℕ → Bool) where
-  done-file : (r : Reply) (o : Option ℕ) → is_some_and (cond (is_ok r) o None) test
-      ≡ is_some_and (option_map {U = ℕ × Reply} (λ n. (n, r)) o) (λ w. is_ok w.1 && test w.0)
-  done-file r None = by (is_ok r)
-    where
-      by : (b : Bool) → is_some_and (cond b None None) test ≡ false
-      by true = refl
-      by false = refl
-  done-file r (Some n) = by (is_ok r)
-    where
-      by : (b : Bool) → is_some_and (cond b (Some n) None) test ≡ (b && test n)
-      by true = refl
-      by false = refl
-
-  done : (c : Call) → is_some_and (found.wrote_by (file_at s) c) test ≡ is_some_and (writes_by s c) (λ w. is_ok w.1 && test w.0)
-  done (call.At deed.Write p r) = done-file r (file_at s p)
-  done c = refl
-
 wrote-at : (s : State) (c : Call) (n : ℕ) → found.written_by (file_at s) c ≡ Some n → (p : Path) × (file_at s p ≡ Some n)
 wrote-at s (call.At deed.Write p r) n is = by (is_not_found r) is
   where
@@ -112,7 +93,8 @@ module _ (s : State) (kept : ℕ → FileKept) (w : Watch) (are : AreFiles s kep
 
   -- ---- clauses by files that are written to
 
-  pub mixed : (now : ℕ) (x : Step) → found.is_mixed w x.actor (found.written_by (file_at s) x.call) ≡ files.owes_mixed s now kept x
+  pub mixed : (now : ℕ) (x : Step)
+      → found.is_mixed w x.actor (found.written_by (file_at s) x.call) ≡ files.breaks_by_files s now kept x clause.Mixed
   mixed now x = same-at (found.written_by (file_at s) x.call) _ _ (λ n is. ap not (maker-is n x.actor))
       ∙ wrote s (λ n. not (files.is_maker (kept n) x.actor)) x.call
 
@@ -125,29 +107,23 @@ module _ (s : State) (kept : ℕ → FileKept) (w : Watch) (are : AreFiles s kep
       by_stamp filed (λ stamp. nat_le 129600 (w.clock - stamp)) at.0 n at.1)
       ∙ wrote s (λ n. is_some_and (file_by s.files n) (λ file. nat_le 129600 (w.clock - file.stamp))) x.call
 
-  pub law_mixed : (now : ℕ) (x : Step)
-      → found.is_mixed w x.actor (found.wrote_by (file_at s) x.call) ≡ files.breaks_by_files s now kept x clause.Mixed
-  law_mixed now x = same-at (found.wrote_by (file_at s) x.call) _ _ (λ n is. ap not (maker-is n x.actor))
-      ∙ done s (λ n. not (files.is_maker (kept n) x.actor)) x.call
-
   -- ---- clauses by files that begin to be seen
 
   or-parts : (a b c : Bool) → ((a || b) || c) ≡ (a || (b || c))
   or-parts true b c = refl
   or-parts false b c = refl
 
-  in_sight : (x : Step) → found.is_in_sight w (found.wrote_by (file_at s) x.call)
-      ≡ is_some_and (writes_by s x.call) (λ v. is_ok v.1 && is_seen s v.0)
-  in_sight x = same-at (found.wrote_by (file_at s) x.call) _ _ (λ n is. seen-is n) ∙ done s (is_seen s) x.call
+  in_sight : (now : ℕ) (x : Step) → found.is_in_sight w (found.written_by (file_at s) x.call) ≡ files.may_write s now kept x (is_seen s)
+  in_sight now x = same-at (found.written_by (file_at s) x.call) _ _ (λ n is. seen-is n) ∙ wrote s (is_seen s) x.call
 
   shown-cut : (named : Option (Path × ℕ)) → found.shows_cut w named
       ≡ is_some_and named (λ e. is_message e.0 && not (is_seen s e.1) && (kept e.1).is_cut)
   shown-cut named = same-at named _ _ (λ e is i. is_message e.0 && not (seen-is e.1 i) && are.cut e.1 i)
 
   pub seen_before_whole : (now : ℕ) (x : Step)
-      → found.shows_too_early w x.call (found.wrote_by (file_at s) x.call) (change_of s x.call).named
+      → found.shows_too_early w x.call (found.written_by (file_at s) x.call) (change_of s x.call).named
       ≡ files.breaks_by_files s now kept x clause.SeenBeforeWhole
-  seen_before_whole now x = (λ i. files.makes_message x.call || in_sight x i || shown-cut (change_of s x.call).named i)
+  seen_before_whole now x = (λ i. files.makes_message x.call || in_sight now x i || shown-cut (change_of s x.call).named i)
       ∙ or-parts (files.makes_message x.call) _ _
 
   pub not_flushed : (now : ℕ) (x : Step)

@@ -1,5 +1,5 @@
 -- What is remembered goes on with a history.
-use Rattle.std.proofs.Common.{ℕ, ◌≡◌, ◌+◌, List, Option, Some, None, Bool, false, refl, sym, ap, subst, ◌∙◌}
+use Rattle.std.proofs.Common.{ℕ, ◌≡◌, ◌+◌, List, Option, Some, None, Bool, true, false, refl, sym, ap, subst, ◌∙◌}
 use Rattle.md_dirs.specs.State.{State, bare}
 use Rattle.md_dirs.specs.declared.paths.Path.{Path}
 use Rattle.md_dirs.specs.declared.paths.Place.{Place}
@@ -41,7 +41,7 @@ use Rattle.md_watch.specs.Watches.{AreMessages}
 use Rattle.md_watch.proofs.Answering.{claims-begin, claims-step}
 use Rattle.md_watch.proofs.Counting.{one}
 use Rattle.md_watch.proofs.Flagging.{flags-none, flags-put, flags-pass, flags-next, step-recounts, step-leaves}
-use Rattle.md_watch.proofs.Listing.{looker, listings-begin, listings-stay, listings-complete}
+use Rattle.md_watch.proofs.Listing.{looker, listings-begin, listings-stay, listings-break, listings-complete}
 use Rattle.md_watch.proofs.Passing.{presences-none, presences-next, step-passes}
 use Rattle.md_watch.proofs.Reading.{readings-opening, readings-past, readings-next}
 use Rattle.md_watch.proofs.Turning.{turn}
@@ -105,12 +105,7 @@ remembers (next past x) w recalls = recalls
 -- what a call leaves as it was
 stays : (actor : List ℕ) (c : Call) (paths : Paths) (old new : Memory) (read : Read) → Reads actor c paths old new read → Stays old new
 stays actor (call.List folder place r shown) paths old new read reads = reads.stays
-stays actor c paths old new read reads = record {
-  steps = ap (λ (w : Memory). w.steps) reads.0;
-  presences = ap (λ (w : Memory). w.presences) reads.0;
-  flagged = ap (λ (w : Memory). w.flagged) reads.0;
-  claims = ap (λ (w : Memory). w.claims) reads.0;
-}
+stays actor c paths old new read reads = reads.stays
 
 -- while no path changes, presences stay
 same-presences : (s : State) (folder : ℕ) (place : Place) (r : Reply) (shown : List (List ℕ)) (before after : InFolders) (n : ℕ)
@@ -147,9 +142,9 @@ module _ (h : History) (x : Step) (paths : Paths) (m m' : Messages) (before : Ar
       (subst (λ k. flagged.Follows t k old.flagged new.flagged) steps-are
       (subst (λ w. flagged.Follows t mid.steps w new.flagged) unchanged.flagged follows.flagged))
 
-  claims-follow : claims.Steps x t (in_folders m t) (in_folders m' t) n old.claims new.claims
-  claims-follow = subst (λ k. claims.Steps x t (in_folders m t) (in_folders m' t) k old.claims new.claims) steps-are
-      (subst (λ w. claims.Steps x t (in_folders m t) (in_folders m' t) mid.steps w new.claims) unchanged.claims follows.claims)
+  claims-follow : claims.Steps x t (in_folders m t) (in_folders m' t) (n + 1) old.claims new.claims
+  claims-follow = subst (λ k. claims.Steps x t (in_folders m t) (in_folders m' t) (k + 1) old.claims new.claims) steps-are
+      (subst (λ w. claims.Steps x t (in_folders m t) (in_folders m' t) (mid.steps + 1) w new.claims) unchanged.claims follows.claims)
 
   flags-are : (PassesFlags (at h) (at (next h x)) n old.flagged new.flagged) × (AreFlagged (n + 1) (at (next h x)) new.flagged)
   unfolding moment
@@ -180,17 +175,17 @@ module _ (h : History) (x : Step) (paths : Paths) (m m' : Messages) (before : Ar
       (readings-next n h x old.presences was.presences old.readings was.readings folder place r shown call-is mid.readings reads.whole
       (subst (λ k. TakesPart k (looker x folder place) r shown old.readings mid.readings reads.whole) was.steps reads.readings))
   readings-go c call-is reads =
-      subst (λ (w : Memory). AreReadings (n + 1) (at (next h x)) new.presences (readings_kept (next h x)) w.readings) (sym reads.0)
+      subst (λ w. AreReadings (n + 1) (at (next h x)) new.presences (readings_kept (next h x)) w) (sym reads.readings)
       (readings-past n h x old.presences was.presences old.readings was.readings new.presences passes (ap is_list call-is))
 
   abbrev listings-after : Listings → Type 0
   listings-after w = AreListings (n + 1) (at (next h x)) new.presences (listings_kept (next h x)) w
 
-  -- no reading is whole with the step
-  listings-still : is_completing x.call ≡ false → listings-after old.listings
+  -- no reading is whole with a part of one
+  listings-still : is_list x.call ≡ true → is_completing x.call ≡ false → listings-after old.listings
   unfolding listings_kept
-  listings-still none = listings-stay n (at h) (at (next h x)) old.presences new.presences was.presences passes x (readings_kept h)
-      (listings_kept h) old.listings none was.listings
+  listings-still list none = listings-stay n (at h) (at (next h x)) old.presences new.presences was.presences passes x (readings_kept h)
+      (listings_kept h) old.listings list none was.listings
 
   listings-go : (c : Call) → x.call ≡ c → Reads x.actor c paths old mid heard.read → listings-after mid.listings
   unfolding listings_kept
@@ -201,7 +196,7 @@ module _ (h : History) (x : Step) (paths : Paths) (m m' : Messages) (before : Ar
 
       by : (whole : Option Reading) → TakesPart old.steps d r shown old.readings mid.readings whole
           → joining d whole paths old mid.listings heard.read.unlisted → listings-after mid.listings
-      by None takes same = subst listings-after (sym same.0) (listings-still (ap is_completing call-is
+      by None takes same = subst listings-after (sym same.0) (listings-still (ap is_list call-is) (ap is_completing call-is
           ∙ no-whole old.steps d shown (reading_in old.readings d) (reading_in mid.readings d) folder place r takes.here))
       by (Some whole) takes joins =
           let ok = is-whole old.steps d shown (reading_in old.readings d) (reading_in mid.readings d) r whole takes.here in
@@ -211,8 +206,8 @@ module _ (h : History) (x : Step) (paths : Paths) (m m' : Messages) (before : Ar
           (subst (λ k. TakesIn k d shown (reading_in old.readings d) whole) was.steps ok.1))
           (subst (λ k. Completes x.actor folder place whole k old.listings mid.listings) was.steps joins.completes)
           was.listings
-  listings-go c call-is reads =
-      subst (λ (w : Memory). listings-after w.listings) (sym reads.0) (listings-still (ap is_completing call-is))
+  listings-go c call-is reads = listings-break n (at h) (at (next h x)) old.presences new.presences was.presences passes x
+      (readings_kept h) (listings_kept h) old.listings mid.listings (ap is_list call-is) reads.listings was.listings
 
   pub goes-on : Recalls (next h x) new
   goes-on = record {

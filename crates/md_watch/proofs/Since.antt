@@ -1,64 +1,43 @@
 -- What was so since a moment, after one step more.
-use Rattle.std.proofs.Common.{ℕ, ◌≡◌, ◌+◌, ◌≤◌, ◌&&◌, ◌||◌, List, [], ◌∷◌, Option, Some, None, Bool, true, false, not, nat_le, is_some, refl, sym, ap, ◌∙◌, arith}
+use Rattle.std.proofs.Common.{ℕ, ◌≡◌, ◌+◌, ◌≤◌, ◌&&◌, ◌||◌, cond, List, [], ◌∷◌, Option, Some, None, Bool, true, false, not, nat_le, is_some, refl, sym, ap, ◌∙◌, arith}
 use Rattle.std.specs.Prelude.{unwrap_or}
 use Rattle.std.specs.List.{list_all, list_any}
 use Rattle.std.proofs.lemmas.Bool.{leb-true}
+use Rattle.std.proofs.Math.Bool.{or-false}
 use Rattle.md_monitor.specs.Files.{is_some_and}
 use Rattle.md_watch.specs.declared.spells.Spell.{Spell}
-use Rattle.md_watch.specs.Spells.{IsTimely, Passes, always_by, ever_by, since_of}
+use Rattle.md_watch.specs.Spells.{IsTimely, Passes, always_by, ever_by}
 use Rattle.md_watch.specs.Claims.{IsBefore}
-use Rattle.md_watch.proofs.Spelling.{always-here, always-next, always-now, always-stays, ever-here, ever-next, timely-next}
-
-gone-first : (was is : Bool) → not (is && was) ≡ ((not was || not is) || false)
-gone-first true true = refl
-gone-first true false = refl
-gone-first false true = refl
-gone-first false false = refl
-
-gone-later : (was is late : Bool) → not (is && (was && late)) ≡ ((not was || not is) || (not is || not (was && late)))
-gone-later true true late = refl
-gone-later true false late = refl
-gone-later false true late = refl
-gone-later false false late = refl
+use Rattle.md_watch.proofs.Spelling.{always-here, always-next, always-stays, ever-here, ever-next, timely-next}
 
 gone-still : (is always : Bool) → not (is && always) ≡ (not is || not always)
 gone-still true always = refl
 gone-still false always = refl
 
-shown-first : (was is : Bool) → (is || was) ≡ ((was || is) || false)
-shown-first true true = refl
-shown-first true false = refl
-shown-first false true = refl
-shown-first false false = refl
-
-shown-later : (was is ended : Bool) → (is || (was || ended)) ≡ ((was || is) || (is || (was || ended)))
-shown-later true true ended = refl
-shown-later true false ended = refl
-shown-later false true ended = refl
-shown-later false false ended = refl
-
 -- a step of a number, before which a thing was there or not, and after which it is there or not
 module _ (n : ℕ) (was is : Bool) (o o' : Option Spell) (timely : IsTimely n was o) (passes : Passes was is n o o') where
-  -- the step is the actor's own
-  pub gone-own : (begun : Option ℕ) → IsBefore (n + 1) begun
-      → is_some_and (Some (unwrap_or begun n)) (λ b. not (always_by is o' b (n + 1)))
-      ≡ ((not was || not is) || ((is_some begun && not is) || is_some_and begun (λ b. not (always_by was o b n))))
-  gone-own None before =
-      ap not (always-next n was is o o' timely passes n (omega arith) ∙ ap (λ a. is && a) (always-here n was o timely)) ∙ gone-first was is
-  gone-own (Some b) before =
-      let now : b ≤ n = omega (arith, before) in
-      let always = always-now n was o timely b now in
-      ap not (always-next n was is o o' timely passes b now ∙ ap (λ a. is && a) always) ∙ gone-later was is (nat_le (since_of o) b)
-      ∙ ap (λ a. (not was || not is) || (not is || not a)) (sym always)
+  pub now-here : always_by is o' (n + 1) (n + 1) ≡ is
+  now-here = always-here (n + 1) is o' (timely-next n was is o o' timely passes)
 
-  pub shown-own : (begun : Option ℕ) → IsBefore (n + 1) begun
-      → is_some_and (Some (unwrap_or begun n)) (λ b. ever_by is o' b)
-      ≡ ((was || is) || ((is_some begun && is) || is_some_and begun (λ b. ever_by was o b)))
-  shown-own None before =
-      ever-next n was is o o' timely passes n (omega arith) ∙ ap (λ a. is || a) (ever-here n was o timely) ∙ shown-first was is
-  shown-own (Some b) before =
+  -- the step is the actor's own, and changes the message or not
+  pub gone-own : (changes : Bool) (begun : Option ℕ) → IsBefore (n + 1) begun
+      → not (always_by is o' (cond changes (n + 1) (unwrap_or begun (n + 1))) (n + 1))
+      ≡ (not is || (not changes && is_some_and begun (λ b. not (always_by was o b n))))
+  gone-own true begun before = ap not now-here ∙ sym (or-false (not is))
+  gone-own false None before = ap not now-here ∙ sym (or-false (not is))
+  gone-own false (Some b) before =
       let now : b ≤ n = omega (arith, before) in
-      ever-next n was is o o' timely passes b now ∙ shown-later was is _
+      ap not (always-next n was is o o' timely passes b now) ∙ gone-still is (always_by was o b n)
+
+  ever-now : ever_by is o' (n + 1) ≡ (is || false)
+  ever-now = ever-here (n + 1) is o' (timely-next n was is o o' timely passes) ∙ sym (or-false is)
+
+  pub shown-own : (changes : Bool) (begun : Option ℕ) → IsBefore (n + 1) begun
+      → ever_by is o' (cond changes (n + 1) (unwrap_or begun (n + 1)))
+      ≡ (is || (not changes && is_some_and begun (λ b. ever_by was o b)))
+  shown-own true begun before = ever-now
+  shown-own false None before = ever-now
+  shown-own false (Some b) before = let now : b ≤ n = omega (arith, before) in ever-next n was is o o' timely passes b now
 
   -- it is another's
   pub gone-other : (begun : Option ℕ) → IsBefore (n + 1) begun
@@ -89,6 +68,3 @@ module _ (n : ℕ) (was is : Bool) (o o' : Option Spell) (timely : IsTimely n wa
           let low : t ≤ n = leb-true t n now in
           (λ i. always-stays n was is o o' timely passes t t (omega arith) low i || others rest i)
       by others false late none = absurd (cc)
-
-  pub now-here : always_by is o' (n + 1) (n + 1) ≡ is
-  now-here = always-here (n + 1) is o' (timely-next n was is o o' timely passes)

@@ -36,8 +36,9 @@ use Rattle.md_watch.specs.Tables.{value_at, is_key}
 
 -- ---- what is kept of an actor and a message
 
--- What the actor did about the message since its last answer about it: the moment before its first step since then, the number of its last
--- call on the message where that was refused, and the moments right after the steps that took the message from its folder.
+-- What the actor did about the message since its last answer about it: the moment of its last step that changed the message, or else of its
+-- first step, that of its last call on the message where that was refused, and those of the steps that took the message from its folder. The
+-- moment of a step is the one right after it.
 pub record Did : Type 0 where
   pub begun : Option ℕ
   pub refused : Option ℕ
@@ -79,7 +80,7 @@ did_or first (Some d) = did_of d
 abbrev pub did_in : Actor → ℕ → List ℕ → Did
 did_in a folder unique = did_or a.first (value_at a.deeds folder unique)
 
--- the number of its last look at the folder
+-- the moment of its last look at the folder
 abbrev pub look_in : Actor → ℕ → Option ℕ
 look_in a folder = value_at a.looks folder []
 
@@ -100,7 +101,7 @@ pub record IsNew (n : ℕ) (a : Actor) : Type 0 where
 
 -- ---- how a step of its own changes it
 
--- a step of a number is the first since the last answer
+-- a step is the first since the last answer
 abbrev pub begin : ℕ → Did → Did
 begin now d = record d { begun = Some now }
 
@@ -111,8 +112,9 @@ act r now d = record d { refused = if is_ok r then None else Some now }
 -- a step changes the paths of the message, which was in its folder before the step or not, and is after it or not
 abbrev pub change : Bool → Bool → Bool → ℕ → Did → Did
 change was is is_unlink now d = record d {
+  begun = Some now;
   has_added = (not was && is) || d.has_added;
-  taken = if was && not is then d.taken ++ (now + 1) ∷ [] else d.taken;
+  taken = if was && not is then d.taken ++ now ∷ [] else d.taken;
   has_expunged = ((was && not is) && is_unlink) || d.has_expunged;
   has_changed = true;
 }
@@ -305,10 +307,10 @@ pub record IsClaim (n : ℕ) (s : State) (there : MessageSpells) (shown : FlagSp
   pub changed : (did_by o c.folder c.unique).has_changed ≡ kept.has_changed
   pub absent : was_gone n s there c.folder c.unique (did_by o c.folder c.unique).begun ≡ kept.was_absent
   pub flagged : (flags : Set) → IsOfLetters flags → was_shown s shown c flags (did_by o c.folder c.unique).begun ≡ kept.was_flagged flags
-  -- moments are no later than now, and steps come before it
+  -- moments are no later than now
   pub begun : IsBefore (n + 1) (did_by o c.folder c.unique).begun
-  pub refused : IsBefore n (did_by o c.folder c.unique).refused
-  pub look : IsBefore n (look_of o c.folder)
+  pub refused : IsBefore (n + 1) (did_by o c.folder c.unique).refused
+  pub look : IsBefore (n + 1) (look_of o c.folder)
   pub taken : list_all (λ t. nat_le t n) (did_by o c.folder c.unique).taken ≡ true
   -- an actor that made no step since its last answer about the message made none at all, or its last step was that
   pub told : is_told (told_of o) c.folder c.unique ≡ (is_some o && not (is_some (did_by o c.folder c.unique).begun))

@@ -37,7 +37,7 @@ meant WrittenLate = monitor.written_late
 abbrev pub is_broken : Broken → OwedClause → Bool
 is_broken b TwoNames = b.two_names
 is_broken b InTwoFolders = b.in_two_folders
-is_broken b Mixed = b.owed.mixed
+is_broken b Mixed = b.law.mixed
 is_broken b NamedByAnother = b.owed.named_by_another
 is_broken b CleanedEarly = b.cleaned_early
 is_broken b Rewritten = b.owed.rewritten

@@ -9,7 +9,7 @@ use Rattle.md_log.specs.declared.line.Deed.TheVariants as deed
 use Rattle.md_log.specs.declared.line.Reply.TheVariants as reply
 use Rattle.md_log.specs.declared.line.Step.{Step}
 use Rattle.md_law.specs.Messages.{is_message, is_tmp}
-use Rattle.md_monitor.specs.Files.{is_some_and, is_new, is_cur, is_ok, is_not_found}
+use Rattle.md_monitor.specs.Files.{is_some_and, is_new, is_cur, is_not_found}
 use Rattle.md_monitor.specs.Messages.{named_other}
 use Rattle.md_monitor.specs.Found.{is_from_new, makes_message}
 use Rattle.md_watch.specs.declared.watch.Watch.{Watch}
@@ -28,11 +28,6 @@ use Rattle.md_watch.specs.Drafts.{path_in}
 abbrev pub written_by : (Path → Option ℕ) → Call → Option ℕ
 written_by file_at (call.At deed.Write p r) = if is_not_found r then None else file_at p
 written_by file_at c = None
-
--- the file to which a call writes, where the write is done
-abbrev pub wrote_by : (Path → Option ℕ) → Call → Option ℕ
-wrote_by file_at (call.At deed.Write p r) = if is_ok r then file_at p else None
-wrote_by file_at c = None
 
 abbrev pub makes : Call → Bool
 makes (call.At deed.Create p reply.Ok) = true
@@ -65,7 +60,7 @@ module _ (w : Watch) where
       is_message e.0 && not (is_seen_in w.files.all.items e.1) && is_cut_in w.files.all.items e.1)
 
   abbrev pub shows_too_early : Call → Option ℕ → Option (Path × ℕ) → Bool
-  shows_too_early c wrote named = makes_message c || is_in_sight wrote || shows_cut named
+  shows_too_early c written named = makes_message c || is_in_sight written || shows_cut named
 
   -- one that was not flushed since a write
   abbrev pub shows_unflushed : Option (Path × ℕ) → Bool
@@ -118,11 +113,11 @@ module _ (w : Watch) where
 
   -- by the directories before the step
   abbrev pub law_before : Turn → Step → LawBefore
-  law_before t x = let wrote = wrote_by (file_in w.paths) x.call in record {
+  law_before t x = let written = written_by (file_in w.paths) x.call in record {
     not_a_directory = is_wrong (file_in w.paths) w.folders x.call;
     overwritten = is_some t.turned;
-    seen_before_whole = shows_too_early x.call wrote t.named;
-    mixed = is_mixed x.actor wrote;
+    seen_before_whole = shows_too_early x.call written t.named;
+    mixed = is_mixed x.actor written;
     not_flushed = shows_unflushed t.named;
     used_again = adds t && is_back t.named;
     moved_back = is_moved_back t.named && not (is_from_new x.call);
@@ -130,7 +125,6 @@ module _ (w : Watch) where
 
   abbrev pub owed_before : Turn → Step → OwedBefore
   owed_before t x = let written = written_by (file_in w.paths) x.call in record {
-    mixed = is_mixed x.actor written;
     named_by_another = is_anothers x t.named;
     rewritten = is_rewritten written;
     used_again = is_used_again t.named;
@@ -154,6 +148,7 @@ module _ (w : Watch) where
     two_names = b.adds && is_second t.named;
     in_two_folders = b.adds && is_elsewhere t.named;
     gone = not b.empties_trash && is_gone t.taken;
+    renamed = (not b.empties_trash && is_gone t.taken) && not (is_hidden t.taken);
     cleaned_early = (b.takes_early && is_hidden t.taken) || (b.turns_early && is_hidden t.turned);
     law = b.law;
     owed = b.owed;

@@ -17,3 +17,4 @@ pub mod Watches
 pub mod Presences
 pub mod Listings
 pub mod Memory
+pub mod LookUps

@@ -1,5 +1,5 @@
 -- What is kept of listings that are not complete, and how a reading that is complete goes into one.
-use Rattle.std.specs.Prelude.{ℕ, ◌≡◌, ◌≤◌, ◌&&◌, ◌||◌, ◌++◌, ◌∷◌, [], List, Option, Some, None, Bool, true, false, not, is_some, if◌then◌else◌}
+use Rattle.std.specs.Prelude.{ℕ, ◌≡◌, ◌+◌, ◌≤◌, ◌==◌, ◌&&◌, ◌||◌, ◌++◌, ◌∷◌, [], List, Option, Some, None, Bool, true, false, not, is_some, if◌then◌else◌}
 use Rattle.std.specs.List.{list_any, list_all}
 use Rattle.std.specs.Str.{bytes_eq}
 use Rattle.indexmap.specs.IndexSet.{contains}
@@ -23,7 +23,7 @@ use Rattle.md_watch.specs.declared.presences.Presences.{Presences}
 use Rattle.md_watch.specs.declared.readings.Reading.{Reading}
 use Rattle.md_watch.specs.declared.spells.Spell.{Spell}
 use Rattle.md_watch.specs.Spells.{always_by, spell_at}
-use Rattle.md_watch.specs.Tables.{value_at, is_key}
+use Rattle.md_watch.specs.Tables.{value_at, count_at, is_key, Puts}
 
 -- ---- what is kept of a listing
 
@@ -59,8 +59,27 @@ pub record IsListingKept (n : ℕ) (s : State) (p : Presences) (folder : ℕ) (k
   pub is_shown : (unique : List ℕ) → kept.is_shown unique ≡ shows_in o unique
   pub within : AreWithin n (spans_in o)
 
+-- the listing, where its actor has made no more breaks than when it began
+abbrev pub unbroken : ℕ → Option Listing → Option Listing
+unbroken breaks None = None
+unbroken breaks (Some l) = if l.breaks == breaks then Some l else None
+
+-- the actor's listing of the folder that is not broken off
+abbrev pub listing_in : Listings → ℕ → List ℕ → Option Listing
+listing_in w folder actor = unbroken (count_at w.breaks 0 actor) (value_at w.all folder actor)
+
+-- a listing began after no more breaks than these
+abbrev pub HasBegunBy : ℕ → Option Listing → Type 0
+HasBegunBy breaks None = Unit {0}
+HasBegunBy breaks (Some l) = l.breaks ≤ breaks
+
+-- What is kept is so of the listing of a folder by an actor.
+pub record IsListingIn (n : ℕ) (s : State) (p : Presences) (kept : ListingKept) (w : Listings) (folder : ℕ) (actor : List ℕ) : Type 0 where
+  pub listing : IsListingKept n s p folder kept (listing_in w folder actor)
+  pub begun : HasBegunBy (count_at w.breaks 0 actor) (value_at w.all folder actor)
+
 abbrev pub AreListings : ℕ → State → Presences → (List ℕ → ℕ → ListingKept) → Listings → Type 0
-AreListings n s p kept w = (actor : List ℕ) (folder : ℕ) → IsListingKept n s p folder (kept actor folder) (value_at w.all folder actor)
+AreListings n s p kept w = (actor : List ℕ) (folder : ℕ) → IsListingIn n s p (kept actor folder) w folder actor
 
 -- ---- a reading that is complete
 
@@ -97,8 +116,16 @@ joining place r now old new = Joins place r now old new
 
 -- The listing of one actor and folder goes on so, and nothing else is changed.
 pub record Completes (actor : List ℕ) (folder : ℕ) (place : Place) (r : Reading) (now : ℕ) (old new : Listings) : Type 0 where
-  pub here : joining place r now (value_at old.all folder actor) (value_at new.all folder actor)
+  pub here : joining place r now (listing_in old folder actor) (listing_in new folder actor)
+  pub begun : HasBegunBy (count_at old.breaks 0 actor) (value_at old.all folder actor)
+      → HasBegunBy (count_at old.breaks 0 actor) (value_at new.all folder actor)
+  pub breaks : new.breaks ≡ old.breaks
   pub others : (m : ℕ) (q : List ℕ) → is_key (folder, actor) (m, q) ≡ false → value_at new.all m q ≡ value_at old.all m q
+
+-- A call of the actor, which reads nothing, breaks its listings off.
+pub record Breaks (actor : List ℕ) (old new : Listings) : Type 0 where
+  pub all : new.all ≡ old.all
+  pub breaks : Puts 0 actor (Some (count_at old.breaks 0 actor + 1)) old.breaks new.breaks
 
 -- ---- what it breaks
 

@@ -31,7 +31,7 @@ use Rattle.md_watch.specs.Claims.{AreClaims, actor_in}
 use Rattle.md_watch.specs.Directories.{names_in}
 use Rattle.md_watch.specs.Flagged as flagged
 use Rattle.md_watch.specs.Flagged.{AreFlagged}
-use Rattle.md_watch.specs.Listings.{AreListings, Completes, is_unlisted}
+use Rattle.md_watch.specs.Listings.{AreListings, Breaks, Completes, is_unlisted, listing_in}
 use Rattle.md_watch.specs.Presences as presences
 use Rattle.md_watch.specs.Presences.{ArePresences}
 use Rattle.md_watch.specs.Readings.{AreReadings, TakesPart, reading_in, is_wrong}
@@ -110,7 +110,7 @@ pub record Joins (d : Looker) (r : Reading) (paths : Paths) (old : Memory) (new 
   pub there : Present
   pub is_there : IsThere paths old there
   pub folder : there.folder ≡ d.folder
-  pub unlisted : lacks ≡ is_unlisted (value_at old.listings.all there.folder d.actor) d.place r old.steps there
+  pub unlisted : lacks ≡ is_unlisted (listing_in old.listings there.folder d.actor) d.place r old.steps there
   pub completes : Completes d.actor d.folder d.place r old.steps old.listings new
 
 -- where there is one
@@ -138,11 +138,19 @@ pub record ReadsPart (d : Looker) (r : Reply) (shown : List (List ℕ)) (paths :
   pub readings : TakesPart old.steps d r shown old.readings new.readings whole
   pub listings : joining d whole paths old new.listings read.unlisted
 
+-- An actor's call reads nothing, and breaks its listings off.
+pub record BreaksOff (actor : List ℕ) (old new : Memory) (read : Read) : Type 0 where
+  pub stays : Stays old new
+  pub readings : new.readings ≡ old.readings
+  pub listings : Breaks actor old.listings new.listings
+  pub misread : read.misread ≡ false
+  pub unlisted : read.unlisted ≡ false
+
 -- a call by an actor
 abbrev pub Reads : List ℕ → Call → Paths → Memory → Memory → Read → Type 0
 Reads actor (call.List folder place r shown) paths old new read =
     ReadsPart (record { actor = actor; folder = folder; place = place }) r shown paths old new read
-Reads actor c paths old new read = (new ≡ old) × (read.misread ≡ false) × (read.unlisted ≡ false)
+Reads actor c paths old new read = BreaksOff actor old new read
 
 -- A step.
 pub record Hears (x : Step) (paths : Paths) (m : Messages) (old new : Memory) (heard : Heard) : Type 0 where
@@ -158,4 +166,4 @@ pub record Follows (x : Step) (t : Turn) (before after : InFolders) (old new : M
   pub flagged : flagged.Follows t old.steps old.flagged new.flagged
   pub readings : new.readings ≡ old.readings
   pub listings : new.listings ≡ old.listings
-  pub claims : claims.Steps x t before after old.steps old.claims new.claims
+  pub claims : claims.Steps x t before after (old.steps + 1) old.claims new.claims

@@ -44,6 +44,7 @@ abbrev pub has_shown_message : Option Reading → List ℕ → Bool
 has_shown_message None unique = false
 has_shown_message (Some r) unique = contains bytes_eq r.uniques unique
 
+-- an actor's reading of a directory, where one is not over
 abbrev pub reading_in : Readings → Looker → Option Reading
 reading_in w d = value_at w.all (directory_number d.folder d.place) d.actor
 

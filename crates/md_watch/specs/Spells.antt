@@ -48,6 +48,7 @@ pub record IsTimely (n : ℕ) (is : Bool) (o : Option Spell) : Type 0 where
 
 -- ---- by keys
 
+-- what is kept of a thing, which has a number and a name
 abbrev pub spell_at : Spells → ℕ → List ℕ → Option Spell
 spell_at w number name = value_at w.all number name
 

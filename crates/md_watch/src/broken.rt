@@ -12,6 +12,8 @@ pub struct Broken {
     pub(crate) two_names: bool,
     pub(crate) in_two_folders: bool,
     pub(crate) gone: bool,
+    /// The message that is gone is one still, by another unique name.
+    pub(crate) renamed: bool,
     pub(crate) cleaned_early: bool,
     pub(crate) law: LawBefore,
     pub(crate) owed: OwedBefore,
@@ -47,7 +49,6 @@ pub(crate) struct LawBefore {
 /// Which of those that are owed beside it.
 #[derive(Clone, Copy)]
 pub(crate) struct OwedBefore {
-    pub(crate) mixed: bool,
     pub(crate) named_by_another: bool,
     pub(crate) rewritten: bool,
     pub(crate) used_again: bool,
@@ -63,7 +64,7 @@ impl Broken {
         match clause {
             OwedClause::TwoNames => self.two_names,
             OwedClause::InTwoFolders => self.in_two_folders,
-            OwedClause::Mixed => self.owed.mixed,
+            OwedClause::Mixed => self.law.mixed,
             OwedClause::NamedByAnother => self.owed.named_by_another,
             OwedClause::CleanedEarly => self.cleaned_early,
             OwedClause::Rewritten => self.owed.rewritten,
@@ -93,5 +94,12 @@ impl Broken {
             Clause::GaveUp => self.heard.told.gave_up,
             Clause::AnsweredFalsely => self.heard.told.falsely,
         }
+    }
+
+    /// Whether the message that is gone is one still, by another unique name: its file has not left.
+    pub fn is_renamed(&self) -> bool
+        ensures { result ≡ self.now.renamed }
+    {
+        self.renamed
     }
 }

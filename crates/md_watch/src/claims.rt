@@ -12,8 +12,9 @@ use crate::presences::InFolders;
 use crate::table::Table;
 use actor::Actor;
 use deeds::{Done, nothing};
+pub(crate) use deeds::{Acts, NO_ACTS};
 pub(crate) use finding::Past;
-use md_log::Step;
+use md_log::{Call, Step};
 use std::alloc::{AllocError, Global};
 
 /// What is kept of actors.
@@ -35,7 +36,7 @@ impl Claims {
         }
     }
 
-    /// A step of a number, and what it changes: the messages of its paths were in their folders before it, and are after it.
+    /// A step, by the moment right after it, and what it changes: the messages of its paths were in their folders before it, and are after it.
     pub(crate) fn step(
         &mut self,
         step: &Step,
@@ -53,6 +54,17 @@ impl Claims {
         };
         actor.step(&step.call, change, before, after, now)?;
         self.actors.put(0, name, actor)
+    }
+
+    /// When the actor of a step, which is an answer, last acted on the message of which it tells.
+    pub(crate) fn acts(&self, step: &Step) -> Acts {
+        match &step.call {
+            Call::Answer { folder, unique, .. } => {
+                let done = self.done(step.actor.as_slice(), *folder, unique.as_slice());
+                done.acts
+            }
+            _ => NO_ACTS,
+        }
     }
 
     /// What the actor did about the message.

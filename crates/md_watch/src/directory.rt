@@ -4,6 +4,7 @@ ghost use Rattle.std.specs.Str.{bytes_eq};
 ghost use Rattle.md_watch.specs.Directories.{file_of, names_of};
 
 use indexmap::IndexMap;
+use indexmap::map::Iter;
 use md_dirs::NameKey;
 use std::alloc::{AllocError, Global};
 
@@ -35,6 +36,11 @@ impl Directory {
         ensures { result.now ≡ names_of self.now }
     {
         self.files.keys().as_slice()
+    }
+
+    /// The names with the numbers of their files, in the same order.
+    pub(crate) fn files(&self) -> Iter<'_, NameKey<'static>, usize> {
+        self.files.iter()
     }
 
     pub(crate) fn put(&mut self, alloc: Global, name: &[u8], file: usize) -> Result<(), AllocError>

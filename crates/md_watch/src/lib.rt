@@ -13,6 +13,7 @@ mod drafts;
 mod files;
 mod flagged;
 mod listings;
+mod marks;
 mod memory;
 mod messages;
 mod paths;
@@ -25,4 +26,4 @@ mod watch;
 
 pub use broken::Broken;
 pub use clause::{OWED, OwedClause};
-pub use watch::Watch;
+pub use watch::{OpenReading, Presence, Watch};

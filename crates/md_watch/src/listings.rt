@@ -1,16 +1,18 @@
 //! Listings of folders, which are readings of new and cur.
 ghost use Rattle.std.specs.Prelude.{◌≡◌, ℕ, List, Some, None, true, OnOk, IfOk};
 ghost use Rattle.std.specs.List.{list_any};
-ghost use Rattle.md_watch.specs.Listings.{Completes, Joins, place_of, is_completed_by, is_shown, was_always, is_left_out, is_lacked, is_unlisted, always_during};
+ghost use Rattle.std.specs.Option.{option_copied};
+ghost use Rattle.md_watch.specs.Listings.{Breaks, Completes, Joins, listing_in, place_of, is_completed_by, is_shown, was_always, is_left_out, is_lacked, is_unlisted, always_during};
 ghost use Rattle.md_watch.specs.Spells.{spell_at};
-ghost use Rattle.md_watch.specs.Tables.{value_at};
+ghost use Rattle.md_watch.specs.Tables.{Puts, count_at, value_at};
 
+use crate::paths::Paths;
 use crate::presences::Presences;
-use crate::readings::Reading;
+use crate::readings::{Part, Reading};
 use crate::spells::Spells;
 use crate::table::Table;
 use indexmap::IndexSet;
-use md_dirs::{NameKey, Place};
+use md_dirs::{Bytes, NameKey, Place};
 use md_name::{is_message, unique_part};
 use std::alloc::{AllocError, Global};
 
@@ -23,13 +25,18 @@ pub(crate) struct Listing {
     spans: Vec<(usize, usize)>,
     /// The unique names of the messages that they showed.
     uniques: IndexSet<NameKey<'static>>,
+    /// How many breaks its actor had made when it began: with one more it is broken off.
+    breaks: usize,
 }
 
-/// The listings that are not complete, by the folder and the actor.
+/// The listings that are not complete.
 #[derive(Drop)]
 pub(crate) struct Listings {
     alloc: Global,
+    /// By the folder and the actor, with some that were broken off.
     all: Table<Listing>,
+    /// How many breaks actors made, which are calls that read nothing. By 0 and the names of actors.
+    breaks: Table<usize>,
 }
 
 /// What is there of a folder: the names of new and of cur, and when its messages were there.
@@ -48,7 +55,15 @@ impl Listings {
         Listings {
             alloc,
             all: Table::new(alloc),
+            breaks: Table::new(alloc),
         }
+    }
+
+    /// A call of an actor, which reads nothing, breaks its listings off.
+    pub(crate) fn break_off(&mut self, actor: &[u8]) -> Result<(), AllocError>
+        ensures { OnOk result (Breaks actor.now self.old self.new) }
+    {
+        self.breaks.raise(0, actor)
     }
 
     /// An actor completed a reading of a directory at the step of a number. One of tmp is no part of a listing.
@@ -80,8 +95,8 @@ impl Listings {
         ensures { OnOk result (Completes actor.now folder (place_of of_cur) reading now self.old self.new) }
     {
         let folder = folder as usize;
-        let listing = match self.all.take(folder, actor) {
-            None => Listing::begin(self.alloc, of_cur, reading, now)?,
+        let listing = match self.take(folder, actor) {
+            None => self.begin(actor, of_cur, reading, now)?,
             Some(listing) => {
                 if listing.of_cur != of_cur {
                     return Ok(());
@@ -90,6 +105,52 @@ impl Listings {
             }
         };
         self.all.put(folder, actor, listing)
+    }
+
+    /// It begins with a reading that is complete at a moment.
+    fn begin(
+        &self,
+        actor: &[u8],
+        of_cur: bool,
+        reading: Reading,
+        now: usize,
+    ) -> Result<Listing, AllocError>
+        ensures joins { IfOk result (λ listing. Joins (place_of of_cur) reading now None (Some listing)) }
+        ensures breaks { IfOk result (λ listing. listing.breaks ≡ count_at self.now.breaks 0 actor.now) }
+    {
+        let mut spans = Vec::new(self.alloc);
+        spans.push((reading.begun, now))?;
+        Ok(Listing {
+            of_cur,
+            spans,
+            uniques: reading.uniques,
+            breaks: self.breaks.count(0, actor),
+        })
+    }
+
+    /// Takes out the listing of the folder by the actor, where it was not broken off.
+    fn take(&mut self, folder: usize, actor: &[u8]) -> Option<Listing>
+        ensures taken { result ≡ listing_in self.old folder actor.now }
+        ensures puts { Puts folder actor.now None self.old.all self.new.all }
+        ensures alloc { self.new.alloc ≡ self.old.alloc }
+        ensures breaks { self.new.breaks ≡ self.old.breaks }
+    {
+        let listing = self.all.take(folder, actor)?;
+        if listing.breaks != self.breaks.count(0, actor) {
+            return None;
+        }
+        Some(listing)
+    }
+
+    /// The listing of the folder by the actor, where it was not broken off.
+    fn get<'a>(&'a self, folder: usize, actor: &'a [u8]) -> Option<&'a Listing>
+        ensures { option_copied result ≡ listing_in self.now folder actor.now }
+    {
+        let listing = self.all.get(folder, actor)?;
+        if listing.breaks != self.breaks.count(0, actor) {
+            return None;
+        }
+        Some(listing)
     }
 
     /// Whether a reading of a directory, which an actor completes by the step of a number, completes a listing that lacks a message which
@@ -102,9 +163,9 @@ impl Listings {
         now: usize,
         present: &Present<'_>,
     ) -> bool
-        ensures { result ≡ is_unlisted (value_at self.now.all present.now.folder actor.now) place reading.now now present.now }
+        ensures { result ≡ is_unlisted (listing_in self.now present.now.folder actor.now) place reading.now now present.now }
     {
-        match self.all.get(present.folder as usize, actor) {
+        match self.get(present.folder as usize, actor) {
             None => false,
             Some(listing) => {
                 listing.is_completed_by(place)
@@ -113,25 +174,63 @@ impl Listings {
             }
         }
     }
+
+    /// Where such a listing lacks a message, the unique name of that of the first file. It is asked before the reading is taken in.
+    pub(crate) fn left_out(
+        &self,
+        is_unlisted: bool,
+        part: &Part<'_>,
+        reading: &Reading,
+        now: usize,
+        present: &Present<'_>,
+        paths: &Paths,
+    ) -> Result<Option<Bytes>, AllocError> {
+        if !is_unlisted {
+            return Ok(None);
+        }
+        let Some(listing) = self.get(part.folder as usize, part.actor) else {
+            return Ok(None);
+        };
+        match listing.first_lacked(reading, now, present, paths) {
+            None => Ok(None),
+            Some(unique) => Ok(Some(Bytes::copied(self.alloc, unique)?)),
+        }
+    }
 }
 
 impl Listing {
-    /// It begins with a reading that is complete at a moment.
-    fn begin(alloc: Global, of_cur: bool, reading: Reading, now: usize) -> Result<Self, AllocError>
-        ensures { IfOk result (λ listing. Joins (place_of of_cur) reading now None (Some listing)) }
-    {
-        let mut spans = Vec::new(alloc);
-        spans.push((reading.begun, now))?;
-        Ok(Listing {
-            of_cur,
-            spans,
-            uniques: reading.uniques,
-        })
+    /// The unique name of the message of the first file that was there all the while, and that neither the reading shows nor those before.
+    fn first_lacked<'a>(
+        &self,
+        reading: &Reading,
+        now: usize,
+        present: &Present<'_>,
+        paths: &'a Paths,
+    ) -> Option<&'a [u8]> {
+        let mut first = None;
+        for place in [Place::New, Place::Cur] {
+            let Some(directory) = paths.directory(present.folder, place) else {
+                continue;
+            };
+            for (name, file) in directory.files() {
+                let name = name.as_slice();
+                let is_before = match first {
+                    None => true,
+                    Some((least, _)) => *file < least,
+                };
+                if is_before && self.is_lacked(reading, now, present, name) {
+                    first = Some((*file, name));
+                }
+            }
+        }
+        let (_, name) = first?;
+        Some(unique_part(name))
     }
 
     /// It goes on with a reading of the same place.
     fn join(mut self, reading: Reading, now: usize) -> Result<Self, AllocError>
-        ensures { IfOk result (λ listing. Joins (place_of self.of_cur) reading now (Some self) (Some listing)) }
+        ensures joins { IfOk result (λ listing. Joins (place_of self.of_cur) reading now (Some self) (Some listing)) }
+        ensures breaks { IfOk result (λ listing. listing.breaks ≡ self.breaks) }
     {
         self.spans.push((reading.begun, now))?;
         let mut uniques = reading.uniques;

@@ -6,14 +6,14 @@ ghost use Rattle.md_watch.specs.Memory.{Begins, Puts, Tells, Reads, ReadsPart, L
 ghost use Rattle.md_watch.specs.Readings.{looker_of};
 
 use crate::change::Change;
-use crate::claims::{Claims, Past};
+use crate::claims::{Acts, Claims, NO_ACTS, Past};
 use crate::flagged::Flagged;
 use crate::listings::{Listings, Present};
 use crate::messages::Messages;
 use crate::paths::Paths;
 use crate::presences::{InFolders, Presences};
-use crate::readings::{Part, Reading, Readings};
-use md_dirs::{Path, Place};
+use crate::readings::{Found, Part, Reading, Readings};
+use md_dirs::{Bytes, Path, Place};
 use md_log::{Call, Step};
 use std::alloc::{AllocError, Global};
 
@@ -42,12 +42,16 @@ pub(crate) struct Told {
 #[derive(Drop)]
 pub(crate) struct Memory {
     /// The number of steps so far.
-    steps: usize,
-    presences: Presences,
+    pub(crate) steps: usize,
+    pub(crate) presences: Presences,
     flagged: Flagged,
-    readings: Readings,
+    pub(crate) readings: Readings,
     listings: Listings,
     claims: Claims,
+    /// The name by which the last part of a reading is answered wrongly, where there is one.
+    pub(crate) wrong_name: Option<Bytes>,
+    /// The unique name of a message that the last listing lacks, where there is one.
+    pub(crate) left_out: Option<Bytes>,
 }
 
 impl Memory {
@@ -62,6 +66,8 @@ impl Memory {
             readings: Readings::new(alloc),
             listings: Listings::new(alloc),
             claims: Claims::new(alloc),
+            wrong_name: None,
+            left_out: None,
         }
     }
 
@@ -85,6 +91,15 @@ impl Memory {
         let told = self.tell(step, messages);
         let read = self.read(step, paths)?;
         Ok(Heard { read, told })
+    }
+
+    /// When the actor of a step, which is an answer that is found to break what is owed, last acted on the message of which it tells.
+    pub(crate) fn acts(&self, step: &Step, heard: Heard) -> Acts {
+        if heard.told.gave_up || heard.told.falsely {
+            self.claims.acts(step)
+        } else {
+            NO_ACTS
+        }
     }
 
     fn tell(&self, step: &Step, messages: &Messages) -> Told
@@ -121,10 +136,13 @@ impl Memory {
                 };
                 self.read_part(&part, paths)
             }
-            _ => Ok(Read {
-                misread: false,
-                unlisted: false,
-            }),
+            _ => {
+                self.listings.break_off(step.actor.as_slice())?;
+                Ok(Read {
+                    misread: false,
+                    unlisted: false,
+                })
+            }
         }
     }
 
@@ -135,11 +153,27 @@ impl Memory {
         let found = self
             .readings
             .read(part, paths, &self.presences.names, self.steps)?;
+        self.wrong_name = self.wrong_name_of(part, &found, paths)?;
         let unlisted = self.list(part, found.whole, paths)?;
         Ok(Read {
             misread: found.is_wrong,
             unlisted,
         })
+    }
+
+    /// The name by which a part, which was taken in, is answered wrongly, where it is.
+    fn wrong_name_of(
+        &self,
+        part: &Part<'_>,
+        found: &Found,
+        paths: &Paths,
+    ) -> Result<Option<Bytes>, AllocError> {
+        if !found.is_wrong {
+            return Ok(None);
+        }
+        let whole = found.whole.as_ref();
+        self.readings
+            .wrong_name(part, whole, paths, &self.presences.names, self.steps)
     }
 
     /// Whether a reading that is whole completes a listing that lacks a message. It is taken in.
@@ -164,6 +198,9 @@ impl Memory {
         let unlisted = self
             .listings
             .is_unlisted(actor, place, &reading, now, &present);
+        self.left_out = self
+            .listings
+            .left_out(unlisted, part, &reading, now, &present, paths)?;
         self.listings
             .complete(actor, part.folder, place, reading, now)?;
         Ok(unlisted)
@@ -185,7 +222,7 @@ impl Memory {
         };
         self.presences.follow(change, before, after, now)?;
         self.flagged.follow(change, now)?;
-        self.claims.step(step, change, before, after, now)?;
+        self.claims.step(step, change, before, after, next)?;
         self.steps = next;
         Ok(())
     }

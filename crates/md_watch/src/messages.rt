@@ -70,6 +70,11 @@ impl Messages {
         self.files.has(folder as usize, unique, file)
     }
 
+    /// The first file that it was there, by the numbers of files.
+    pub(crate) fn first_file_in(&self, folder: u32, unique: &[u8]) -> Option<usize> {
+        self.files.first(folder as usize, unique)
+    }
+
     /// Whether it was in any folder.
     pub(crate) fn was(&self, unique: &[u8]) -> bool
         ensures { result ≡ was_anywhere self.now unique.now }

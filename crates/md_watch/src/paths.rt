@@ -50,8 +50,13 @@ impl Paths {
     pub(crate) fn file_at(&self, path: &Path) -> Option<usize>
         ensures { result ≡ file_in self.now path.now }
     {
-        self.directory(path.folder, path.place)?
-            .file(path.name.as_slice())
+        self.file_named(path.folder, path.place, path.name.as_slice())
+    }
+
+    pub(crate) fn file_named(&self, folder: u32, place: Place, name: &[u8]) -> Option<usize>
+        ensures { result ≡ file_named self.now (directory_number folder place) name.now }
+    {
+        self.directory(folder, place)?.file(name)
     }
 
     /// What a call does to the paths, where so many files were made so far.

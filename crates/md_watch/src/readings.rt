@@ -94,6 +94,19 @@ impl Readings {
         }
     }
 
+    /// An actor's reading of a directory.
+    pub(crate) fn reading<'a>(
+        &'a self,
+        actor: &'a [u8],
+        folder: u32,
+        place: Place,
+    ) -> Option<&'a Reading>
+        ensures { option_copied result
+            ≡ reading_in self.now (record { actor = actor.now; folder = folder; place = place }) }
+    {
+        self.all.get(number_of(folder, place), actor)
+    }
+
     /// Goes on with a part, which is the step of a number. It changes no directory, so the names that are there, and when they were, may be
     /// those of before the step or after it.
     pub(crate) fn read(
@@ -138,6 +151,38 @@ impl Readings {
                 is_wrong: false,
                 whole: None,
             }),
+        }
+    }
+
+    /// The name by which a part, which was taken in, is found to be answered wrongly: one that it shows and that wasn't there, or the one
+    /// of the first file that the whole reading lacks.
+    pub(crate) fn wrong_name(
+        &self,
+        part: &Part<'_>,
+        whole: Option<&Reading>,
+        paths: &Paths,
+        names: &Spells,
+        now: usize,
+    ) -> Result<Option<Bytes>, AllocError> {
+        let number = number_of(part.folder, part.place);
+        let directory = paths.directory(part.folder, part.place);
+        let Some(reading) = whole.or(self.all.get(number, part.actor)) else {
+            return Ok(None);
+        };
+        let shown = part.shown.as_slice();
+        let other = shown.iter().find(|name| !had_name(
+            directory,
+            names,
+            number,
+            reading.begun,
+            name.as_slice(),
+        ));
+        if let Some(name) = other {
+            return Ok(Some(name.again(self.alloc)?));
+        }
+        match first_lacked(directory, names, number, reading, now) {
+            None => Ok(None),
+            Some(name) => Ok(Some(Bytes::copied(self.alloc, name)?)),
         }
     }
 
@@ -202,6 +247,30 @@ fn lacks(
                 && names.was_always(number, name.as_slice(), true, reading.begun, now)
         }),
     }
+}
+
+/// Of such names the one of the first file.
+fn first_lacked<'a>(
+    directory: Option<&'a Directory>,
+    names: &Spells,
+    number: usize,
+    reading: &Reading,
+    now: usize,
+) -> Option<&'a [u8]> {
+    let mut first = None;
+    for (name, file) in directory?.files() {
+        let is_before = match first {
+            None => true,
+            Some((least, _)) => *file < least,
+        };
+        let is_shown = reading.names.contains(name);
+        let name = name.as_slice();
+        if is_before && !is_shown && names.was_always(number, name, true, reading.begun, now) {
+            first = Some((*file, name));
+        }
+    }
+    let (_, name) = first?;
+    Some(name)
 }
 
 /// The unique name of a message, where a name of a directory is one.

@@ -33,6 +33,11 @@ impl Sets {
         }
     }
 
+    /// The least number of the set.
+    pub(crate) fn first(&self, number: usize, name: &[u8]) -> Option<usize> {
+        self.all.get(number, name)?.first().copied()
+    }
+
     /// Adds the number, which the set may have.
     pub(crate) fn add(&mut self, number: usize, name: &[u8], n: usize) -> Result<(), AllocError>
         ensures { OnOk result (Adds number name.now n self.old self.new) }

@@ -1,7 +1,8 @@
 //! When things were there.
 ghost use Rattle.std.specs.Prelude.{◌≡◌, ℕ, List, None, OnOk, nat_le};
 ghost use Rattle.std.specs.List.{list_any};
-ghost use Rattle.md_watch.specs.Spells.{Notes, always_by, ever_by, spell_at, was_through};
+ghost use Rattle.md_watch.specs.LookUps.{last_of};
+ghost use Rattle.md_watch.specs.Spells.{Notes, always_by, ended_of, ever_by, since_of, spell_at, was_through};
 
 use crate::table::Table;
 use std::alloc::{AllocError, Global};
@@ -90,6 +91,30 @@ impl Spells {
             None => is,
             Some(spell) => is || was_since(spell.ended.as_slice(), first),
         }
+    }
+
+    /// Since which moment it is there, where it is.
+    pub(crate) fn since(&self, number: usize, name: &[u8]) -> usize
+        ensures { result ≡ since_of (spell_at self.now number name.now) }
+    {
+        match self.all.get(number, name) {
+            None => 0,
+            Some(spell) => spell.since,
+        }
+    }
+
+    /// The last moment at which it was there before.
+    pub(crate) fn last(&self, number: usize, name: &[u8]) -> Option<usize>
+        ensures { result ≡ last_of (ended_of (spell_at self.now number name.now)) }
+    {
+        let (_, end) = self.all.get(number, name)?.ended.last()?;
+        Some(*end)
+    }
+
+    /// Since which moment it was there when it was there last before.
+    pub(crate) fn last_since(&self, number: usize, name: &[u8]) -> Option<usize> {
+        let (since, _) = self.all.get(number, name)?.ended.last()?;
+        Some(*since)
     }
 }
 

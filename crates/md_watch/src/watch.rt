@@ -7,20 +7,24 @@ ghost use Rattle.md_watch.specs.Changes.{turn_of, adding};
 ghost use Rattle.md_watch.specs.Found.{before_of, law_before, owed_before, after_of};
 ghost use Rattle.md_watch.specs.Watches.{Holds, with_folder, PutsFile, PutsName, IsPathRefused, IsNameRefused, Finds, FindsLaw, Touches, Follows};
 
+mod earlier;
 mod finding;
 mod law;
+mod look_ups;
 mod replies;
 
 use crate::broken::{Before, Broken, LawBefore, OwedBefore};
 use crate::change::Change;
 use crate::drafts::Drafts;
 use crate::files::Files;
+use crate::marks::{Marks, There};
 use crate::memory::{Heard, Memory};
 use crate::messages::Messages;
 use crate::paths::Paths;
 use crate::presences::in_folders;
 use finding::is_from_new;
 use law::{empties_trash, turns};
+pub use look_ups::{OpenReading, Presence};
 use md_dirs::Path;
 use md_log::{Call, Deed, LineFault, Reply, Step};
 use std::alloc::{AllocError, Global};
@@ -40,6 +44,7 @@ pub struct Watch {
     messages: Messages,
     drafts: Drafts,
     memory: Memory,
+    marks: Marks,
 }
 
 impl Watch {
@@ -56,6 +61,7 @@ impl Watch {
             messages: Messages::new(alloc),
             drafts: Drafts::new(alloc),
             memory: Memory::new(alloc),
+            marks: Marks::new(alloc),
         }
     }
 
@@ -82,6 +88,7 @@ impl Watch {
         }
         let file = self.files.count();
         self.files.make(None, stamp)?;
+        self.marks.begin(path, file, &self.files, &self.messages)?;
         self.follow(&added(path, file))?;
         self.memory.put(path)?;
         Ok(())
@@ -99,6 +106,7 @@ impl Watch {
         let Some(file) = self.paths.file_at(old) else {
             return Err(LineFault::NoSuchPath);
         };
+        self.marks.begin(path, file, &self.files, &self.messages)?;
         self.follow(&added(path, file))?;
         self.memory.put(path)?;
         Ok(())
@@ -115,6 +123,15 @@ impl Watch {
         let were = in_folders(&self.messages, &change);
         let before = self.before(step, &change);
         let heard = self.memory.hear(step, &self.paths, &self.messages)?;
+        let acts = self.memory.acts(step, heard);
+        let number = self.memory.steps;
+        let there = There {
+            paths: &self.paths,
+            files: &self.files,
+            messages: &self.messages,
+            presences: &self.memory.presences,
+        };
+        self.marks.step(number, step, &change, &there, acts)?;
         self.touch(step)?;
         self.follow(&change)?;
         let are = in_folders(&self.messages, &change);
@@ -140,12 +157,12 @@ impl Watch {
         ensures { result ≡ law_before self.now (turn_of change.now) step.now }
     {
         let actor = step.actor.as_slice();
-        let wrote = self.wrote(&step.call);
+        let written = self.written(&step.call);
         LawBefore {
             not_a_directory: self.is_wrong(&step.call),
             overwritten: turns(change),
-            seen_before_whole: self.shows_too_early(&step.call, wrote, change.named),
-            mixed: self.is_mixed(actor, wrote),
+            seen_before_whole: self.shows_too_early(&step.call, written, change.named),
+            mixed: self.is_mixed(actor, written),
             not_flushed: self.shows_unflushed(change.named),
             used_again: self.adds(change) && self.is_back(change.named),
             moved_back: self.is_moved_back(change.named) && !is_from_new(&step.call),
@@ -155,10 +172,8 @@ impl Watch {
     fn owed_before(&self, step: &Step, change: &Change<'_>) -> OwedBefore
         ensures { result ≡ owed_before self.now (turn_of change.now) step.now }
     {
-        let actor = step.actor.as_slice();
         let written = self.written(&step.call);
         OwedBefore {
-            mixed: self.is_mixed(actor, written),
             named_by_another: self.is_anothers(step, change.named),
             rewritten: self.is_rewritten(written),
             used_again: self.is_used_again(change.named),
@@ -170,10 +185,12 @@ impl Watch {
     fn after(&self, change: &Change<'_>, before: &Before, heard: Heard) -> Broken
         ensures { result ≡ after_of self.now (turn_of change.now) before.now heard }
     {
+        let gone = !before.empties_trash && self.is_gone(change.taken);
         Broken {
             two_names: before.adds && self.is_second(change.named),
             in_two_folders: before.adds && self.is_elsewhere(change.named),
-            gone: !before.empties_trash && self.is_gone(change.taken),
+            gone,
+            renamed: gone && !self.is_hidden(change.taken),
             cleaned_early: before.takes_early && self.is_hidden(change.taken)
                 || before.turns_early && self.is_hidden(change.turned),
             law: before.law,

@@ -5,7 +5,7 @@ use base64::engine::general_purpose::STANDARD;
 use serde_json::json;
 use std::alloc::{AllocError, Global};
 
-/// An object with the keys `actor`, `before`, `call`, `clause`, `line` and `why`, and a line feed. Words that aren't UTF-8 are in base64
+/// An object with the keys `actor`, `before`, `call`, `clause`, `grade`, `line` and `why`, and a line feed. Words that aren't UTF-8 are in base64
 /// (RFC 4648) under the key with `_base64` added to it.
 pub(crate) fn push_json(
     alloc: Global,
@@ -19,6 +19,7 @@ pub(crate) fn push_json(
         "before": shown.before,
         call_key: text_of(alloc, shown.call)?,
         "clause": shown.clause,
+        "grade": shown.grade.name(),
         "line": shown.line,
         "why": shown.why
     })?;

@@ -8,6 +8,7 @@ use crate::judge::summary::Tally;
 use crate::judge::words::{Form, Owing};
 use crate::session::{Host, Session};
 use crate::status::Status;
+use md_judge::Grade;
 use md_owed::{Finding, OWED, OwedClause, Session as Watch};
 use std::alloc::{AllocError, Global};
 use std::io::Read;
@@ -61,6 +62,7 @@ fn shown(finding: &Finding) -> Shown<'_> {
         actor: finding.actor.as_slice(),
         call: finding.call.as_slice(),
         clause: finding.clause.name(),
+        grade: Grade::Owed,
         why: why(finding.clause),
         before: None,
     }

@@ -14,7 +14,8 @@ pub(crate) fn push_short(
     out.extend_from_slice(text.as_bytes())
 }
 
-/// A line for people: the line of the log, the actor, its call, the clause, why, and the earlier line that it goes back to.
+/// A line for people: the line of the log, the actor, its call, the clause, what it costs, why, and the earlier line that it goes back
+/// to.
 pub(crate) fn push_long(
     alloc: Global,
     out: &mut Vec<u8>,
@@ -24,6 +25,7 @@ pub(crate) fn push_long(
     push_part(out, shown.actor)?;
     push_part(out, shown.call)?;
     push_part(out, shown.clause.as_bytes())?;
+    out.extend_from_slice(format!(in alloc; " ({})", shown.grade.name())?.as_bytes())?;
     push_part(out, shown.why.as_bytes())?;
     if let Some(before) = shown.before {
         out.extend_from_slice(format!(in alloc; " (see line {before})")?.as_bytes())?;

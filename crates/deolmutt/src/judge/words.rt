@@ -4,7 +4,7 @@ use crate::judge::relied::relied_on;
 use crate::order::Mistake;
 use crate::trouble::Trouble;
 use clap::ArgMatches;
-use md_judge::{CLAUSES, Clause};
+use md_judge::{CLAUSES, Clause, GRADES, Grade};
 use md_owed::OwedClause;
 use std::alloc::Global;
 
@@ -33,10 +33,19 @@ pub(crate) struct Judging<'a> {
 /// The rules by which a log is judged.
 #[derive(Drop)]
 pub(crate) enum Rules<'a> {
-    /// The law, but for the clauses that are allowed.
-    Law { allowed: Vec<Clause> },
+    /// The law.
+    Law(Strictness),
     /// What each program owes the others.
     Owed(Owing<'a>),
+}
+
+/// How strictly the law is judged.
+#[derive(Drop)]
+pub(crate) struct Strictness {
+    /// The clauses that are not judged.
+    pub(crate) allowed: Vec<Clause>,
+    /// The least grade of the findings that are shown.
+    pub(crate) least: Grade,
 }
 
 /// What is judged of what programs owe each other.
@@ -66,9 +75,10 @@ fn read_rules<'a>(alloc: Global, words: &ArgMatches<'a>) -> Result<Rules<'a>, Mi
         None => None,
     };
     if relied.is_none() && !words.get_flag("owed") {
-        return Ok(Rules::Law {
+        return Ok(Rules::Law(Strictness {
             allowed: read_allowed(alloc, words)?,
-        });
+            least: read_least(words.get_str("least"))?,
+        }));
     }
     let mut ours = Vec::new(alloc);
     for actor in words.get_strs("by").unwrap_or(&[]) {
@@ -101,6 +111,19 @@ fn read_allowed<'a>(alloc: Global, words: &ArgMatches<'a>) -> Result<Vec<Clause>
         }
     }
     Ok(allowed)
+}
+
+fn read_least<'a>(name: Option<&'a str>) -> Result<Grade, Mistake<'a>> {
+    let Some(name) = name else {
+        return Ok(Grade::Custom);
+    };
+    match GRADES.iter().copied().find(|grade| grade.name() == name) {
+        Some(grade) => Ok(grade),
+        None => Err(Mistake::Wrong {
+            word: name,
+            trouble: Trouble::BadGrade,
+        }),
+    }
 }
 
 // The path of a log. `-` is standard input.

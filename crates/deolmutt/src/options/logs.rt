@@ -15,10 +15,12 @@ Examples:
 docs/JUDGE.md says what the log has of a script.";
 
 const AFTER_JUDGE: &str =
-    "A finding has its line, actor, call and clause, why, and the earlier line that it goes back to.
+    "A finding has its line, actor, call, clause and grade, why, and the earlier line that it goes back to. Its grade is lost (mail
+or a flag is gone, or a kill or a crash can take it), misled (somebody saw or was told what was not so), owed (other
+programs rely on the contrary) or custom (a convention).
 
 Status:
-  0   the log is lawful
+  0   there are no findings
   1   there are findings
   2   the log is wrong, or reading, writing or memory failed; `line N: TEXT` on standard error says which, and for a wrong
       word its number and what it should be
@@ -28,6 +30,7 @@ Examples:
   deolmutt judge log
   deolmutt judge --json < log
   deolmutt judge --summary log
+  deolmutt judge --least misled log
   deolmutt judge --allow NotFlushed --allow Mixed log
   deolmutt judge --relies deliver --by mydeliver log
 
@@ -59,12 +62,18 @@ pub(crate) fn judge<'a>(alloc: Global) -> Result<Command<'a>, AllocError> {
         .value_name("CLAUSE")
         .help("Leaves this clause out, as a line `allow CLAUSE` of the log; may be repeated")
         .action(ArgAction::Append);
+    let least = Arg::new(alloc, "least")
+        .long("least")
+        .value_name("GRADE")
+        .help("Leaves out findings of a lower grade: lost, misled, owed or custom")
+        .action(ArgAction::Set);
     let owed = switch(
         alloc,
         "owed",
         "Judges by what each program owes the others, in place of the law (docs/LAW.md)",
     )
-    .conflicts_with("allow")?;
+    .conflicts_with("allow")?
+    .conflicts_with("least")?;
     let relies = Arg::new(alloc, "relies")
         .long("relies")
         .value_name("CALL")
@@ -72,13 +81,15 @@ pub(crate) fn judge<'a>(alloc: Global) -> Result<Command<'a>, AllocError> {
             "Judges by what this call of deolmutt relies on: deliver, seen, flag, move, copy, expunge or clean",
         )
         .action(ArgAction::Set)
-        .conflicts_with("allow")?;
+        .conflicts_with("allow")?
+        .conflicts_with("least")?;
     let by = Arg::new(alloc, "by")
         .long("by")
         .value_name("ACTOR")
         .help("Leaves the steps of this actor out, with --owed or --relies; may be repeated")
         .action(ArgAction::Append)
-        .conflicts_with("allow")?;
+        .conflicts_with("allow")?
+        .conflicts_with("least")?;
     let file = Arg::new(alloc, "FILE")
         .help("The log; - or none is standard input")
         .action(ArgAction::Set);
@@ -91,6 +102,7 @@ pub(crate) fn judge<'a>(alloc: Global) -> Result<Command<'a>, AllocError> {
         )?)?
         .arg(summary)?
         .arg(allow)?
+        .arg(least)?
         .arg(owed)?
         .arg(relies)?
         .arg(by)?

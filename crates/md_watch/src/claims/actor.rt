@@ -19,11 +19,11 @@ use std::alloc::{AllocError, Global};
 #[derive(Drop)]
 pub(crate) struct Actor {
     alloc: Global,
-    /// The moment before its first step.
+    /// The moment right after its first step.
     first: usize,
     /// The message of its last step, with its folder, where that step was an answer.
     told: Option<(u32, Bytes)>,
-    /// The number of its last look at each folder, by the folder and no name.
+    /// The moment right after its last look at each folder, by the folder and no name.
     looks: Table<usize>,
     /// What it did about messages, by folders. Of a message of which nothing is kept, it did nothing since its first step.
     deeds: Table<Deeds>,
@@ -61,7 +61,8 @@ impl Actor {
         is_left(done.refused, look)
     }
 
-    /// A step of its own, of a number, and what it changes: the messages of its paths were in their folders before it, and are after it.
+    /// A step of its own, by the moment right after it, and what it changes: the messages of its paths were in their folders before it, and are
+    /// after it.
     pub(super) fn step(
         &mut self,
         call: &Call,

@@ -5,18 +5,32 @@ ghost use Rattle.md_watch.specs.Claims.{act, change, did_of, done_of, nothing};
 use md_log::Reply;
 use std::alloc::{AllocError, Global};
 
-/// What an actor did about a message of a folder since its last answer about it.
+/// The moments right after an actor's last call on a message and its last step that changed the message's paths, since its last answer
+/// about it. Where there was none, it is 0.
+#[derive(Clone, Copy)]
+pub(crate) struct Acts {
+    pub(crate) called: usize,
+    pub(crate) changed: usize,
+}
+
+pub(crate) const NO_ACTS: Acts = Acts {
+    called: 0,
+    changed: 0,
+};
+
+/// What an actor did about a message of a folder since its last answer about it. The moment of a step is the one right after it.
 #[derive(Drop)]
 pub(crate) struct Deeds {
-    /// The moment before its first step since then.
+    /// The moment of its last step that changed the message, or else of its first step.
     pub(super) begun: Option<usize>,
-    /// The number of its last call on the message, where that was refused.
+    /// That of its last call on the message, where that was refused.
     pub(super) refused: Option<usize>,
     pub(super) has_added: bool,
-    /// The moments right after the steps that took the message from the folder.
+    /// Those of the steps that took the message from the folder.
     pub(super) taken: Vec<usize>,
     pub(super) has_expunged: bool,
     pub(super) has_changed: bool,
+    pub(super) acts: Acts,
 }
 
 /// The same, lent.
@@ -28,6 +42,7 @@ pub(crate) struct Done<'a> {
     pub(super) taken: &'a [usize],
     pub(super) has_expunged: bool,
     pub(super) has_changed: bool,
+    pub(super) acts: Acts,
 }
 
 /// Nothing, since a moment.
@@ -41,6 +56,7 @@ pub(super) fn nothing<'a>(begun: Option<usize>) -> Done<'a>
         taken: &[],
         has_expunged: false,
         has_changed: false,
+        acts: NO_ACTS,
     }
 }
 
@@ -56,6 +72,7 @@ impl Deeds {
             taken: Vec::new(alloc),
             has_expunged: false,
             has_changed: false,
+            acts: NO_ACTS,
         }
     }
 
@@ -69,10 +86,11 @@ impl Deeds {
             taken: self.taken.as_slice(),
             has_expunged: self.has_expunged,
             has_changed: self.has_changed,
+            acts: self.acts,
         }
     }
 
-    /// A call on the message, by a step of a number.
+    /// A call on the message, by a step of this moment.
     pub(super) fn act(&mut self, reply: Reply, now: usize)
         ensures { did_of self.new ≡ act reply now (did_of self.old) }
     {
@@ -80,9 +98,10 @@ impl Deeds {
             Reply::Ok => None,
             _ => Some(now),
         };
+        self.acts.called = now;
     }
 
-    /// A step of a number changes the paths of the message, which was in its folder before the step or not, and is after it or not.
+    /// A step of this moment changes the paths of the message, which was in its folder before the step or not, and is after it or not.
     pub(super) fn change(
         &mut self,
         was: bool,
@@ -92,15 +111,14 @@ impl Deeds {
     ) -> Result<(), AllocError>
         ensures { OnOk result (did_of self.new ≡ change was is is_unlink now (did_of self.old)) }
     {
+        self.begun = Some(now);
         self.has_changed = true;
+        self.acts.changed = now;
         if !was && is {
             self.has_added = true;
         }
         if was && !is {
-            let Some(next) = now.checked_add(1) else {
-                return Err(AllocError);
-            };
-            self.taken.push(next)?;
+            self.taken.push(now)?;
             self.has_expunged = is_unlink || self.has_expunged;
         }
         Ok(())

@@ -1,9 +1,9 @@
 //! What a step is found to break of the law beside what is owed, by what is kept.
 ghost use Rattle.std.specs.Prelude.{◌≡◌, is_some};
 ghost use Rattle.md_monitor.specs.Found.{makes_message};
-ghost use Rattle.md_watch.specs.Changes.{turn_of, file_in};
+ghost use Rattle.md_watch.specs.Changes.{turn_of};
 ghost use Rattle.md_watch.specs.Files.{lent_as};
-ghost use Rattle.md_watch.specs.Found.{wrote_by, empties_trash, shows_too_early, is_in_sight, shows_cut, shows_trashed, shows_unflushed, is_back, is_gone};
+ghost use Rattle.md_watch.specs.Found.{empties_trash, shows_too_early, is_in_sight, shows_cut, shows_trashed, shows_unflushed, is_back, is_gone};
 
 use super::Watch;
 use crate::change::{Change, Named, is_cur, is_message, message_of};
@@ -11,30 +11,17 @@ use md_log::{Call, Deed, Reply};
 use md_name::split;
 
 impl Watch {
-    /// The file to which a call writes, where the write is done.
-    pub(super) fn wrote(&self, call: &Call) -> Option<usize>
-        ensures { result ≡ wrote_by (file_in self.now.paths) call.now }
-    {
-        match call {
-            Call::At {
-                deed: Deed::Write,
-                path,
-                reply: Reply::Ok,
-            } => self.paths.file_at(path),
-            _ => None,
-        }
-    }
-
-    /// Whether a message is made empty, a file is written to that readers see, or one begins to be seen whose last write has failed.
+    /// Whether a message is made empty, a file is written to that readers see, or may have been, or one begins to be seen whose last write has
+    /// failed.
     pub(super) fn shows_too_early(
         &self,
         call: &Call,
-        wrote: Option<usize>,
+        written: Option<usize>,
         named: Option<Named<'_>>,
     ) -> bool
-        ensures { result ≡ shows_too_early self.now call.now wrote (lent_as named.entry) }
+        ensures { result ≡ shows_too_early self.now call.now written (lent_as named.entry) }
     {
-        makes_message(call) || self.is_in_sight(wrote) || self.shows_cut(named)
+        makes_message(call) || self.is_in_sight(written) || self.shows_cut(named)
     }
 
     fn is_in_sight(&self, file: Option<usize>) -> bool

@@ -18,7 +18,7 @@ pub loop-clause-init : goal.loop-clause-init
 loop-clause-init c = record {
   keeps = record { folders = refl; begun = refl; stretch = refl; allowed = refl };
   watch = refl;
-  found = λ o. adds-first o c.args.line clauses _ (record c.args.self.now { judge = c.step.new.self; watch = c.step-2.new.self });
+  found = λ o. adds-first o c.args.line clauses _ (record c.args.self.now { watch = c.step.new.self; entries = c.push.new.self });
   ordered = λ order earlier. (order, earlier);
   at_lines = λ order below. (order, below);
 }
@@ -27,7 +27,7 @@ pub loop-clause-preserved : goal.loop-clause-preserved
 loop-clause-preserved c =
     let before = c.loop-clause.invariant in
     let after = c.in_ok-note.ensures in
-    let s : Session = record c.args.self.now { judge = c.step.new.self; watch = c.step-2.new.self } in
+    let s : Session = record c.args.self.now { watch = c.step.new.self; entries = c.push.new.self } in
     record {
       keeps = record {
         folders = after.keeps.folders ∙ before.keeps.folders;
@@ -61,7 +61,7 @@ returns-clause-judges c = λ h holds.
       allowed = kept.keeps.allowed;
       holds = subst (λ w. Holds (next h c.args.step.now) w) (sym kept.watch) (c.in_ok-broken.ensures.holds h holds);
       found = λ o. adds-all o c.args.line c.loop-clause.clause-index ((breaks c.in_ok-broken.broken o ≡ true) × (Has s.allowed o → ⊥))
-          (Breaks o (next h c.args.step.now) × (Has s.allowed o → ⊥)) (record s { judge = c.step.new.self; watch = c.step-2.new.self }) c.loop-clause.self
+          (Breaks o (next h c.args.step.now) × (Has s.allowed o → ⊥)) (record s { watch = c.step.new.self; entries = c.push.new.self }) c.loop-clause.self
           c.loop-clause-test.false (λ both. ((law o).0 both.0, both.1), λ both. ((law o).1 both.0, both.1)) (kept.found o);
       ordered = λ order earlier. (kept.ordered order earlier).0;
       at_lines = λ order below. (kept.at_lines order below).0;

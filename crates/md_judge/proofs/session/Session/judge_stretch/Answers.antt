@@ -1,8 +1,7 @@
 use Rattle.std.proofs.Common.{◌≡◌, ◌∙◌, ℕ, ◌+◌, List, length, Some, get_or, slice_get, refl, sym, ap, subst, arith}
 use Rattle.std.proofs.lemmas.Option.{slice_get-get_or}
-use Rattle.md_judge.specs.declared.session.Session.{Session}
 use Rattle.md_judge.specs.Placed.{KeepsTicks}
-use Rattle.md_judge.proofs.Placing.{settled-none, places-none, waits-on, judged-on, has-ticks, is-next, places-next, all-placed}
+use Rattle.md_judge.proofs.Placing.{settled-none, places-none, has-ticks, is-next, places-next, all-placed}
 use Rattle.md_judge.proofs.session.Session.judge_stretch.Goals as goal
 
 pub returns-then-is_empty-clause-settled : goal.returns-then-is_empty-clause-settled
@@ -10,11 +9,7 @@ returns-then-is_empty-clause-settled c = λ number l w. settled-none number l c.
 
 pub loop-place-init : goal.loop-place-init
 loop-place-init c = record {
-  placing = λ number l w.
-      let s = c.args.self.now in
-      let t : Session = record s { judge = c.order.new.self } in
-      places-none number l c.deref-at-items.result.now t
-      (waits-on number l s t refl refl (λ order m judged. judged-on number l order m s t refl refl refl refl judged) w);
+  placing = λ number l w. places-none number l c.deref-at-items.result.now c.args.self.now w;
   begun = refl;
 }
 

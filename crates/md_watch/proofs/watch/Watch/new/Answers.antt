@@ -14,5 +14,6 @@ returns c =
       messages = c.new-3.result;
       drafts = c.new-4.result;
       memory = c.new-5.result;
+      marks = c.new-6.result;
     } in
     nothing-held w refl refl c.new.ensures c.new-2.ensures c.new-3.ensures c.new-4.ensures c.new-5.ensures

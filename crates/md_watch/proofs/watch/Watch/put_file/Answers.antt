@@ -10,7 +10,7 @@ use Rattle.md_watch.proofs.watch.Watch.put_file.Goals as goal
 pub returns-clause-begins : goal.returns-clause-begins
 returns-clause-begins c = λ m holds.
     let w = c.args.self.now in
-    let mid : Watch = record w { files = c.make.new.self } in
+    let mid : Watch = record w { files = c.make.new.self; marks = c.begin.new.self } in
     let turn = c.added.ensures ∙ ap (adding c.args.path.now) c.count-file.ensures in
     put-file m c.args.path.now c.args.stamp w mid c.follow.new.self c.put.new.self holds
     (sym c.file_at.ensures ∙ none-of c.file_at.result (sym c.is_some.ensures ∙ c.if-is_some.false))

@@ -1,6 +1,6 @@
 use Rattle.std.proofs.Common.{inl, inr, refl, sym, ap, subst, ◌∙◌}
 use Rattle.std.specs.Prelude.{is_some}
-use Rattle.md_watch.specs.Changes.{Turn}
+use Rattle.md_watch.specs.Changes.{Turn, turn_of}
 use Rattle.md_watch.specs.Watches.{Follows}
 use Rattle.md_watch.proofs.Beginning.{put-name, there-at}
 use Rattle.md_watch.proofs.Keys.{none-of, none-but}
@@ -9,9 +9,19 @@ use Rattle.md_watch.proofs.watch.Watch.put_name.Goals as goal
 pub returns-clause-begins : goal.returns-clause-begins
 returns-clause-begins c = λ m holds.
     let w = c.args.self.now in
+    let follows = c.in_ok-follow.ensures in
+    let goes : Follows (turn_of c.added.result) w c.follow.new.self = record {
+      clock = follows.clock;
+      folders = follows.folders;
+      paths = follows.paths;
+      files = follows.files;
+      messages = follows.messages;
+      drafts = follows.drafts;
+      memory = follows.memory;
+    } in
     put-name m c.args.path.now c.args.old.now c.in-Some.file w c.follow.new.self c.put.new.self holds
     (sym c.file_at.ensures ∙ none-of c.file_at.result (sym c.is_some.ensures ∙ c.if-is_some.false))
-    (sym c.in-Some.ensures) (subst (λ (t : Turn). Follows t w c.follow.new.self) c.added.ensures c.in_ok-follow.ensures) c.in_ok-put.ensures
+    (sym c.in-Some.ensures) (subst (λ (t : Turn). Follows t w c.follow.new.self) c.added.ensures goes) c.in_ok-put.ensures
 
 pub returns-then-is_some-clause-refused : goal.returns-then-is_some-clause-refused
 returns-then-is_some-clause-refused c = λ m holds known. inl (

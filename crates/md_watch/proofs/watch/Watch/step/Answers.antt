@@ -23,8 +23,17 @@ all c h holds =
     let heard = c.in_ok-heard.heard in
     let is : t ≡ turn_by (file_in w.paths) (length w.files.all.items) x.call =
     c.change-change.ensures ∙ ap (λ n. turn_by (file_in w.paths) n x.call) c.count.ensures in
-    let touches = (subst (λ k. Touches x (record w { clock = k; memory = c.hear.new.self }) c.touch.new.self)
-    c.max-self.ensures c.in_ok-touch.ensures) in
+    let touched = c.in_ok-touch.ensures in
+    let plain : Touches x (record w { clock = c.max-self.result; memory = c.hear.new.self }) c.touch.new.self = record {
+      clock = touched.clock;
+      folders = touched.folders;
+      paths = touched.paths;
+      files = touched.files;
+      messages = touched.messages;
+      drafts = touched.drafts;
+      memory = touched.memory;
+    } in
+    let touches = (subst (λ k. Touches x (record w { clock = k; memory = c.hear.new.self }) c.touch.new.self) c.max-self.ensures plain) in
     let goes = (subst (λ (b : InFolders). memories.Follows x t (in_folders w.messages t) b c.follow.new.self.memory c.follow-2.new.self)
     c.in_folders-are.ensures
     (subst (λ (b : InFolders). memories.Follows x t b c.in_folders-are.result c.follow.new.self.memory c.follow-2.new.self)

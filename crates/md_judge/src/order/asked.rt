@@ -1,0 +1,125 @@
+//! Steps by numbers, as far as directories answer them, and which of them have to do with one another.
+use md_log::{Deed, Naming, Reply, Ticks};
+
+/// So many steps or names are looked at in about the time of a try.
+pub(super) const LOOKS_A_TRY: usize = 32;
+
+/// The number of a path.
+pub(super) type Name = usize;
+
+/// What stands for the names of a directory: no path has this number.
+pub(super) const ALL: Name = usize::MAX;
+
+/// A path: the number of its directory, and its own.
+#[derive(Clone, Copy, PartialEq, Eq)]
+pub(super) struct Spot {
+    pub(super) directory: usize,
+    pub(super) name: Name,
+}
+
+/// A call, as far as directories answer it.
+#[derive(Clone, Copy)]
+pub(super) enum Deal {
+    At(Deed),
+    Between(Naming),
+    List,
+    Answer,
+}
+
+/// A step by numbers, to be placed.
+#[derive(Clone, Copy)]
+pub(super) struct Asked {
+    pub(super) deal: Deal,
+    pub(super) reply: Reply,
+    /// The paths that it names, where it names one that one twice; of a reading, `ALL` names of its directory.
+    pub(super) old: Spot,
+    pub(super) new: Spot,
+    /// Of a reading: the number of its actor and directory, and where the names that it shows begin and end among those of all readings.
+    pub(super) reader: usize,
+    pub(super) shown: (usize, usize),
+    /// No other reading of the directory by the actor overlaps it.
+    pub(super) is_alone: bool,
+    pub(super) ticks: Ticks,
+}
+
+/// Why a step doesn't fit: what is so of this path, and for some readings also what was read before.
+#[derive(Clone, Copy)]
+pub(super) struct Misfit {
+    pub(super) spot: Spot,
+    pub(super) is_of_reading: bool,
+}
+
+const NO_SPOT: Spot = Spot {
+    directory: usize::MAX,
+    name: ALL,
+};
+
+/// An answer, which fits everywhere.
+pub(super) const ANSWER: Asked = Asked {
+    deal: Deal::Answer,
+    reply: Reply::Ok,
+    old: NO_SPOT,
+    new: NO_SPOT,
+    reader: 0,
+    shown: (0, 0),
+    is_alone: true,
+    ticks: Ticks { begin: 0, end: 0 },
+};
+
+impl Asked {
+    /// Whether the call makes a path be there or go.
+    pub(super) fn is_change(&self) -> bool {
+        match self.deal {
+            Deal::At(Deed::Create | Deed::Unlink) | Deal::Between(_) => self.reply == Reply::Ok,
+            _ => false,
+        }
+    }
+
+    pub(super) fn is_reading(&self) -> bool {
+        match self.deal {
+            Deal::List => true,
+            _ => false,
+        }
+    }
+
+    /// Whether the call changes nothing, so that, made at once where it fits, it leaves each later call as free as before.
+    pub(super) fn is_idle(&self) -> bool {
+        match self.deal {
+            Deal::List => self.is_alone,
+            _ => !self.is_change(),
+        }
+    }
+
+    /// Whether the call may make a path be there or go.
+    pub(super) fn may_change(&self, spot: Spot) -> bool {
+        match self.deal {
+            Deal::Between(Naming::Link) => self.is_change() && self.new == spot,
+            _ => self.is_change() && (self.old == spot || self.new == spot),
+        }
+    }
+
+    /// Whether both are readings of one directory by one actor.
+    pub(super) fn is_read_with(&self, other: &Asked) -> bool {
+        match (self.deal, other.deal) {
+            (Deal::List, Deal::List) => self.reader == other.reader,
+            _ => false,
+        }
+    }
+
+    /// Whether two calls answer and do the same in either order, wherever both can be made.
+    pub(super) fn is_apart(&self, other: &Asked) -> bool {
+        if self.is_change() || other.is_change() {
+            let is_met = meets(self.old, other.old)
+                || meets(self.old, other.new)
+                || meets(self.new, other.old)
+                || meets(self.new, other.new);
+            return !is_met;
+        }
+        !self.is_read_with(other)
+    }
+}
+
+/// Whether two paths are one, or one of them is of a directory that the other stands for.
+fn meets(one: Spot, two: Spot) -> bool {
+    one.directory == two.directory && (one.name == two.name || one.name == ALL || two.name == ALL)
+}
