@@ -17,7 +17,7 @@ returns c = record {
       steps = c.new-6.ensures.waits;
       lines = c.new-6.ensures.lines;
       moved = c.new-6.ensures.moved;
-      findings = c.new-4.ensures.items;
+      findings = c.new-3.ensures.items;
       holds = c.new-2.ensures;
       allowed = λ o. (λ is. absurd (c.none.ensures o is), λ is. absurd (let at = is.1 in cc at));
     });
