@@ -50,6 +50,21 @@ pub(crate) fn log<'a>(alloc: Global) -> Result<Command<'a>, AllocError> {
 
 /// The judging of a log.
 pub(crate) fn judge<'a>(alloc: Global) -> Result<Command<'a>, AllocError> {
+    let file = Arg::new(alloc, "FILE")
+        .help("The log; - or none is standard input")
+        .action(ArgAction::Set);
+    let command = Command::new(alloc, "judge")
+        .about("Prints which steps of a log of directory calls break the law of a maildir")
+        .after_help(AFTER_JUDGE);
+    with_owed(alloc, with_law(alloc, with_forms(alloc, command)?)?)?.arg(file)
+}
+
+// How findings are printed.
+fn with_forms<'a>(alloc: Global, command: Command<'a>) -> Result<Command<'a>, AllocError> {
+    let lines = switch(alloc, "lines", "Prints LINE CLAUSE for each finding");
+    let json = switch(alloc, "json", "Prints an object of JSON for each finding").conflicts_with(
+        "lines",
+    )?;
     let summary = switch(
         alloc,
         "summary",
@@ -57,6 +72,11 @@ pub(crate) fn judge<'a>(alloc: Global) -> Result<Command<'a>, AllocError> {
     )
     .conflicts_with("lines")?
     .conflicts_with("json")?;
+    command.arg(lines)?.arg(json)?.arg(summary)
+}
+
+// Which findings by the law are shown.
+fn with_law<'a>(alloc: Global, command: Command<'a>) -> Result<Command<'a>, AllocError> {
     let allow = Arg::new(alloc, "allow")
         .long("allow")
         .value_name("CLAUSE")
@@ -67,44 +87,35 @@ pub(crate) fn judge<'a>(alloc: Global) -> Result<Command<'a>, AllocError> {
         .value_name("GRADE")
         .help("Leaves out findings of a lower grade: lost, misled, owed or custom")
         .action(ArgAction::Set);
+    command.arg(allow)?.arg(least)
+}
+
+// Judging by what programs owe each other.
+fn with_owed<'a>(alloc: Global, command: Command<'a>) -> Result<Command<'a>, AllocError> {
     let owed = switch(
         alloc,
         "owed",
         "Judges by what each program owes the others, in place of the law (docs/LAW.md)",
-    )
-    .conflicts_with("allow")?
-    .conflicts_with("least")?;
+    );
     let relies = Arg::new(alloc, "relies")
         .long("relies")
         .value_name("CALL")
         .help(
             "Judges by what this call of deolmutt relies on: deliver, seen, flag, move, copy, expunge or clean",
         )
-        .action(ArgAction::Set)
-        .conflicts_with("allow")?
-        .conflicts_with("least")?;
+        .action(ArgAction::Set);
     let by = Arg::new(alloc, "by")
         .long("by")
         .value_name("ACTOR")
         .help("Leaves the steps of this actor out, with --owed or --relies; may be repeated")
-        .action(ArgAction::Append)
-        .conflicts_with("allow")?
-        .conflicts_with("least")?;
-    let file = Arg::new(alloc, "FILE")
-        .help("The log; - or none is standard input")
-        .action(ArgAction::Set);
-    Command::new(alloc, "judge")
-        .about("Prints which steps of a log of directory calls break the law of a maildir")
-        .after_help(AFTER_JUDGE)
-        .arg(switch(alloc, "lines", "Prints LINE CLAUSE for each finding"))?
-        .arg(switch(alloc, "json", "Prints an object of JSON for each finding").conflicts_with(
-            "lines",
-        )?)?
-        .arg(summary)?
-        .arg(allow)?
-        .arg(least)?
-        .arg(owed)?
-        .arg(relies)?
-        .arg(by)?
-        .arg(file)
+        .action(ArgAction::Append);
+    command
+        .arg(without_law(owed)?)?
+        .arg(without_law(relies)?)?
+        .arg(without_law(by)?)
+}
+
+// An option that can't be used with those of the law.
+fn without_law<'a>(option: Arg<'a>) -> Result<Arg<'a>, AllocError> {
+    option.conflicts_with("allow")?.conflicts_with("least")
 }
