@@ -27,8 +27,8 @@ may_take s (Expunge folder unique tries) u = bytes_eq unique u && holds s u
 may_take s (Clean folder) u = is_some (file_at s (path folder Tmp u))
 may_take s call u = false
 
--- Whether directories may use a name after a step of a call and not before it, or the other way round. All else that a call does to paths is
--- to rename some, which keep their unique part.
+-- Whether directories may use a name after a step of a call and not before it, or the other way round. All else that a call does to paths
+-- is to rename some, which keep their unique part.
 abbrev pub may_change : State → Call → List ℕ → Bool
 may_change s call u = makes u call || may_take s call u
 

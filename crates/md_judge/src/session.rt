@@ -32,7 +32,7 @@ use std::mem::replace;
 
 const HEAD: &[u8] = b"maildir_log 1";
 
-/// The most lines that a log has: each is a moment, which is kept in four bytes.
+/// The most lines that a log has: the number of one is kept in four bytes.
 const MOST_LINES: u64 = 4_294_967_294;
 
 /// A log that is being read, and what was found so far.

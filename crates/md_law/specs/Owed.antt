@@ -1,6 +1,6 @@
--- What each program owes the others, so that a job which runs beside it keeps its promises: these clauses, of which one is sharper than that
--- of the law of the same name, beside TwoNames, Mixed, CleanedEarly and MovedBack of the law. Each says of a history that its last step
--- breaks the clause.
+-- What each program owes the others, so that a job which runs beside it keeps its promises: these clauses, of which one is sharper than
+-- that of the law of the same name, beside TwoNames, Mixed, CleanedEarly and MovedBack of the law. Each says of a history that its last
+-- step breaks the clause.
 use Rattle.std.specs.Prelude.{ℕ, ◌≡◌, ◌≢◌, ◌≤◌, ◌-◌, List, Some, true}
 use Rattle.md_dirs.specs.State.{file_at, file_by}
 use Rattle.md_dirs.specs.declared.paths.File.{File}

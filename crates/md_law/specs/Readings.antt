@@ -81,8 +81,8 @@ read_of (opening m) actor folder = nothing_read
 read_of (next past x) actor folder =
     if bytes_eq x.actor actor then with_call folder x.call (read_of past actor folder) else read_of past actor folder
 
--- The last step completes a listing of a folder by an actor: it ends a reading, and of that listing the actor had read nothing at the moment
--- of a history, and something at each moment since.
+-- The last step completes a listing of a folder by an actor: it ends a reading, and of that listing the actor had read nothing at the
+-- moment of a history, and something at each moment since.
 pub record IsListing (first h : History) (actor : List ℕ) (folder : ℕ) : Type 0 where
   pub begins : read_of first actor folder ≡ nothing_read
   pub goes_on : Since (λ m. m ≡ first) (λ m. read_of m actor folder ≢ nothing_read) (before h)

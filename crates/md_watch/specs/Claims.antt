@@ -37,8 +37,8 @@ use Rattle.md_watch.specs.Tables.{value_at, is_key}
 -- ---- what is kept of an actor and a message
 
 -- What the actor did about the message since its last answer about it: the moment of its last step that changed the message, or else of its
--- first step, that of its last call on the message where that was refused, and those of the steps that took the message from its folder. The
--- moment of a step is the one right after it.
+-- first step, that of its last call on the message where that was refused, and those of the steps that took the message from its folder.
+-- The moment of a step is the one right after it.
 pub record Did : Type 0 where
   pub begun : Option ℕ
   pub refused : Option ℕ
