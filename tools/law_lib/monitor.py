@@ -229,7 +229,7 @@ def owes_in_two_folders(j: Judged) -> bool:
     return adds_message(j, lambda path, unique, _: any(is_of_any(p, unique) and p.folder != path.folder for p in j.after.names))
 
 
-def owes_used_again(j: Judged) -> bool:
+def owes_used_twice(j: Judged) -> bool:
     if j.named is None or not is_message(j.named[0]):
         return False
     was = {n for _, name, n in j.kept.messages if name == unique_of(j.named[0].name)}
@@ -260,5 +260,5 @@ OWED: dict[str, Callable[[Judged], bool]] = {
     **TWO_NAMES, "InTwoFolders": owes_in_two_folders, "Mixed": mixes,
     "NamedByAnother": owes_named_by_another, "CleanedEarly": is_cleaned_early,
     "Rewritten": lambda j: may_write(j, lambda file: j.kept.files[file].was_seen),
-    "MovedBack": is_moved_back, "UsedAgain": owes_used_again, "MadeAgain": owes_made_again, "WrittenLate": owes_written_late,
+    "MovedBack": is_moved_back, "UsedTwice": owes_used_twice, "MadeAgain": owes_made_again, "WrittenLate": owes_written_late,
 }  # fmt: skip

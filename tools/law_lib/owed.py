@@ -40,7 +40,7 @@ def was_of(h: History, unique: bytes, file: int) -> bool:
     return once(lambda m: any(is_message_at(m.at, p.folder, unique, p, file) for p in m.at.names), h)
 
 
-def used_again(h: History) -> bool:
+def used_twice(h: History) -> bool:
     return any(
         is_message(p)
         and not was_of(h.before, unique_of(p.name), file)
@@ -63,6 +63,6 @@ def written_late(h: History) -> bool:
 
 OWED = {
     "TwoNames": two_names, "InTwoFolders": in_two_folders, "Mixed": mixed, "NamedByAnother": named_by_another,
-    "CleanedEarly": cleaned_early, "Rewritten": rewritten, "MovedBack": moved_back, "UsedAgain": used_again, "MadeAgain": made_again,
+    "CleanedEarly": cleaned_early, "Rewritten": rewritten, "MovedBack": moved_back, "UsedTwice": used_twice, "MadeAgain": made_again,
     "WrittenLate": written_late,
 }  # fmt: skip

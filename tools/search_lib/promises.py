@@ -97,7 +97,7 @@ def clean_on(job: Job, call: Asked, own: int, rows: list[Row]) -> Job:
 def may_break(story: Story, call: Call, clause: str) -> bool:
     return {
         "NotFlushed": call.kind == "deliver", "Unlisted": call.looks_in_both(),
-        "UsedAgain": call.kind == "move" and "UsedAgain" in story.broken, "CleanedEarly": call.kind == "clean" and not story.is_timely(),
+        "UsedAgain": call.kind == "move" and "UsedTwice" in story.broken, "CleanedEarly": call.kind == "clean" and not story.is_timely(),
     }.get(clause, False)  # fmt: skip
 
 

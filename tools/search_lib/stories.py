@@ -17,7 +17,7 @@ from .worlds import World, after, answered, brings_about, due, judged
 
 # What is owed to every job, and to deliveries; and what is told of a story if others need not keep it.
 TO_JOBS, TO_DELIVERIES = frozenset({"TwoNames", "InTwoFolders"}), frozenset({"Mixed", "NamedByAnother"})
-TOLD = frozenset({"MadeAgain", "WrittenLate", "CleanedEarly", "MovedBack", "UsedAgain"})
+TOLD = frozenset({"MadeAgain", "WrittenLate", "CleanedEarly", "MovedBack", "UsedTwice"})
 UNDONE = frozenset({"NotThere", "NotTrashed", "OtherInfo"})
 NEAR = 14400
 

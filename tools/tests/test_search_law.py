@@ -41,7 +41,7 @@ NEEDED = {
     "NamedByAnother": ("deliver1", BYTES),
     "CleanedEarly": ("deliver0", "it answers TmpGone, beside others that leave young files"),
     "MovedBack": ("movecur", "it answers NotThere, which is not so"),
-    "UsedAgain": ("moveused", "it breaks UsedAgain of the law"),
+    "UsedTwice": ("moveused", "it breaks UsedAgain of the law"),
     "MadeAgain": ("clean", "it breaks CleanedEarly, which it owes"),
     "WrittenLate": ("cleanmade", "it breaks CleanedEarly, which it owes"),
     "FreshNames": ("copy", "it answers NameTaken, which is not so"),

@@ -10,7 +10,7 @@ use Rattle.md_core.specs.Mailbox.{HasOnePath}
 use Rattle.md_core.proofs.Lists.Places.{get-take}
 use Rattle.md_log.specs.declared.clause.Clause.TheVariants as clause
 use Rattle.md_law.specs.Clauses.{MovedBack, CleanedEarly}
-use Rattle.md_law.specs.Owed.{UsedAgain, MadeAgain, WrittenLate}
+use Rattle.md_law.specs.Owed.{UsedTwice, MadeAgain, WrittenLate}
 use Rattle.md_beside.specs.Story.{Story, Step, ours, step_at, step_seen, actor_seen, state, state_after, history, standing}
 use Rattle.md_beside.specs.Beside.{IsStory, IsAtWork, AreOurs, BringsAbout, IsClean}
 use Rattle.md_beside.specs.Jobs.{AreLawful, AreSparing, AreTimely, AreForward, AreUsedOnce, KeepsPromise, JobsBeside}
@@ -168,9 +168,9 @@ module _ (t : Story) (story : IsStory t) (names : AreOurs t) (lawful : AreLawful
         (λ actor who. let owes = program-owes t story lawful names k x actor is who in
         one_path-stays t story k x is owes.one_name owes.one_folder h.one)
 
-    once : AreUsedOnce t → UsedAgain (next_at t k x) → ⊥
+    once : AreUsedOnce t → UsedTwice (next_at t k x) → ⊥
     once ones = by-taker t story k x is (λ i who. (own-keeps i who).one_file)
-        (λ actor who used. ones k x actor is who (subst UsedAgain (sym (history-next t k x is)) used))
+        (λ actor who used. ones k x actor is who (subst UsedTwice (sym (history-next t k x is)) used))
 
     next : Holds (suc k)
     next = record {

@@ -40,7 +40,7 @@ pub record KeepsPaths (t : Story) (k : ℕ) (x : Step) (own : List ℕ → Type 
   pub unmixed : Mixed (next_at t k x) → ⊥
   pub unwritten : owed.Rewritten (next_at t k x) → ⊥
   pub unmade : owed.MadeAgain (next_at t k x) → ⊥
-  pub one_file : owed.UsedAgain (next_at t k x) → ⊥
+  pub one_file : owed.UsedTwice (next_at t k x) → ⊥
   pub unnamed : owed.NamedByAnother (next_at t k x) → ⊥
   pub not_back : MovedBack (next_at t k x) → ⊥
   pub there : Gone (next_at t k x) → ⊥
@@ -241,7 +241,7 @@ module _ (t : Story) (story : IsStory t) (k : ℕ) (x : Step) (is : step_at t k 
           (ap (λ (q : Path). name_used q) one ∙ tmp-key tmp place) again.6))
           (λ differ. again.3.1 (sym (same again.0 differ) ∙ again.3.0))
 
-      used-none : owed.UsedAgain h → ⊥
+      used-none : owed.UsedTwice h → ⊥
       used-none used = used.3.1 (sym (message used.0 used.4) ∙ used.3.0)
 
       brings-none : (v : List ℕ) → v ≢ tmp.name → BringsAbout t k v → ⊥
@@ -310,7 +310,7 @@ module _ (t : Story) (story : IsStory t) (k : ℕ) (x : Step) (is : step_at t k 
           (λ one. let new : again.0.place ≡ New = ap (λ (q : Path). q.place) one ∙ in_new in let in_tmp = again.4 in cc)
           (λ differ. again.3.1 (sym (unchanged again.0 differ) ∙ again.3.0))
 
-      links-new : owed.UsedAgain h → ⊥
+      links-new : owed.UsedTwice h → ⊥
       links-new used = by_path used.0 target
           (λ one. never (once-of (history t k) (unique_of used.0.name) tmp.name used.2 (ap (λ (q : Path). unique_of q.name) one
           ∙ plain) used.6))

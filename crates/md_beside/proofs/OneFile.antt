@@ -6,7 +6,7 @@ use Rattle.md_dirs.specs.declared.paths.Path.{Path}
 use Rattle.md_core.specs.Mailbox.{HasOnePath}
 use Rattle.md_law.specs.History.{History, Moment, opening, next, moment, at, Once}
 use Rattle.md_law.specs.Messages.{IsThere, IsMessageAt}
-use Rattle.md_law.specs.Owed.{WasOf, UsedAgain}
+use Rattle.md_law.specs.Owed.{WasOf, UsedTwice}
 use Rattle.md_log.specs.declared.line.Step.{Step as Seen}
 use Rattle.md_beside.specs.Story.{Story, Step, step_at, step_seen, state, history, without_bytes}
 use Rattle.md_beside.specs.Beside.{IsStory}
@@ -31,7 +31,7 @@ opening-one : (m : Moment) → HasOnePath (at (opening m)) → IsOneFile (openin
 unfolding Once
 opening-one m one u f g first second = now-one (opening m) one u f g first second
 
-module _ (h : History) (x : Seen) (one : HasOnePath (at (next h x))) (files : IsOneFile h) (used : UsedAgain (next h x) → ⊥) where
+module _ (h : History) (x : Seen) (one : HasOnePath (at (next h x))) (files : IsOneFile h) (used : UsedTwice (next h x) → ⊥) where
   -- a file that is a message of the name now is the one that was
   now-was : (u : List ℕ) (m n : ℕ) → IsOf (next h x) u m → WasOf h u n → m ≡ n
   now-was u m n (p, is) was = by_number m n (λ same. same) (λ differ.
@@ -86,7 +86,7 @@ module _ (t : Story) (story : IsStory t) where
   pub one-first : IsOneFile (history t 0)
   one-first = subst IsOneFile (sym (history-first t)) (opening-one first (subst HasOnePath (sym opening-at) story.one_path))
 
-  pub one-next : (k : ℕ) (x : Step) → step_at t k ≡ Some x → HasOnePath (state t (suc k)) → (UsedAgain (next_at t k x) → ⊥) →
+  pub one-next : (k : ℕ) (x : Step) → step_at t k ≡ Some x → HasOnePath (state t (suc k)) → (UsedTwice (next_at t k x) → ⊥) →
       IsOneFile (history t k) → IsOneFile (history t (suc k))
   one-next k x is one used files = subst IsOneFile (sym (history-next t k x is)) (next-one (history t k) (step_seen t.actor (state t k) x)
       (subst (λ (h : History). HasOnePath (at h)) (history-next t k x is) (subst HasOnePath (sym (at-history t story (suc k))) one))

@@ -85,7 +85,7 @@ pub record Owes (h : History) : Type 0 where
   -- to moves and copies, which look in new and then in cur
   pub not_back : law.MovedBack h → ⊥
   -- to moves, which use no name again then
-  pub unused : owed.UsedAgain h → ⊥
+  pub unused : owed.UsedTwice h → ⊥
   -- to cleans
   pub unmade : owed.MadeAgain h → ⊥
   pub in_time : owed.WrittenLate h → ⊥

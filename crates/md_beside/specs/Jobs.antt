@@ -74,7 +74,7 @@ AreForward = Others (λ h. law.MovedBack h → ⊥)
 
 -- the others use no unique name again
 abbrev pub AreUsedOnce : Story → Type 0
-AreUsedOnce = Others (λ h. owed.UsedAgain h → ⊥)
+AreUsedOnce = Others (λ h. owed.UsedTwice h → ⊥)
 
 -- ---- the law
 

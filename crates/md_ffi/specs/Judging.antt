@@ -1,10 +1,10 @@
 -- What is judged of a log, as C has it.
-use Rattle.std.specs.Prelude.{◌≡◌, ◌≢◌, ◌⊎◌, ◌↔◌, ◌++◌, ℕ, List, Result, Ok, Err, IsOk, flat_map}
+use Rattle.std.specs.Prelude.{◌≡◌, ◌≢◌, ◌⊎◌, ◌↔◌, ◌++◌, ◌+◌, ℕ, List, Result, Ok, Err, IsOk, flat_map}
 use Rattle.md_head.specs.Header.{lines_of}
 use Rattle.md_log.specs.declared.clause.Clause.{Clause}
-use Rattle.md_log.specs.declared.clause.Clause.TheVariants as clause
 use Rattle.md_log.specs.declared.error.LineFault.TheVariants.{NoMemory, NoOrder, TooManyOrders}
 use Rattle.md_log.specs.declared.error.LogFault.{LogFault}
+use Rattle.md_log.specs.Texts.{clause_index}
 use Rattle.md_judge.specs.declared.log.Finding.{Finding}
 use Rattle.md_judge.specs.Logs.{Log, log_of}
 use Rattle.md_judge.specs.Orders.{AreFoundInOrder}
@@ -14,25 +14,9 @@ use Rattle.md_ffi.specs.Laying.{Lays}
 use Rattle.md_ffi.specs.Numbers.{fault_number}
 use Rattle.md_ffi.specs.Reading.{four_bytes, eight_bytes}
 
--- the number of a clause, in the order of the law
-abbrev pub clause_number : Clause → ℕ
-clause_number clause.NotADirectory = 1
-clause_number clause.Overwritten = 2
-clause_number clause.SeenBeforeWhole = 3
-clause_number clause.Mixed = 4
-clause_number clause.NotFlushed = 5
-clause_number clause.TwoNames = 6
-clause_number clause.Gone = 7
-clause_number clause.UsedAgain = 8
-clause_number clause.MovedBack = 9
-clause_number clause.CleanedEarly = 10
-clause_number clause.Unlisted = 11
-clause_number clause.GaveUp = 12
-clause_number clause.AnsweredFalsely = 13
-
--- a finding: the number of its line, that of its clause, and 4 bytes that are 0
+-- a finding: the number of its line, that of its clause in the order of the law, from 1, and 4 bytes that are 0
 abbrev pub finding_bytes : Finding → List ℕ
-finding_bytes f = eight_bytes f.line ++ four_bytes (clause_number f.clause) ++ four_bytes 0
+finding_bytes f = eight_bytes f.line ++ four_bytes (clause_index f.clause + 1) ++ four_bytes 0
 
 -- findings, one after another
 abbrev pub findings_bytes : List Finding → List ℕ

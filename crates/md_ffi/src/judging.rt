@@ -1,33 +1,12 @@
 //! What the proved judge finds in a log, which needs no world.
 ghost use Rattle.std.specs.Prelude.{◌≡◌, IfOk};
-ghost use Rattle.md_ffi.specs.Judging.{clause_number, finding_bytes, findings_bytes, Judges};
+ghost use Rattle.md_ffi.specs.Judging.{finding_bytes, findings_bytes, Judges};
 
 use crate::refusal::{NO_MEMORY, Refusal, status};
 use crate::room::lay;
 use md_judge::{Finding, judge_log};
-use md_log::{Clause, LineFault};
+use md_log::LineFault;
 use std::alloc::{AllocError, Global};
-
-/// The number of a clause, in the order of the law.
-fn clause_number(clause: Clause) -> u32
-    ensures { result ≡ clause_number clause }
-{
-    match clause {
-        Clause::NotADirectory => 1,
-        Clause::Overwritten => 2,
-        Clause::SeenBeforeWhole => 3,
-        Clause::Mixed => 4,
-        Clause::NotFlushed => 5,
-        Clause::TwoNames => 6,
-        Clause::Gone => 7,
-        Clause::UsedAgain => 8,
-        Clause::MovedBack => 9,
-        Clause::CleanedEarly => 10,
-        Clause::Unlisted => 11,
-        Clause::GaveUp => 12,
-        Clause::AnsweredFalsely => 13,
-    }
-}
 
 // A finding as bytes: the number of its line, that of its clause, and 4 bytes that are 0.
 #[tactic(auto, unfolding(crate::specs::Reading::four_bytes, crate::specs::Reading::eight_bytes))]
@@ -35,7 +14,7 @@ fn record(finding: &Finding) -> [u8; 16]
     ensures { result ≡ finding_bytes finding.now }
 {
     let l = finding.line.to_le_bytes();
-    let c = clause_number(finding.clause).to_le_bytes();
+    let c = (finding.clause.index() as u32 + 1).to_le_bytes();
     [
         l[0], l[1], l[2], l[3], l[4], l[5], l[6], l[7], c[0], c[1], c[2], c[3], 0, 0, 0, 0,
     ]

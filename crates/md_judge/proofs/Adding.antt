@@ -6,7 +6,7 @@ use Rattle.md_log.specs.declared.clause.Clause.{Clause}
 use Rattle.md_log.specs.declared.clause.Clause.TheVariants as clause
 use Rattle.md_judge.specs.declared.log.Finding.{Finding}
 use Rattle.md_judge.specs.declared.session.Session.{Session}
-use Rattle.md_judge.specs.Clauses.{clause_index}
+use Rattle.md_log.specs.Texts.{clauses, clause_index}
 use Rattle.md_judge.specs.Verdict.{IsAmong}
 use Rattle.md_judge.specs.Placed.{AddsFinding}
 use Rattle.md_judge.proofs.Lists.{one-more, first-are, last-is}
@@ -38,13 +38,7 @@ adds-none c o n fs P none m = (
   λ some. elim some [ inl was ↦ was | inr one ↦ absurd (none (subst P (sym one.1.0) one.1.1)) ],
 )
 
--- the clauses in their order
-abbrev pub clauses : List Clause
-clauses =
-    clause.NotADirectory ∷ clause.Overwritten ∷ clause.SeenBeforeWhole ∷ clause.Mixed ∷ clause.NotFlushed ∷ clause.TwoNames ∷ clause.Gone
-    ∷ clause.UsedAgain ∷ clause.MovedBack ∷ clause.CleanedEarly ∷ clause.Unlisted ∷ clause.GaveUp ∷ clause.AnsweredFalsely ∷ []
-
--- they have their numbers
+-- the clauses have their numbers
 pub clauses-numbered : HaveNumbersFrom 0 clauses
 clauses-numbered =
     (refl, (refl, (refl, (refl, (refl, (refl, (refl, (refl, (refl, (refl, (refl, (refl, (refl, tt)))))))))))))

@@ -2,7 +2,7 @@
 use Rattle.std.proofs.Common.{suc, ◌≡◌, ◌<◌, inl, inr, List, [], ◌∷◌, ◌++◌, Some, slice_get, sym, ap, subst, ◌∙◌, arith}
 use Rattle.std.proofs.lemmas.Option.{slice_get_within}
 use Rattle.md_judge.specs.declared.log.Finding.{Finding}
-use Rattle.md_judge.specs.Clauses.{clause_index}
+use Rattle.md_log.specs.Texts.{clause_index}
 use Rattle.md_judge.specs.Placed.{AreInOrderAtLines, AreBelowAtLine}
 use Rattle.md_judge.proofs.Lists.{one-more}
 

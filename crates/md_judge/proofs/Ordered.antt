@@ -3,7 +3,7 @@ use Rattle.std.proofs.Common.{ℕ, zero, suc, ◌≡◌, ◌<◌, ◌≤◌, ◌
 use Rattle.std.proofs.lemmas.Option.{slice_get_within, slice_get-get_or}
 use Rattle.md_log.specs.declared.clause.Clause.{Clause}
 use Rattle.md_judge.specs.declared.log.Finding.{Finding}
-use Rattle.md_judge.specs.Clauses.{clause_index}
+use Rattle.md_log.specs.Texts.{clause_index}
 use Rattle.md_judge.specs.Verdict.{IsEarlier, AreEarlier, AreInOrder}
 use Rattle.md_judge.proofs.Lists.{one-more}
 

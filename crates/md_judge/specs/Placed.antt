@@ -14,7 +14,8 @@ use Rattle.md_judge.specs.declared.stretch.Waiting.{Waiting}
 use Rattle.md_law.specs.History.{History, next}
 use Rattle.md_law.specs.Law.{Breaks}
 use Rattle.md_watch.specs.Watches.{Holds}
-use Rattle.md_judge.specs.Clauses.{Has, clause_index}
+use Rattle.md_log.specs.Texts.{clause_index}
+use Rattle.md_judge.specs.Clauses.{Has}
 use Rattle.md_judge.specs.Logs.{Log, Numbered, has_begun}
 use Rattle.md_judge.specs.Orders.{AreOfOneStretch, MayComeFirst, IsOrder, IsReordered, Fits, IsFindingIn}
 use Rattle.md_judge.specs.Verdict.{history, HasNoTicks, IsAllowed, IsAmong, AreEarlier, AreInOrder}

@@ -5,7 +5,7 @@ use Rattle.md_log.specs.declared.line.Step.{Step}
 use Rattle.md_law.specs.History.{History, opening, next}
 use Rattle.md_law.specs.Law.{Breaks}
 use Rattle.md_judge.specs.declared.log.Finding.{Finding}
-use Rattle.md_judge.specs.Clauses.{clause_index}
+use Rattle.md_log.specs.Texts.{clause_index}
 use Rattle.md_judge.specs.Logs.{Log, Numbered}
 
 -- ---- the history that a log tells

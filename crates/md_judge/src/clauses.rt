@@ -1,7 +1,7 @@
 //! Sets of clauses.
-ghost use Rattle.std.specs.Prelude.{◌≡◌, ◌<◌, ◌↔◌, ◌⊎◌, IsTrue};
+ghost use Rattle.std.specs.Prelude.{◌≡◌, ◌↔◌, ◌⊎◌, IsTrue};
 ghost use Rattle.md_log.specs.declared.clause.Clause.{Clause};
-ghost use Rattle.md_judge.specs.Clauses.{Has, clause_index};
+ghost use Rattle.md_judge.specs.Clauses.{Has};
 
 use md_log::Clause;
 
@@ -21,20 +21,12 @@ impl Clauses {
     pub(crate) fn add(&mut self, clause: Clause)
         ensures { (c : Clause) → Has self.new c ↔ (Has self.old c ⊎ (c ≡ clause)) }
     {
-        self.has[number_of(clause)] = true;
+        self.has[clause.index()] = true;
     }
 
     pub(crate) fn contains(&self, clause: Clause) -> bool
         ensures { IsTrue result ↔ Has self.now clause }
     {
-        self.has[number_of(clause)]
+        self.has[clause.index()]
     }
-}
-
-/// The number of a clause in the order of the law.
-pub(crate) fn number_of(clause: Clause) -> usize
-    ensures exact { result ≡ clause_index clause }
-    ensures few { result < 13 }
-{
-    clause as usize
 }

@@ -1,4 +1,6 @@
 //! What findings cost.
+ghost use Rattle.std.specs.Prelude.{◌≡◌, nat_le};
+ghost use Rattle.md_judge.specs.Grades.{grade_text, rank, grade_by, grade_of_answer};
 
 use md_log::{Call, Clause, Said, Step};
 use md_watch::Broken;
@@ -21,7 +23,9 @@ pub const GRADES: [Grade; 4] = [Grade::Lost, Grade::Misled, Grade::Owed, Grade::
 
 impl Grade {
     /// The grade's name.
-    pub fn name(self) -> &'static str {
+    pub fn name(self) -> &'static str
+        ensures { result.now ≡ grade_text self }
+    {
         match self {
             Grade::Lost => "lost",
             Grade::Misled => "misled",
@@ -31,13 +35,17 @@ impl Grade {
     }
 
     /// Whether it is as bad as another grade, or worse.
-    pub fn is_at_least(self, least: Grade) -> bool {
+    pub fn is_at_least(self, least: Grade) -> bool
+        ensures { result ≡ nat_le (rank self) (rank least) }
+    {
         self as u32 <= least as u32
     }
 }
 
 /// What a finding of the clause costs, so far as its step tells.
-pub(crate) fn grade_of(clause: Clause, step: &Step, broken: &Broken) -> Grade {
+pub(crate) fn grade_of(clause: Clause, step: &Step, broken: &Broken) -> Grade
+    ensures { result ≡ grade_by clause step.now.call broken.now.renamed }
+{
     match clause {
         // It says nothing of a program. What the log lacks may be anything, so it is never passed over.
         Clause::NotADirectory => Grade::Lost,
@@ -59,7 +67,9 @@ pub(crate) fn grade_of(clause: Clause, step: &Step, broken: &Broken) -> Grade {
 }
 
 // The mail or the flag that was said to be there isn't. Who is told of a failure, and it was done all the same, has lost nothing.
-fn grade_of_answer(step: &Step) -> Grade {
+fn grade_of_answer(step: &Step) -> Grade
+    ensures { result ≡ grade_of_answer step.now.call }
+{
     match &step.call {
         Call::Answer {
             said: Said::Delivered | Said::Flags(_) | Said::Moved(_),

@@ -1,6 +1,5 @@
--- What each program owes the others, so that a job which runs beside it keeps its promises: these clauses, of which one is sharper than
--- that of the law of the same name, beside TwoNames, Mixed, CleanedEarly and MovedBack of the law. Each says of a history that its last
--- step breaks the clause.
+-- What each program owes the others, so that a job which runs beside it keeps its promises: these clauses, beside TwoNames,
+-- Mixed, CleanedEarly and MovedBack of the law. Each says of a history that its last step breaks the clause.
 use Rattle.std.specs.Prelude.{ℕ, ◌≡◌, ◌≢◌, ◌≤◌, ◌-◌, List, Some, true}
 use Rattle.md_dirs.specs.State.{file_at, file_by}
 use Rattle.md_dirs.specs.declared.paths.File.{File}
@@ -32,8 +31,8 @@ WasOf h unique file = Once (λ m. (p : Path) × IsMessageAt (at m) p.folder uniq
 
 -- The same, of messages that were: a path of a message comes to name a file that never was a message of its unique name, and another file
 -- was.
-abbrev pub UsedAgain : History → Type 0
-UsedAgain h = (p : Path) × (file other : ℕ) × Names h p file × (is_message p ≡ true) × (other ≢ file)
+abbrev pub UsedTwice : History → Type 0
+UsedTwice h = (p : Path) × (file other : ℕ) × Names h p file × (is_message p ≡ true) × (other ≢ file)
     × WasOf (before h) (unique_of p.name) other × (WasOf (before h) (unique_of p.name) file → ⊥)
 
 -- The same, of tmp: a path of tmp comes to name a file, and once named another.

@@ -50,6 +50,22 @@ clauses =
     clause.NotADirectory ∷ clause.Overwritten ∷ clause.SeenBeforeWhole ∷ clause.Mixed ∷ clause.NotFlushed ∷ clause.TwoNames ∷ clause.Gone
     ∷ clause.UsedAgain ∷ clause.MovedBack ∷ clause.CleanedEarly ∷ clause.Unlisted ∷ clause.GaveUp ∷ clause.AnsweredFalsely ∷ []
 
+-- the number of a clause in that order, from 0
+abbrev pub clause_index : Clause → ℕ
+clause_index clause.NotADirectory = 0
+clause_index clause.Overwritten = 1
+clause_index clause.SeenBeforeWhole = 2
+clause_index clause.Mixed = 3
+clause_index clause.NotFlushed = 4
+clause_index clause.TwoNames = 5
+clause_index clause.Gone = 6
+clause_index clause.UsedAgain = 7
+clause_index clause.MovedBack = 8
+clause_index clause.CleanedEarly = 9
+clause_index clause.Unlisted = 10
+clause_index clause.GaveUp = 11
+clause_index clause.AnsweredFalsely = 12
+
 -- the clause of a name
 unfoldable pub clause_named : List ℕ → Option Clause
 clause_named name = find (λ c. bytes_eq (clause_text c) name) clauses

@@ -1,6 +1,6 @@
 //! The clauses of the law.
-ghost use Rattle.std.specs.Prelude.{◌≡◌};
-ghost use Rattle.md_log.specs.Texts.{clause_text, clause_named};
+ghost use Rattle.std.specs.Prelude.{◌≡◌, ◌<◌};
+ghost use Rattle.md_log.specs.Texts.{clause_text, clause_index, clause_named};
 
 /// What a step may break. The order is that of findings at one line.
 #[derive(Clone, Copy, Debug, PartialEq, Eq)]
@@ -70,6 +70,14 @@ impl Clause {
             Clause::GaveUp => "GaveUp",
             Clause::AnsweredFalsely => "AnsweredFalsely",
         }
+    }
+
+    /// Its place in `CLAUSES`, from 0.
+    pub fn index(self) -> usize
+        ensures exact { result ≡ clause_index self }
+        ensures few { result < 13 }
+    {
+        self as usize
     }
 
     /// The clause of a name.

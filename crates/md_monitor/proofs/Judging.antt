@@ -15,7 +15,7 @@ use Rattle.md_law.specs.Clauses.{reply_by, IsWrongReply, IsWrongCall, NotADirect
 use Rattle.md_law.specs.Law.{Breaks}
 use Rattle.md_monitor.specs.Judged.{kept_of, is_reply, is_wrong_reply, is_wrong_call, finds}
 use Rattle.md_monitor.specs.Readings.{readings_kept}
-use Rattle.md_monitor.specs.Finds.{OwedClause, two_names, mixed, named_by_another, cleaned_early, rewritten, moved_back, in_two_folders, used_again, made_again, written_late, BreaksOwed, finds_owed}
+use Rattle.md_monitor.specs.Finds.{OwedClause, two_names, mixed, named_by_another, cleaned_early, rewritten, moved_back, in_two_folders, used_twice, made_again, written_late, BreaksOwed, finds_owed}
 use Rattle.md_monitor.proofs.Tests.{fault-is}
 use Rattle.md_monitor.proofs.Stepping.{is-call, is-by}
 use Rattle.md_monitor.proofs.Finding as files
@@ -80,6 +80,6 @@ module _ (past : History) (x : Step) where
   owed-is rewritten = owing.rewritten past x
   owed-is moved_back = files.moved_back past x
   owed-is in_two_folders = messages.in_two_folders past x
-  owed-is used_again = messages.used_by_another past x
+  owed-is used_twice = messages.used_twice past x
   owed-is made_again = messages.made_again past x
   owed-is written_late = owing.written_late past x

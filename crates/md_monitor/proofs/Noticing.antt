@@ -146,8 +146,8 @@ module _ (past : History) (x : Step) where
       (some-where _ (λ q n. IsOfAny (unique_of p.name) q × (q.folder ≢ p.folder))
       (λ e. Decides-and _ _ (of_any-is (unique_of p.name) e.0) (Decides-not _ (Decides-eqb e.0.folder p.folder))) (at h))))
 
-  pub used_by_another : Decides (found.owes_used_again (at past) (now h) (messages_kept past) x) (owed.UsedAgain h)
-  used_by_another = Decides-like _
+  pub used_twice : Decides (found.owes_used_twice (at past) (now h) (messages_kept past) x) (owed.UsedTwice h)
+  used_twice = Decides-like _
       (λ (p, n, new, both).
       let other = once-some _ past (once-map (IsAnywhere (unique_of p.name))
       (λ m. (k : ℕ) × ((q : Path) × IsMessageAt (at m) q.folder (unique_of p.name) q k))

@@ -33,7 +33,7 @@ pub data OwedClause : Type 0 where
   rewritten : OwedClause
   moved_back : OwedClause
   in_two_folders : OwedClause
-  used_again : OwedClause
+  used_twice : OwedClause
   made_again : OwedClause
   written_late : OwedClause
 
@@ -46,7 +46,7 @@ BreaksOwed cleaned_early h = law.CleanedEarly h
 BreaksOwed rewritten h = owed.Rewritten h
 BreaksOwed moved_back h = law.MovedBack h
 BreaksOwed in_two_folders h = owed.InTwoFolders h
-BreaksOwed used_again h = owed.UsedAgain h
+BreaksOwed used_twice h = owed.UsedTwice h
 BreaksOwed made_again h = owed.MadeAgain h
 BreaksOwed written_late h = owed.WrittenLate h
 
@@ -59,7 +59,7 @@ finds_owed s now kept x cleaned_early = finds s now kept x clause.CleanedEarly
 finds_owed s now kept x rewritten = files.owes_rewritten s now kept.files x
 finds_owed s now kept x moved_back = finds s now kept x clause.MovedBack
 finds_owed s now kept x in_two_folders = messages.owes_in_two_folders s now kept.messages x
-finds_owed s now kept x used_again = messages.owes_used_again s now kept.messages x
+finds_owed s now kept x used_twice = messages.owes_used_twice s now kept.messages x
 finds_owed s now kept x made_again = messages.owes_made_again s now kept.messages x
 finds_owed s now kept x written_late = files.owes_written_late s now kept.files x
 

@@ -139,8 +139,8 @@ module _ (s : State) (now : ℕ) (kept : MessagesKept) (x : Step) where
   abbrev pub owes_in_two_folders : Bool
   owes_in_two_folders = adds_message (λ e. nat_lt 0 (paths_beside after e.0.folder (unique_of e.0.name)))
 
-  abbrev pub owes_used_again : Bool
-  owes_used_again = is_some_and named (λ e.
+  abbrev pub owes_used_twice : Bool
+  owes_used_twice = is_some_and named (λ e.
       is_message e.0 && kept.was_any (unique_of e.0.name) && not (kept.was_any_file (unique_of e.0.name) e.1))
 
   abbrev pub owes_made_again : Bool

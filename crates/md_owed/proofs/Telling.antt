@@ -17,7 +17,7 @@ use Rattle.md_judge.proofs.Lists.{last-is, first-are, one-more, no-step}
 use Rattle.md_judge.proofs.Lines.{begun-after}
 use Rattle.md_judge.proofs.Telling.{pushed, history-same, history-next}
 use Rattle.md_watch.specs.declared.clause.OwedClause.{OwedClause}
-use Rattle.md_watch.specs.declared.clause.OwedClause.TheVariants.{TwoNames, InTwoFolders, Mixed, NamedByAnother, CleanedEarly, Rewritten, MovedBack, UsedAgain, MadeAgain, WrittenLate}
+use Rattle.md_watch.specs.declared.clause.OwedClause.TheVariants.{TwoNames, InTwoFolders, Mixed, NamedByAnother, CleanedEarly, Rewritten, MovedBack, UsedTwice, MadeAgain, WrittenLate}
 use Rattle.md_owed.specs.declared.session.Session.{Session}
 use Rattle.md_watch.specs.declared.broken.Broken.{Broken}
 use Rattle.md_watch.specs.Clauses.{IsBroken, meant}
@@ -96,7 +96,7 @@ module _ (l : Log) (z : Numbered) where
 
 -- the clauses in their order
 abbrev pub owed : List OwedClause
-owed = TwoNames ∷ InTwoFolders ∷ Mixed ∷ NamedByAnother ∷ CleanedEarly ∷ Rewritten ∷ MovedBack ∷ UsedAgain ∷ MadeAgain ∷ WrittenLate ∷ []
+owed = TwoNames ∷ InTwoFolders ∷ Mixed ∷ NamedByAnother ∷ CleanedEarly ∷ Rewritten ∷ MovedBack ∷ UsedTwice ∷ MadeAgain ∷ WrittenLate ∷ []
 
 -- a clause is among the first of these
 abbrev pub Passed : OwedClause → List OwedClause → ℕ → Type 0
@@ -151,7 +151,7 @@ listed NamedByAnother = (3, refl)
 listed CleanedEarly = (4, refl)
 listed Rewritten = (5, refl)
 listed MovedBack = (6, refl)
-listed UsedAgain = (7, refl)
+listed UsedTwice = (7, refl)
 listed MadeAgain = (8, refl)
 listed WrittenLate = (9, refl)
 

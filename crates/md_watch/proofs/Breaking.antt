@@ -14,7 +14,7 @@ use Rattle.md_monitor.specs.Judged as monitor
 use Rattle.md_monitor.specs.Finds.{finds_owed}
 use Rattle.md_monitor.proofs.Judging.{breaks-is, owed-is}
 use Rattle.md_watch.specs.declared.clause.OwedClause.{OwedClause}
-use Rattle.md_watch.specs.declared.clause.OwedClause.TheVariants.{TwoNames, InTwoFolders, Mixed, NamedByAnother, CleanedEarly, Rewritten, MovedBack, UsedAgain, MadeAgain, WrittenLate}
+use Rattle.md_watch.specs.declared.clause.OwedClause.TheVariants.{TwoNames, InTwoFolders, Mixed, NamedByAnother, CleanedEarly, Rewritten, MovedBack, UsedTwice, MadeAgain, WrittenLate}
 use Rattle.md_watch.specs.declared.broken.Broken.{Broken}
 use Rattle.md_watch.specs.declared.memory.Heard.{Heard}
 use Rattle.md_watch.specs.declared.memory.Memory.{Memory}
@@ -71,7 +71,7 @@ module _ (h : History) (x : Step) (w new : Watch) (holds : Holds h w) (after : H
   is-found Rewritten = ap (λ f. found.is_rewritten (clocked w x) (found.written_by f x.call)) (same-paths (clocked w x) before)
       ∙ noticing.rewritten (at h) (files_kept h) (clocked w x) holds.keeps.files clock x
   is-found MovedBack = noticing.moved_back (at h) (files_kept h) (clocked w x) holds.keeps.files clock x
-  is-found UsedAgain = noticing.used_again (at h) (messages_kept h) (clocked w x) holds.keeps.messages clock x
+  is-found UsedTwice = noticing.used_twice (at h) (messages_kept h) (clocked w x) holds.keeps.messages clock x
   is-found MadeAgain = noticing.made_again (at h) (messages_kept h) (clocked w x) holds.keeps.drafts clock x
   is-found WrittenLate = ap (λ f. found.is_late (clocked w x) (found.written_by f x.call)) (same-paths (clocked w x) before)
       ∙ noticing.written_late (at h) (files_kept h) (clocked w x) holds.keeps.files holds.keeps.filed x

@@ -1,9 +1,9 @@
 -- Keys of tables, and the paths that they stand for.
-use Rattle.std.proofs.Common.{ℕ, ◌≡◌, ◌&&◌, cond, List, [], ◌∷◌, Option, Some, None, Bool, true, false, is_some, Result, Ok, Err, OnOk, refl, sym, ap, ◌∙◌}
+use Rattle.std.proofs.Common.{ℕ, ◌≡◌, ◌&&◌, cond, slice_get, List, [], ◌∷◌, Option, Some, None, Bool, true, false, is_some, Result, Ok, Err, OnOk, refl, sym, ap, ◌∙◌}
 use Rattle.std.specs.Bool.{Decides}
 use Rattle.std.specs.Map.{lookup_key}
 use Rattle.std.specs.Ordering.{eq_by_cmp, is_eq}
-use Rattle.std.specs.Cmp.{Equal-is}
+use Rattle.std.specs.Cmp.{Equal-is, IsEquivalence, decided}
 use Rattle.std.proofs.lemmas.Bool.{false_from_ne_true}
 use Rattle.std.proofs.lemmas.Bool.Decides.{Decides-eqb, Decides-and, Decides-like}
 use Rattle.std.proofs.lemmas.Cmp.{tied_itself}
@@ -18,7 +18,9 @@ use Rattle.md_name.specs.Names.{unique_of}
 use Rattle.md_law.specs.Messages.{is_message, is_tmp}
 use Rattle.md_monitor.proofs.Tests.{tmp-is}
 use Rattle.md_watch.specs.Changes.{message_of}
-use Rattle.md_watch.specs.Tables.{is_key}
+use Rattle.indexmap.specs.IndexMap.{IndexMap, get, get_key_by, with_value_at, IsUnique}
+use Rattle.indexmap.proofs.CallerLemmas.{updates-with_value_at}
+use Rattle.md_watch.specs.Tables.{is_key, held}
 
 -- two tests that hold together are one
 pub same-tests : {P : Type 0} (a b : Bool) → Decides a P → Decides b P → a ≡ b
@@ -68,6 +70,24 @@ found-key k (e ∷ es) found is = by (found-key k es found) (is_key k e.0) refl 
         let parts = (key-is k e.0).0 same in
         here ∙ (λ i. ((sym parts.0) i, (sym parts.1) i))
     by rest false other some = rest some
+
+pub key-same : (a b : ℕ × List ℕ) → Decides (is_key a b) (a ≡ b)
+key-same a b = Decides-like _ (λ both i. (both.0 i, both.1 i)) (λ is. (ap (λ k. k.0) is, ap (λ k. k.1) is)) (key-is a b)
+
+key-equivalence : IsEquivalence is_key
+key-equivalence = decided is_key key-same
+
+pub held-if : {V : Type 0} (b : Bool) (w : Option V) (o : Option (Option V)) → held (cond b (Some w) o) ≡ cond b w (held o)
+held-if true w o = refl
+held-if false w o = refl
+
+-- a key that is found at an index has what is written there, and the others have what they had
+pub written-at : {V S : Type 0} (m : IndexMap (ℕ × List ℕ) (Option V) S) (i : ℕ) (k found : ℕ × List ℕ) (was w : Option V) → IsUnique is_key m
+    → Some found ≡ get_key_by (is_key k) m → slice_get m.entries i ≡ Some (found, was) → (q : ℕ × List ℕ)
+    → held (get is_key (with_value_at m i w) q) ≡ cond (is_key k q) w (held (get is_key m q))
+written-at m i k found was w unique is there q =
+    ap held ((updates-with_value_at m i w key-equivalence unique found was there).0 q) ∙ held-if (is_key found q) w (get is_key m q)
+    ∙ ap (λ e. cond (is_key e q) w (held (get is_key m q))) (found-key k m.entries found is)
 
 -- ---- what is known of an answer
 

@@ -3,7 +3,7 @@ use Rattle.std.proofs.Common.{ℕ, ◌≡◌, ◌+◌, ◌-◌, ◌==◌, ◌&&�
 use Rattle.std.specs.Prelude.{unwrap_or}
 use Rattle.std.specs.Option.{option_map}
 use Rattle.std.specs.Str.{bytes_eq}
-use Rattle.std.proofs.lemmas.Bool.Decides.{Decides-eqb}
+use Rattle.std.proofs.lemmas.Bool.Decides.{Decides-eqb, Decides-like, Decides-ltb}
 use Rattle.std.proofs.lemmas.Option.{some_pair_parts}
 use Rattle.indexmap.specs.IndexMap.{Updates}
 use Rattle.md_dirs.specs.declared.paths.Path.{Path}
@@ -19,9 +19,9 @@ use Rattle.md_watch.specs.declared.flagged.Flagged.{Flagged}
 use Rattle.md_watch.specs.declared.spells.Spell.{Spell}
 use Rattle.md_watch.specs.declared.table.Table.{Table}
 use Rattle.md_watch.specs.Flagged.{shows, times, mark_of, count_of, spell_of, set_at, count_by, spell_by, more_at, less_at, Changes, Lends, Comes, Goes, Puts as PutsPath}
-use Rattle.md_watch.specs.Spells.{since_of, ended_of, spell_at, Passes}
+use Rattle.md_watch.specs.Spells.{since_of, ended_of, spell_at, Passes, Notes}
 use Rattle.md_watch.specs.Tables.{count_at, value_at, is_key, Puts}
-use Rattle.md_watch.proofs.Keys.{key-is}
+use Rattle.md_watch.proofs.Keys.{key-is, key-same, same-tests}
 use Rattle.md_watch.proofs.Spelling.{passes-none}
 
 -- ---- spells
@@ -33,6 +33,59 @@ passes-alike n a a' b b' o o' r r' was is old new passes = record {
   ended = ap ended_of new ∙ passes.ended
       ∙ (λ i. cond ((sym was) i && not ((sym is) i)) (ended_of ((sym old) i) ++ (since_of ((sym old) i), n) ∷ []) (ended_of ((sym old) i)));
 }
+
+-- ---- one count of one set of flags is changed
+
+-- one more is more than 1, where there was one
+pub more-than-one : (count old : ℕ) → count ≡ old + 1 → nat_lt 1 count ≡ nat_lt 0 old
+more-than-one count old is = same-tests _ _
+    (Decides-like _ (λ up. omega (arith, up, is)) (λ up. omega (arith, up, is)) (Decides-ltb 1 count)) (Decides-ltb 0 old)
+
+pub one-more : (old : ℕ) → nat_lt 0 (old + 1) ≡ true
+one-more old = (Decides-ltb 0 (old + 1)).1 (omega arith)
+
+pub one-less : (o : Option ℕ) → unwrap_or (option_map (λ n. n - 1) o) 0 ≡ unwrap_or o 0 - 1
+one-less None = refl
+one-less (Some n) = refl
+
+module _ (folder : ℕ) (unique : List ℕ) (value : Option ℕ) (old new : Shown) (puts : Puts folder unique value old.names new.names) where
+  pub own-count : count_at new.names folder unique ≡ unwrap_or value 0
+  own-count = ap (λ o. unwrap_or o 0) (puts folder unique
+      ∙ ap (λ b. cond b value (value_at old.names folder unique)) ((key-same (folder, unique) (folder, unique)).1 refl))
+
+  -- the count of the key goes so, and its spell with it
+  pub changed-at : (n : ℕ) (g : ℕ → ℕ) → unwrap_or value 0 ≡ g (count_at old.names folder unique)
+      → Notes folder unique (nat_lt 0 (count_at old.names folder unique)) (nat_lt 0 (count_at new.names folder unique)) n old.spells new.spells
+      → Changes (λ m q count. cond (is_key (folder, unique) (m, q)) (g count) count) n (Some old) (Some new)
+  changed-at n g is notes = record {
+    counts = λ m q. counted m q (is_key (folder, unique) (m, q)) refl;
+    spells = λ m q. passed m q (is_key (folder, unique) (m, q)) refl;
+  }
+    where
+      put : (m : ℕ) (q : List ℕ) (b : Bool) → is_key (folder, unique) (m, q) ≡ b
+          → count_at new.names m q ≡ unwrap_or (cond b value (value_at old.names m q)) 0
+      put m q b here = ap (λ o. unwrap_or o 0) (puts m q ∙ ap (λ c. cond c value (value_at old.names m q)) here)
+
+      counted : (m : ℕ) (q : List ℕ) (b : Bool) → is_key (folder, unique) (m, q) ≡ b → count_at new.names m q
+          ≡ cond (is_key (folder, unique) (m, q)) (g (count_at old.names m q)) (count_at old.names m q)
+      counted m q true here =
+          let parts = (key-is (folder, unique) (m, q)).0 here in
+          put m q true here ∙ is ∙ (λ i. g (count_at old.names (parts.0 i) (parts.1 i)))
+          ∙ sym (ap (λ c. cond c (g (count_at old.names m q)) (count_at old.names m q)) here)
+      counted m q false other =
+          put m q false other ∙ sym (ap (λ c. cond c (g (count_at old.names m q)) (count_at old.names m q)) other)
+
+      passed : (m : ℕ) (q : List ℕ) (b : Bool) → is_key (folder, unique) (m, q) ≡ b → Passes (nat_lt 0 (count_at old.names m q))
+          (nat_lt 0 (count_at new.names m q)) n (spell_at old.spells m q) (spell_at new.spells m q)
+      passed m q true here =
+          let parts = (key-is (folder, unique) (m, q)).0 here in
+          passes-alike n _ _ _ _ _ _ _ _ (sym (λ i. nat_lt 0 (count_at old.names (parts.0 i) (parts.1 i))))
+          (sym (λ i. nat_lt 0 (count_at new.names (parts.0 i) (parts.1 i)))) (sym (λ i. spell_at old.spells (parts.0 i) (parts.1 i)))
+          (sym (λ i. spell_at new.spells (parts.0 i) (parts.1 i))) notes.here
+      passed m q false other =
+          let was = nat_lt 0 (count_at old.names m q) in
+          passes-alike n was was was _ _ _ _ _ refl (ap (nat_lt 0) (put m q false other)) refl (notes.others m q other)
+          (passes-none was n (spell_at old.spells m q))
 
 -- ---- what a path shows
 

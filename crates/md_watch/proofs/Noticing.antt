@@ -217,8 +217,8 @@ and-parts true b c = refl
 and-parts false b c = refl
 
 module _ (s : State) (kept : MessagesKept) (w : Watch) (are : AreMessages s kept w.messages) where
-  pub used_again : (now : ℕ) (x : Step) → found.is_used_again w (change_of s x.call).named ≡ messages.owes_used_again s now kept x
-  used_again now x = same-at (change_of s x.call).named _ _ (λ e is.
+  pub used_twice : (now : ℕ) (x : Step) → found.is_used_twice w (change_of s x.call).named ≡ messages.owes_used_twice s now kept x
+  used_twice now x = same-at (change_of s x.call).named _ _ (λ e is.
       of-message (is_message e.0) (unique_of e.0.name) _
       ∙ (λ i. is_message e.0 && (are.was_any (unique_of e.0.name) i && not (are.was_any_file (unique_of e.0.name) e.1 i)))
       ∙ and-parts (is_message e.0) _ _)

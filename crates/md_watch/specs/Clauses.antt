@@ -4,7 +4,7 @@ use Rattle.md_log.specs.declared.clause.Clause.{Clause}
 use Rattle.md_log.specs.declared.clause.Clause.TheVariants as clause
 use Rattle.md_monitor.specs.Finds as monitor
 use Rattle.md_watch.specs.declared.clause.OwedClause.{OwedClause}
-use Rattle.md_watch.specs.declared.clause.OwedClause.TheVariants.{TwoNames, InTwoFolders, Mixed, NamedByAnother, CleanedEarly, Rewritten, MovedBack, UsedAgain, MadeAgain, WrittenLate}
+use Rattle.md_watch.specs.declared.clause.OwedClause.TheVariants.{TwoNames, InTwoFolders, Mixed, NamedByAnother, CleanedEarly, Rewritten, MovedBack, UsedTwice, MadeAgain, WrittenLate}
 use Rattle.md_watch.specs.declared.broken.Broken.{Broken}
 
 -- the name of a clause, as docs/LAW.md has it
@@ -16,7 +16,7 @@ name_of NamedByAnother = codes "NamedByAnother"
 name_of CleanedEarly = codes "CleanedEarly"
 name_of Rewritten = codes "Rewritten"
 name_of MovedBack = codes "MovedBack"
-name_of UsedAgain = codes "UsedAgain"
+name_of UsedTwice = codes "UsedTwice"
 name_of MadeAgain = codes "MadeAgain"
 name_of WrittenLate = codes "WrittenLate"
 
@@ -29,7 +29,7 @@ meant NamedByAnother = monitor.named_by_another
 meant CleanedEarly = monitor.cleaned_early
 meant Rewritten = monitor.rewritten
 meant MovedBack = monitor.moved_back
-meant UsedAgain = monitor.used_again
+meant UsedTwice = monitor.used_twice
 meant MadeAgain = monitor.made_again
 meant WrittenLate = monitor.written_late
 
@@ -42,7 +42,7 @@ is_broken b NamedByAnother = b.owed.named_by_another
 is_broken b CleanedEarly = b.cleaned_early
 is_broken b Rewritten = b.owed.rewritten
 is_broken b MovedBack = b.law.moved_back
-is_broken b UsedAgain = b.owed.used_again
+is_broken b UsedTwice = b.owed.used_twice
 is_broken b MadeAgain = b.owed.made_again
 is_broken b WrittenLate = b.owed.written_late
 

@@ -91,8 +91,8 @@ module _ (w : Watch) where
   abbrev pub is_moved_back : Option (Path × ℕ) → Bool
   is_moved_back named = is_some_and named (λ e. is_message e.0 && is_new e.0.place && was_cur_in w.files.all.items e.1)
 
-  abbrev pub is_used_again : Option (Path × ℕ) → Bool
-  is_used_again named = is_some_and named (λ e. is_some_and (message_of e.0) (λ u.
+  abbrev pub is_used_twice : Option (Path × ℕ) → Bool
+  is_used_twice named = is_some_and named (λ e. is_some_and (message_of e.0) (λ u.
       was_anywhere w.messages u && not (was_as_file w.messages u e.1)))
 
   abbrev pub is_made_again : Option (Path × ℕ) → Bool
@@ -127,7 +127,7 @@ module _ (w : Watch) where
   owed_before t x = let written = written_by (file_in w.paths) x.call in record {
     named_by_another = is_anothers x t.named;
     rewritten = is_rewritten written;
-    used_again = is_used_again t.named;
+    used_twice = is_used_twice t.named;
     made_again = is_made_again t.named;
     written_late = is_late written;
   }

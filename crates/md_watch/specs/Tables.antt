@@ -1,5 +1,5 @@
 -- What a table keeps by a number and a name.
-use Rattle.std.specs.Prelude.{ℕ, ◌≡◌, ◌==◌, ◌&&◌, Bool, List, Option, unwrap_or, if◌then◌else◌}
+use Rattle.std.specs.Prelude.{ℕ, ◌≡◌, ◌==◌, ◌&&◌, Bool, List, Option, Some, None, unwrap_or, if◌then◌else◌}
 use Rattle.std.specs.Str.{bytes_eq}
 use Rattle.indexmap.specs.IndexMap.{get}
 use Rattle.md_watch.specs.declared.table.Table.{Table}
@@ -7,8 +7,13 @@ use Rattle.md_watch.specs.declared.table.Table.{Table}
 abbrev pub is_key : ℕ × List ℕ → ℕ × List ℕ → Bool
 is_key a b = a.0 == b.0 && bytes_eq a.1 b.1
 
-abbrev pub value_at : {V : Type 0} → Table V → ℕ → List ℕ → Option V
-value_at t number name = get is_key t.map (number, name)
+-- what a key has, where it has anything
+abbrev pub held : {V : Type 0} → Option (Option V) → Option V
+held None = None
+held (Some o) = o
+
+unfoldable pub value_at : {V : Type 0} → Table V → ℕ → List ℕ → Option V
+value_at t number name = held (get is_key t.map (number, name))
 
 abbrev pub count_at : Table ℕ → ℕ → List ℕ → ℕ
 count_at t number name = unwrap_or (value_at t number name) 0

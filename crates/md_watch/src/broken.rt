@@ -51,7 +51,7 @@ pub(crate) struct LawBefore {
 pub(crate) struct OwedBefore {
     pub(crate) named_by_another: bool,
     pub(crate) rewritten: bool,
-    pub(crate) used_again: bool,
+    pub(crate) used_twice: bool,
     pub(crate) made_again: bool,
     pub(crate) written_late: bool,
 }
@@ -69,7 +69,7 @@ impl Broken {
             OwedClause::CleanedEarly => self.cleaned_early,
             OwedClause::Rewritten => self.owed.rewritten,
             OwedClause::MovedBack => self.law.moved_back,
-            OwedClause::UsedAgain => self.owed.used_again,
+            OwedClause::UsedTwice => self.owed.used_twice,
             OwedClause::MadeAgain => self.owed.made_again,
             OwedClause::WrittenLate => self.owed.written_late,
         }

@@ -20,7 +20,7 @@ pub enum OwedClause {
     /// A message that was in cur is named in new, and did not come from new.
     MovedBack,
     /// A unique name is used for another file than it was.
-    UsedAgain,
+    UsedTwice,
     /// A path of tmp names a second file.
     MadeAgain,
     /// A file is written to that nobody has written to for 36 hours, or may have been.
@@ -36,7 +36,7 @@ pub const OWED: [OwedClause; 10] = [
     OwedClause::CleanedEarly,
     OwedClause::Rewritten,
     OwedClause::MovedBack,
-    OwedClause::UsedAgain,
+    OwedClause::UsedTwice,
     OwedClause::MadeAgain,
     OwedClause::WrittenLate,
 ];
@@ -54,7 +54,7 @@ impl OwedClause {
             OwedClause::CleanedEarly => "CleanedEarly",
             OwedClause::Rewritten => "Rewritten",
             OwedClause::MovedBack => "MovedBack",
-            OwedClause::UsedAgain => "UsedAgain",
+            OwedClause::UsedTwice => "UsedTwice",
             OwedClause::MadeAgain => "MadeAgain",
             OwedClause::WrittenLate => "WrittenLate",
         }

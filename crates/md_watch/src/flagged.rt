@@ -52,10 +52,8 @@ impl Shown {
     fn come(&mut self, folder: usize, unique: &[u8], now: usize) -> Result<(), AllocError>
         ensures { OnOk result (Changes (more_at folder unique.now) now (Some self.old) (Some self.new)) }
     {
-        let was = self.is(folder, unique);
-        self.names.raise(folder, unique)?;
-        let is = self.is(folder, unique);
-        self.spells.note(folder, unique, was, is, now)
+        let count = self.names.raise(folder, unique)?;
+        self.spells.note(folder, unique, count > 1, true, now)
     }
 
     /// One name less does.
@@ -63,7 +61,7 @@ impl Shown {
         ensures { OnOk result (Changes (less_at folder unique.now) now (Some self.old) (Some self.new)) }
     {
         let was = self.is(folder, unique);
-        self.names.lower(folder, unique)?;
+        self.names.lower(folder, unique);
         let is = self.is(folder, unique);
         self.spells.note(folder, unique, was, is, now)
     }

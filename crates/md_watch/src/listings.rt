@@ -63,7 +63,8 @@ impl Listings {
     pub(crate) fn break_off(&mut self, actor: &[u8]) -> Result<(), AllocError>
         ensures { OnOk result (Breaks actor.now self.old self.new) }
     {
-        self.breaks.raise(0, actor)
+        self.breaks.raise(0, actor)?;
+        Ok(())
     }
 
     /// An actor completed a reading of a directory at the step of a number. One of tmp is no part of a listing.

@@ -93,8 +93,9 @@ impl Messages {
         ensures { OnOk result (Follows (turn_of change.now) self.old self.new) }
     {
         self.come(change.named)?;
-        self.go(change.taken)?;
-        self.go(change.turned)
+        self.go(change.taken);
+        self.go(change.turned);
+        Ok(())
     }
 
     fn come(&mut self, named: Option<Named<'_>>) -> Result<(), AllocError>
@@ -112,17 +113,17 @@ impl Messages {
         self.files.add(path.folder as usize, unique, file)
     }
 
-    fn go(&mut self, named: Option<Named<'_>>) -> Result<(), AllocError>
-        ensures { OnOk result (Goes (lent_as named.entry) self.old self.new) }
+    fn go(&mut self, named: Option<Named<'_>>)
+        ensures { Goes (lent_as named.entry) self.old self.new }
     {
         let Some((path, file)) = named else {
-            return Ok(());
+            return;
         };
         let Some(unique) = message_of(path) else {
-            return Ok(());
+            return;
         };
-        self.in_folder.lower(path.folder as usize, unique)?;
-        self.anywhere.lower(0, unique)?;
-        self.as_file.lower(file, unique)
+        self.in_folder.lower(path.folder as usize, unique);
+        self.anywhere.lower(0, unique);
+        self.as_file.lower(file, unique);
     }
 }

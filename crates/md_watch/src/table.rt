@@ -1,5 +1,5 @@
 //! A table by a number and a name.
-ghost use Rattle.std.specs.Prelude.{◌≡◌, ◌+◌, ◌-◌, ℕ, List, Some, None, OnOk};
+ghost use Rattle.std.specs.Prelude.{◌≡◌, ◌+◌, ◌-◌, ℕ, List, Some, None, IfOk, OnOk};
 ghost use Rattle.std.specs.Option.{option_map, option_copied};
 ghost use Rattle.md_watch.specs.Tables.{value_at, count_at, Puts};
 
@@ -11,10 +11,12 @@ use std::alloc::{AllocError, Global};
 #[derive(Drop)]
 pub(crate) struct Table<V> {
     alloc: Global,
-    map: IndexMap<(usize, NameKey<'static>), V>,
+    /// What is taken out leaves its key, so that it comes back to the same place.
+    map: IndexMap<(usize, NameKey<'static>), Option<V>>,
 }
 
 impl<V: Drop> Table<V> {
+    #[tactic(auto, unfolding(crate::specs::Tables::value_at))]
     pub(crate) fn new(alloc: Global) -> Self
         ensures { (number : ℕ) (name : List ℕ) → value_at result number name ≡ None }
     {
@@ -24,30 +26,33 @@ impl<V: Drop> Table<V> {
         }
     }
 
+    #[tactic(auto, unfolding(crate::specs::Tables::value_at))]
     pub(crate) fn get<'a>(&'a self, number: usize, name: &'a [u8]) -> Option<&'a V>
         ensures { option_copied result ≡ value_at self.now number name.now }
     {
         let key = (number, NameKey::lent(name));
-        self.map.get(&key)
+        self.map.get(&key)?.as_ref()
     }
 
+    #[tactic(auto, unfolding(crate::specs::Tables::value_at))]
     pub(crate) fn put(&mut self, number: usize, name: &[u8], value: V) -> Result<(), AllocError>
         ensures { OnOk result (Puts number name.now (Some value) self.old self.new) }
     {
         let key = (number, NameKey::copied(self.alloc, name)?);
-        self.map.insert(key, value)?;
+        self.map.insert(key, Some(value))?;
         Ok(())
     }
 
     /// Takes out what is kept.
+    #[tactic(auto, unfolding(crate::specs::Tables::value_at))]
     pub(crate) fn take(&mut self, number: usize, name: &[u8]) -> Option<V>
         ensures taken { result ≡ value_at self.old number name.now }
         ensures puts { Puts number name.now None self.old self.new }
     {
         let key = (number, NameKey::lent(name));
         let (at, _, _) = self.map.get_full(&key)?;
-        let (_key, value) = self.map.swap_remove_index(at)?;
-        Some(value)
+        let (_, kept) = self.map.pair_mut(at);
+        kept.take()
     }
 }
 
@@ -59,23 +64,38 @@ impl Table<usize> {
         self.get(number, name).copied().unwrap_or(0)
     }
 
-    /// One more.
-    pub(crate) fn raise(&mut self, number: usize, name: &[u8]) -> Result<(), AllocError>
-        ensures { OnOk result (Puts number name.now (Some (count_at self.old number name.now + 1)) self.old self.new) }
+    /// One more; how many there are then.
+    #[tactic(auto, unfolding(crate::specs::Tables::value_at))]
+    pub(crate) fn raise(&mut self, number: usize, name: &[u8]) -> Result<usize, AllocError>
+        ensures count { IfOk result (λ count. count ≡ count_at self.old number name.now + 1) }
+        ensures puts { OnOk result (Puts number name.now (Some (count_at self.old number name.now + 1)) self.old self.new) }
     {
-        let Some(more) = self.count(number, name).checked_add(1) else {
+        let key = (number, NameKey::lent(name));
+        let Some((at, _, kept)) = self.map.get_full(&key) else {
+            self.put(number, name, 1)?;
+            return Ok(1);
+        };
+        let Some(more) = kept.unwrap_or(0).checked_add(1) else {
             return Err(AllocError);
         };
-        self.put(number, name, more)
+        let (_, kept) = self.map.pair_mut(at);
+        *kept = Some(more);
+        Ok(more)
     }
 
     /// One less, where there is any.
-    pub(crate) fn lower(&mut self, number: usize, name: &[u8]) -> Result<(), AllocError>
-        ensures { OnOk result (Puts number name.now (option_map (λ n. n - 1) (value_at self.old number name.now)) self.old self.new) }
+    #[tactic(auto, unfolding(crate::specs::Tables::value_at))]
+    pub(crate) fn lower(&mut self, number: usize, name: &[u8])
+        ensures { Puts number name.now (option_map (λ n. n - 1) (value_at self.old number name.now)) self.old self.new }
     {
-        match self.get(number, name).copied() {
-            None => Ok(()),
-            Some(count) => self.put(number, name, count.saturating_sub(1)),
-        }
+        let key = (number, NameKey::lent(name));
+        let Some((at, _, kept)) = self.map.get_full(&key) else {
+            return;
+        };
+        let Some(count) = *kept else {
+            return;
+        };
+        let (_, kept) = self.map.pair_mut(at);
+        *kept = Some(count.saturating_sub(1));
     }
 }

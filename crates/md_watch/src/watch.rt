@@ -176,7 +176,7 @@ impl Watch {
         OwedBefore {
             named_by_another: self.is_anothers(step, change.named),
             rewritten: self.is_rewritten(written),
-            used_again: self.is_used_again(change.named),
+            used_twice: self.is_used_twice(change.named),
             made_again: self.is_made_again(change.named),
             written_late: self.is_late(written),
         }

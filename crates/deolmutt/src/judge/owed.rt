@@ -79,7 +79,7 @@ fn why(clause: OwedClause) -> &'static str {
         OwedClause::CleanedEarly => "a file in tmp is taken from a program that may still write it",
         OwedClause::Rewritten => "a file is written to that readers have seen",
         OwedClause::MovedBack => "a message that was read is in new again",
-        OwedClause::UsedAgain => "a unique name is used for a second message",
+        OwedClause::UsedTwice => "a unique name is used for a second message",
         OwedClause::MadeAgain => "a name in tmp is used for a second file",
         OwedClause::WrittenLate => "a file is written to that nobody has written to for 36 hours",
     }

@@ -17,7 +17,7 @@ const MOVE: &[OwedClause] = &[
     OwedClause::TwoNames,
     OwedClause::InTwoFolders,
     OwedClause::MovedBack,
-    OwedClause::UsedAgain,
+    OwedClause::UsedTwice,
 ];
 
 const COPY: &[OwedClause] = &[

@@ -4,7 +4,7 @@ ghost use Rattle.std.specs.Option.{option_map};
 ghost use Rattle.md_monitor.specs.Found.{is_from_new};
 ghost use Rattle.md_watch.specs.Changes.{turn_of, file_in};
 ghost use Rattle.md_watch.specs.Files.{lent_as};
-ghost use Rattle.md_watch.specs.Found.{written_by, makes, adds, is_early, is_mixed, is_anothers, is_rewritten, is_moved_back, is_used_again, is_made_again, is_late, is_second, is_elsewhere, is_hidden};
+ghost use Rattle.md_watch.specs.Found.{written_by, makes, adds, is_early, is_mixed, is_anothers, is_rewritten, is_moved_back, is_used_twice, is_made_again, is_late, is_second, is_elsewhere, is_hidden};
 
 use super::{LONG, Watch};
 use crate::change::{Change, Named, is_message, is_new, is_tmp, message_of};
@@ -100,8 +100,8 @@ impl Watch {
     }
 
     /// Whether a path of a message comes to name a file that the message never was, and it was another.
-    pub(super) fn is_used_again(&self, named: Option<Named<'_>>) -> bool
-        ensures { result ≡ is_used_again self.now (lent_as named.entry) }
+    pub(super) fn is_used_twice(&self, named: Option<Named<'_>>) -> bool
+        ensures { result ≡ is_used_twice self.now (lent_as named.entry) }
     {
         let Some((path, file)) = named else {
             return false;

@@ -5,12 +5,13 @@ use Rattle.md_log.specs.declared.clause.Clause.{Clause}
 use Rattle.md_log.specs.declared.clause.Clause.TheVariants as clause
 use Rattle.md_watch.specs.Clauses.{breaks}
 use Rattle.md_watch.specs.Watches.{Holds}
+use Rattle.md_log.specs.Texts.{clauses}
 use Rattle.md_judge.specs.declared.clauses.Clauses.{Clauses}
 use Rattle.md_judge.specs.declared.session.Session.{Session}
 use Rattle.md_judge.specs.Clauses.{Has}
 use Rattle.md_judge.specs.Placed.{AreInOrderAtLines, AreBelowAtLine, AddsFinding}
 use Rattle.md_judge.specs.Verdict.{AreInOrder, AreEarlier}
-use Rattle.md_judge.proofs.Adding.{clauses, clauses-numbered, adds-first, adds-next, adds-all}
+use Rattle.md_judge.proofs.Adding.{clauses-numbered, adds-first, adds-next, adds-all}
 use Rattle.md_judge.proofs.Ordered.{clause-next}
 use Rattle.md_judge.proofs.session.Session.judge_step.Goals as goal
 

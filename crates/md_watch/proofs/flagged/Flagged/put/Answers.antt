@@ -10,4 +10,4 @@ returns c =
     let new : Flagged = record { alloc = mid.alloc; sets = c.insert.new.self } in
     let put : Shown = record { names = c.raise.new.self; spells = c.lend-shown.result.spells } in
     was-put c.args.path.now c.in-Some.unique.now c.in-Some.word (sym c.in-Some.ensures)
-    c.args.self.now mid new c.lend-shown.result put c.lend-shown.ensures c.in_ok-insert.ensures.updates c.in_ok-raise.ensures refl
+    c.args.self.now mid new c.lend-shown.result put c.lend-shown.ensures c.in_ok-insert.ensures.updates c.in_ok-raise.ensures.puts refl

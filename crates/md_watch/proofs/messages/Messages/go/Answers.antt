@@ -2,7 +2,6 @@ use Rattle.std.proofs.Common.{refl, sym, subst}
 use Rattle.md_watch.specs.Files.{lent_as}
 use Rattle.md_watch.specs.Messages.{Goes}
 use Rattle.md_watch.specs.declared.messages.Messages.{Messages}
-use Rattle.md_watch.proofs.Keys.{then}
 use Rattle.md_watch.proofs.Leaving.{went}
 use Rattle.md_watch.proofs.messages.Messages.go.Goals as goal
 
@@ -11,8 +10,6 @@ returns c =
     let old = c.args.self.now in
     let new : Messages =
     record { in_folder = c.lower.new.self; anywhere = c.lower-2.new.self; as_file = c.lower-3.new.self; files = old.files } in
-    then c.lower-3.result
-    (λ file. subst (λ o. Goes (lent_as o) old new) (sym c.in-Some.is)
-    (went c.in-Some.path.now c.in-Some.file c.in-Some-message_of.unique.now old new c.in-Some-message_of.ensures c.in_ok-lower.ensures
-    c.in_ok-lower-2.ensures file refl))
-    c.lower-3.ensures
+    subst (λ o. Goes (lent_as o) old new) (sym c.in-Some.is)
+    (went c.in-Some.path.now c.in-Some.file c.in-Some-message_of.unique.now old new c.in-Some-message_of.ensures c.lower.ensures
+    c.lower-2.ensures c.lower-3.ensures refl)
