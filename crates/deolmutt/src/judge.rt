@@ -3,7 +3,6 @@ mod blame;
 mod fault;
 mod json;
 mod lines;
-mod owed;
 mod page;
 mod relied;
 mod shown;
@@ -19,15 +18,14 @@ use crate::status::Status;
 use crate::trouble::Trouble;
 use fault::Fault;
 use lines::judge_lines;
-use md_judge::{CLAUSES, Finding, Grade, Session as Judge};
-use owed::try_owed;
+use md_judge::Session as Judge;
 use page::Page;
 use shown::Shown;
 use std::alloc::{AllocError, Global};
 use std::io::Read;
 use summary::Tally;
 use why::why;
-pub(crate) use words::{Form, Judging, Rules, Strictness, read_judging};
+pub(crate) use words::{Form, Judging, Rules, read_judging};
 
 /// Judges the log of a file or of standard input line by line, and prints its findings once it is over, so that nothing is printed of a log
 /// that is refused.
@@ -68,40 +66,49 @@ fn try_judge<R: Host, L: Read + Drop>(
     how: &Judging<'_>,
     log: L,
 ) -> Result<Status, Fault> {
-    match &how.rules {
-        Rules::Law(strictness) => try_law(session, how.form, strictness, log),
-        Rules::Owed(owing) => try_owed(session, how.form, owing, log),
-    }
+    let mut judge = judge_by(session.alloc, &how.rules)?;
+    judge_lines(session.alloc, &mut judge, log)?;
+    show(session, &judge, how)
 }
 
-// Judges a log by the law, but for the clauses that are allowed.
-fn try_law<R: Host, L: Read + Drop>(
-    session: &Session<'_, R>,
-    form: Form,
-    strictness: &Strictness,
-    log: L,
-) -> Result<Status, Fault> {
-    let mut judge = Judge::new(session.alloc);
+// On the heap, so that it is let go by one call.
+fn judge_by(alloc: Global, rules: &Rules<'_>) -> Result<Box<Judge>, AllocError> {
+    let Rules::Law(strictness) = rules else {
+        return Ok(Box::new(alloc, Judge::new(alloc))?);
+    };
+    let mut judge = Box::new(alloc, Judge::of_law(alloc))?;
     for clause in &strictness.allowed {
         judge.allow(*clause);
     }
-    judge_lines(session.alloc, &mut judge, log)?;
-    show(session, &judge, form, strictness.least)
+    Ok(judge)
 }
 
-// Prints the findings of a grade and of the worse ones.
+// Prints the findings that are asked for.
 fn show<R: Host>(
     session: &Session<'_, R>,
     judge: &Judge,
-    form: Form,
-    least: Grade,
+    how: &Judging<'_>,
 ) -> Result<Status, Fault> {
-    let mut page = Page::new(session.alloc, form, expected(session.alloc)?);
+    let mut page = Page::new(
+        session.alloc,
+        how.form,
+        expected(session.alloc, &how.rules)?,
+    );
     let mut status = Status::Done;
     for (at, finding) in judge.findings().iter().copied().enumerate() {
+        let (actor, call) = judge.words(at);
         let grade = judge.grade(at);
-        if grade.is_at_least(least) {
-            page.put(session, &as_shown(judge.words(at), finding, grade))?;
+        if how.rules.ask_for(finding.clause, grade, actor) {
+            let shown = Shown {
+                line: finding.line,
+                actor,
+                call,
+                clause: finding.clause.name(),
+                grade,
+                why: why(finding.clause),
+                before: finding.before,
+            };
+            page.put(session, &shown)?;
             status = Status::Refused;
         }
     }
@@ -109,23 +116,11 @@ fn show<R: Host>(
     Ok(status)
 }
 
-fn as_shown<'a>((actor, call): (&'a [u8], &'a [u8]), finding: Finding, grade: Grade) -> Shown<'a> {
-    Shown {
-        line: finding.line,
-        actor,
-        call,
-        clause: finding.clause.name(),
-        grade,
-        why: why(finding.clause),
-        before: finding.before,
-    }
-}
-
-// The clauses of the law, in its order.
-fn expected(alloc: Global) -> Result<Tally, AllocError> {
+// The clauses that there may be findings of, in their order.
+fn expected(alloc: Global, rules: &Rules<'_>) -> Result<Tally, AllocError> {
     let mut tally = Tally::new(alloc);
-    for clause in CLAUSES {
-        tally.expect(clause.name(), why(clause))?;
+    for clause in rules.clauses() {
+        tally.expect(clause.name(), why(*clause))?;
     }
     Ok(tally)
 }

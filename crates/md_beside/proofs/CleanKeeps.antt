@@ -8,17 +8,16 @@ use Rattle.md_jobs.specs.declared.call.Call.TheVariants as call
 use Rattle.md_core.specs.Interleaving.{IsDeliveryOf}
 use Rattle.md_core.specs.Mailbox.{HasOnePath}
 use Rattle.md_log.specs.declared.clause.Clause.{Clause}
-use Rattle.md_law.specs.Clauses.{CleanedEarly}
 use Rattle.md_law.specs.Law.{Breaks}
 use Rattle.md_law.specs.Owed.{MadeAgain, WrittenLate}
 use Rattle.md_beside.specs.Story.{Story, Step, ours, step_at, state, history, standing}
-use Rattle.md_beside.specs.Beside.{IsStory, IsAnswered, IsClean, Says, Owes}
+use Rattle.md_beside.specs.Beside.{IsStory, IsAnswered, IsClean, Says}
 use Rattle.md_beside.specs.Jobs.{AreUsedOnce, AreTimely, MayBreak, KeepsPromise}
 use Rattle.md_beside.proofs.Acting.{OwnStep, stands-beside, by-who, acts, answered-all}
 use Rattle.md_beside.proofs.CleanSays.{folder_of, Taking, taking-first, taking-beside, has-cleaned, is-cleaned}
-use Rattle.md_beside.proofs.CleanSteps.{FitsClean, Old, old-first, old-next, old-beside, own-step, never-gone, not-early, says-here, taking-next, owes-here, lawful-here}
+use Rattle.md_beside.proofs.CleanSteps.{FitsClean, Old, old-first, old-next, old-beside, own-step, never-gone, says-here, taking-next, lawful-here}
 use Rattle.md_beside.proofs.EachMoment.{each-moment}
-use Rattle.md_beside.proofs.Histories.{next_at, history-next}
+use Rattle.md_beside.proofs.Histories.{next_at}
 use Rattle.md_beside.proofs.OneFile.{IsOneFile}
 use Rattle.md_beside.proofs.OwnCall.{within-story, its, back}
 
@@ -59,10 +58,6 @@ module _ (t : Story) (story : IsStory t) (i : ℕ) (c : Call) (of : slice_get t.
     gone-its : x.answer ≡ Some answer.TmpGone → ⊥
     gone-its = never-gone t story k job x is who sound-here (one-at k) fits-here
 
-    owes-its : (CleanedEarly (history t (suc k)) → ⊥) → Owes (history t (suc k))
-    owes-its early = owes-here t story k job x is who sound-here (one-at k) fits-here (files-at k (within-story t k x is))
-        (λ broken. early (subst CleanedEarly (sym (history-next t k x is)) broken))
-
     old-back : Old t k (standing t job c k) → Old t k (standing t job (story.turns k job x is who).call k)
     old-back = back t story i c of k x is who (λ c'. Old t k (standing t job c' k))
 
@@ -70,10 +65,6 @@ module _ (t : Story) (story : IsStory t) (i : ℕ) (c : Call) (of : slice_get t.
     old-own timely old = its t story i c of k x is who (λ c'. Old t (suc k) (standing t job c' (suc k)))
         (old-next t story k job x is who sound-here (one-at k) fits-here (old-back old) (unmade-at timely k x is) (in_time-at timely k x is)
         (timely.behind k job x c is who of clean))
-
-    early-its : Old t k (standing t job c k) → CleanedEarly (history t (suc k)) → ⊥
-    early-its old early = not-early t story k job x is who sound-here (one-at k) fits-here (old-back old)
-        (subst CleanedEarly (history-next t k x is) early)
 
     lawful-its : (AreTimely t → Old t k (standing t job c k)) → (b : Clause) → (MayBreak t c b → ⊥) → Breaks b (history t (suc k)) → ⊥
     lawful-its old b not = lawful-here t story k job x is who sound-here (one-at k) fits-here (files-at k (within-story t k x is))
@@ -108,7 +99,5 @@ module _ (t : Story) (story : IsStory t) (i : ℕ) (c : Call) (of : slice_get t.
     one_path = one-at;
     whole = λ k u bytes e its there. absurd (delivers-none c clean u bytes its);
     never_gone = λ apart spare gave. gone-its gave.k gave.last.step gave.last.at gave.last.own gave.answer;
-    owes = λ clocks k x is who may. owes-its k x is who
-        (λ early. may clean (λ timely. early-its k x is who (old-at timely k (within-story t k x is)) early) early);
     lawful = λ k x b is who not broken. lawful-its k x is who (λ timely. old-at timely k (within-story t k x is)) b not broken;
   }

@@ -31,13 +31,13 @@ use Rattle.md_law.specs.Clauses.{NotADirectory, CleanedEarly, Unlisted}
 use Rattle.md_law.specs.Law.{Breaks}
 use Rattle.md_law.specs.Owed.{MadeAgain, WrittenLate}
 use Rattle.md_beside.specs.Story.{Story, Step, Did, asked, ours, step_at, state, state_after, box, history, standing, standing_from, standing_after, IsTurn}
-use Rattle.md_beside.specs.Beside.{IsStory, IsClean, Says, Owes, reply_due}
+use Rattle.md_beside.specs.Beside.{IsStory, IsClean, Says, reply_due}
 use Rattle.md_beside.specs.Jobs.{AreUsedOnce, AreTimely, MayBreak}
 use Rattle.md_beside.proofs.Acting.{Had, OwnStep, had-own, stands-own, stands-beside, by-who}
 use Rattle.md_beside.proofs.CleanSays.{folder_of, AtStage, Taking, taking-own}
 use Rattle.md_beside.proofs.ErrandPaths.{leaves, quiet, lists-nothing, no-write, no-create}
 use Rattle.md_beside.proofs.Histories.{next_at, history-next}
-use Rattle.md_beside.proofs.KeepsPaths.{KeepsPaths, breaks-none, owes-by}
+use Rattle.md_beside.proofs.KeepsPaths.{KeepsPaths, breaks-none}
 use Rattle.md_beside.proofs.OneFile.{IsOneFile}
 use Rattle.md_beside.proofs.OwnTurns.{own-does, as_alone}
 use Rattle.md_beside.proofs.Readings.{reads-rightly}
@@ -260,15 +260,12 @@ module _ (t : Story) (story : IsStory t) (k job : ℕ) (x : Step) (is : step_at 
     pub keeps-here : KeepsPaths t k x (MakesMessage c) (MayByPaths t c)
     keeps-here = keeps-paths t story k x is c rearranges-here files
 
-    pub owes-here : (CleanedEarly (next_at t k x) → ⊥) → Owes (history t (suc k))
-    owes-here early =
-        owes-by t story k x is (MakesMessage c) (MayByPaths t c) keeps-here clean-does.one_path early in_time-here
-
     breaks-here : (b : Clause) → (MayByPaths t c b → ⊥) → Breaks b (history t (suc k)) → ⊥
     breaks-here = breaks-none t story k x is (MakesMessage c) (MayByPaths t c) keeps-here clean-does.one_path (record {
       rightly = rightly-by clean.stage makes;
       flushed = λ _. flushes-all t story k x is c rearranges-here;
       listed = λ _. listed-by clean.stage makes;
+      in_time = λ _. in_time-here;
     }) clean-does.none_overwritten
 
     pub lawful-here : (AreTimely t → Old t k (standing t job c k)) → (b : Clause) → (MayBreak t c b → ⊥) →

@@ -15,13 +15,15 @@ use Rattle.md_core.specs.Machine.{Standing, working, answered}
 use Rattle.md_core.specs.Mailbox.{Entry, HasOnePath, mailbox_of}
 use Rattle.md_log.specs.declared.clause.Clause.{Clause}
 use Rattle.md_law.specs.Law.{Breaks}
+use Rattle.md_law.specs.Owed.{WrittenLate}
 use Rattle.md_beside.specs.Story.{Story, Step, ours, step_at, state, state_after, box, history, standing}
-use Rattle.md_beside.specs.Beside.{IsStory, IsAnswered, IsWholeOf, AreApart, Says, Owes}
+use Rattle.md_beside.specs.Beside.{IsStory, IsAnswered, IsWholeOf, AreApart, Says}
 use Rattle.md_beside.specs.Jobs.{AreSparing, MayBreak, KeepsPromise}
 use Rattle.md_beside.proofs.Acting.{OwnStep, stands-beside, by-who, acts}
-use Rattle.md_beside.proofs.DeliverySteps.{FitsDelivery, There, tells-first, there-first, there-beside, own-step, tells-next, says-here, lawful-here, there-next, not-gone, owes-here}
+use Rattle.md_beside.proofs.DeliverySteps.{FitsDelivery, There, tells-first, there-first, there-beside, own-step, tells-next, says-here, lawful-here, there-next, not-gone, in_time-here}
 use Rattle.md_beside.proofs.DeliverySays.{TellsOf, tells-beside}
 use Rattle.md_beside.proofs.EachMoment.{each-moment}
+use Rattle.md_beside.proofs.Histories.{next_at}
 use Rattle.md_beside.proofs.Others.{IsOther}
 use Rattle.md_beside.proofs.OwnCall.{within-story, its, back}
 use Rattle.md_beside.proofs.StaysThere.{IsSpared}
@@ -57,9 +59,6 @@ module _ (t : Story) (story : IsStory t) (i : ℕ) (c : Call) (of : slice_get t.
 
     own-its : OwnStep t k job x c
     own-its = its t story i c of k x is who (OwnStep t k job x) (own-step t story k job x is who sound-here (one-at k) fits-here)
-
-    lawful-its : (b : Clause) → (MayBreak t c b → ⊥) → Breaks b (history t (suc k)) → ⊥
-    lawful-its b not = lawful-here t story k job x is who sound-here (one-at k) fits-here b (of-turn (λ c'. MayBreak t c' b → ⊥) not)
 
   -- what it says
 
@@ -118,11 +117,18 @@ module _ (t : Story) (story : IsStory t) (i : ℕ) (c : Call) (of : slice_get t.
       gone-its : IsSpared t → x.answer ≡ Some answer.TmpGone → ⊥
       gone-its = not-gone t story k job x is who (sound-here k x is who) (one-at k) (fits-here k x is who) (apart k x is) there-here
 
-      pub owes-its : Owes (history t (suc k))
-      owes-its = owes-here t story k job x is who (sound-here k x is who) (one-at k) (fits-here k x is who) (apart k x is) there-here
+      pub in_time-its : WrittenLate (next_at t k x) → ⊥
+      in_time-its = in_time-here t story k job x is who (sound-here k x is who) (one-at k) (fits-here k x is who) (apart k x is) there-here
 
     never-gone : IsSpared t → IsAnswered t job answer.TmpGone → ⊥
     never-gone spare gave = gone-its gave.k gave.last.step gave.last.at gave.last.own spare gave.answer
+
+  -- what it does not break
+
+  lawful-its : (k : ℕ) (x : Step) → step_at t k ≡ Some x → x.who ≡ ours job → (b : Clause) → (MayBreak t c b → ⊥) →
+      Breaks b (history t (suc k)) → ⊥
+  lawful-its k x is who b not = lawful-here t story k job x is who (sound-here k x is who) (one-at k) (fits-here k x is who)
+      (λ not' late. not' (of-turn k x is who IsDelivery delivery, λ apart. in_time-its apart k x is who late)) b (of-turn k x is who (λ c'. MayBreak t c' b → ⊥) not)
 
   pub keeps : (AreSparing t → IsSpared t) → KeepsPromise t job c
   keeps spared = record {
@@ -132,6 +138,5 @@ module _ (t : Story) (story : IsStory t) (i : ℕ) (c : Call) (of : slice_get t.
     one_path = one-at;
     whole = whole-at;
     never_gone = λ apart spare. never-gone apart (spared spare);
-    owes = λ clocks k x is who early. owes-its (clocks delivery) k x is who;
     lawful = λ k x b is who not broken. lawful-its k x is who b not broken;
   }

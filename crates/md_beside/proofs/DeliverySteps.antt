@@ -19,14 +19,17 @@ use Rattle.md_core.proofs.Induction.Good.{Does, TaskFits, DeliveryFits, Found, H
 use Rattle.md_core.proofs.Machines.Errand.Table.Calls.{each-new}
 use Rattle.md_core.proofs.Worlds.UniqueNames.{unique_name}
 use Rattle.md_log.specs.declared.clause.Clause.{Clause}
+use Rattle.md_log.specs.declared.clause.Clause.TheVariants as clause
 use Rattle.md_law.specs.Law.{Breaks}
+use Rattle.md_law.specs.Owed.{WrittenLate}
 use Rattle.md_beside.specs.Story.{Story, Step, asked, ours, step_at, state, state_after, history, standing, standing_from, standing_after, IsTurn}
-use Rattle.md_beside.specs.Beside.{IsStory, IsClean, Says, Owes}
+use Rattle.md_beside.specs.Beside.{IsStory, IsClean, Says}
 use Rattle.md_beside.specs.Jobs.{MayBreak}
 use Rattle.md_beside.proofs.Acting.{Had, OwnStep, had-own, stands-own}
 use Rattle.md_beside.proofs.DeliverySays.{TellsAt, TellsTask, TellsOf, tells-goes, tells-ends}
 use Rattle.md_beside.proofs.Fresh.{StageFresh, unused-none, never-first, unused-first, whole-first}
-use Rattle.md_beside.proofs.KeepsPaths.{KeepsPaths, widens, breaks-none, owes-by}
+use Rattle.md_beside.proofs.Histories.{next_at}
+use Rattle.md_beside.proofs.KeepsPaths.{KeepsPaths, widens, breaks-none}
 use Rattle.md_beside.proofs.Others.{IsOther}
 use Rattle.md_beside.proofs.OwnPath.{goes_on}
 use Rattle.md_beside.proofs.OwnSteps.{plain, keeps-paths, fresh-next}
@@ -224,11 +227,13 @@ module _ (t : Story) (story : IsStory t) (k job : ℕ) (x : Step) (is : step_at 
   not-clean : IsClean c → ⊥
   not-clean clean = subst IsClean fit.2.of clean
 
-  pub lawful-here : (b : Clause) → (MayBreak t c b → ⊥) → Breaks b (history t (suc k)) → ⊥
-  lawful-here b not = breaks-none t story k x is (MakesMessage c) (MayByPaths t c) keeps-here delivery-does.one_path (record {
+  pub lawful-here : ((MayBreak t c clause.WrittenLate → ⊥) → WrittenLate (next_at t k x) → ⊥) → (b : Clause) → (MayBreak t c b → ⊥) →
+      Breaks b (history t (suc k)) → ⊥
+  lawful-here in_time b not = breaks-none t story k x is (MakesMessage c) (MayByPaths t c) keeps-here delivery-does.one_path (record {
     rightly = is-directory t story k x is (delivery_turn job d x.at).asked made reads-none;
     flushed = λ not. absurd (not (subst IsDelivery (sym fit.2.of) tt));
     listed = λ _. lists-nothing t story k x is (delivery_turn job d x.at).asked made reads-none;
+    in_time = in_time;
   }) delivery-does.none_overwritten b (no-more t c not-clean b not)
 
   -- ---- its file is there
@@ -251,8 +256,6 @@ module _ (t : Story) (story : IsStory t) (k job : ℕ) (x : Step) (is : step_at 
     not-gone spare gave = never-gone t story k x is job who sound d fit.2.in_tmp fit.2.name fit.2.in_folder rows apart spare d.stage
         stage-there x.reply refl made (answer-is ∙ turned.answers ∙ gave)
 
-    -- so it does what it is owed
-    pub owes-here : Owes (history t (suc k))
-    owes-here = owes-by t story k x is (MakesMessage c) (MayByPaths t c) keeps-here delivery-does.one_path
-        (keeps-here.not_early not-clean)
-        (never-late t story k x is job who sound d fit.2.in_tmp fit.2.name fit.2.in_folder rows apart d.stage stage-there made)
+    -- so it is written in time
+    pub in_time-here : WrittenLate (next_at t k x) → ⊥
+    in_time-here = never-late t story k x is job who sound d fit.2.in_tmp fit.2.name fit.2.in_folder rows apart d.stage stage-there made

@@ -14,13 +14,13 @@ use Rattle.md_log.specs.declared.clause.Clause.{Clause}
 use Rattle.md_law.specs.Law.{Breaks}
 use Rattle.md_law.specs.Clauses.{MovedBack}
 use Rattle.md_beside.specs.Story.{Story, Step, ours, step_at, state, history, standing, standing_from}
-use Rattle.md_beside.specs.Beside.{IsStory, Owes, Says}
+use Rattle.md_beside.specs.Beside.{IsStory, Says}
 use Rattle.md_beside.specs.Jobs.{LooksInBoth, AreForward, AreUsedOnce, MayBreak, KeepsPromise}
 use Rattle.md_beside.proofs.Acting.{OwnStep, stands-beside, by-who, acts}
 use Rattle.md_beside.proofs.EachMoment.{each-moment}
 use Rattle.md_beside.proofs.ErrandClauses.{looks, reads-neither}
 use Rattle.md_beside.proofs.ErrandLooks.{HasPassed, passes-beside}
-use Rattle.md_beside.proofs.ErrandSteps.{IsErrand, FitsErrand, own-step, never-gone, says-here, owes-here, reads-next, lawful-here, passed-next, trying, tries-next, over-here}
+use Rattle.md_beside.proofs.ErrandSteps.{IsErrand, FitsErrand, own-step, never-gone, says-here, reads-next, lawful-here, passed-next, trying, tries-next, over-here}
 use Rattle.md_beside.proofs.ErrandTries.{TriedAt, tried-first, tried-beside, tried-on, over, is-lost}
 use Rattle.md_beside.proofs.Histories.{next_at}
 use Rattle.md_beside.proofs.OneFile.{IsOneFile}
@@ -62,9 +62,6 @@ module _ (t : Story) (story : IsStory t) (i : ℕ) (c : Call) (of : slice_get t.
 
     gone-its : x.answer ≡ Some answer.TmpGone → ⊥
     gone-its = never-gone t story k job x is who (sound-at k low) (one-at k) fits-here
-
-    owes-its : Owes (history t (suc k))
-    owes-its = owes-here t story k job x is who (sound-at k low) (one-at k) fits-here (files-at k low)
 
     alone-call : ReadsAlone t k job (looks c) → ReadsAlone t k job (looks (story.turns k job x is who).call)
     alone-call = of-turn (λ c'. ReadsAlone t k job (looks c'))
@@ -157,6 +154,5 @@ module _ (t : Story) (story : IsStory t) (i : ℕ) (c : Call) (of : slice_get t.
     one_path = one-at;
     whole = λ k u bytes e its there. absurd (delivers-none c errand u bytes its);
     never_gone = λ apart spare gave. gone-its gave.k gave.last.step gave.last.at gave.last.own gave.answer;
-    owes = λ clocks k x is who early. owes-its k x is who;
     lawful = λ k x b is who not broken. lawful-its k x is who (λ alone. reads-at alone k (low k x is who)) b not broken;
   }

@@ -37,7 +37,7 @@ use Rattle.md_log.specs.declared.clause.Clause.{Clause}
 use Rattle.md_law.specs.Law.{Breaks}
 use Rattle.md_law.specs.Owed.{WrittenLate}
 use Rattle.md_beside.specs.Story.{Story, Step, Did, after_did, asked, ours, step_at, state, state_after, box, history, standing, standing_from, standing_after, IsTurn}
-use Rattle.md_beside.specs.Beside.{IsStory, IsClean, IsStepOf, IsInSpan, IsOfSpan, Says, Owes, BringsAbout, reply_due}
+use Rattle.md_beside.specs.Beside.{IsStory, IsClean, IsStepOf, IsInSpan, IsOfSpan, Says, BringsAbout, reply_due}
 use Rattle.md_beside.specs.Jobs.{LooksInBoth, AreUsedOnce, MayBreak}
 use Rattle.md_beside.proofs.Acting.{Had, OwnStep, had-own, stands-own, stands-beside, by-who}
 use Rattle.md_beside.proofs.ErrandClauses.{looks, single, turn-alone, turn-rightly}
@@ -46,7 +46,7 @@ use Rattle.md_beside.proofs.ErrandPaths.{rearranges, still}
 use Rattle.md_beside.proofs.ErrandTurns.{IsLike, alone-like, settles-like, now, after_now, now-does, now-like}
 use Rattle.md_beside.proofs.Fresh.{NeverUsed, unused-first, unused-next}
 use Rattle.md_beside.proofs.Histories.{next_at, state-more}
-use Rattle.md_beside.proofs.KeepsPaths.{KeepsPaths, breaks-none, owes-by}
+use Rattle.md_beside.proofs.KeepsPaths.{KeepsPaths, breaks-none}
 use Rattle.md_beside.proofs.OneFile.{IsOneFile}
 use Rattle.md_beside.proofs.OnlyPath.{unused-beside}
 use Rattle.md_beside.proofs.OwnCall.{its, back}
@@ -280,16 +280,13 @@ module _ (t : Story) (story : IsStory t) (k job : ℕ) (x : Step) (is : step_at 
     pub keeps-here : KeepsPaths t k x (MakesMessage c) (MayByPaths t c)
     keeps-here = keeps-paths t story k x is c rearranges-here files
 
-    pub owes-here : Owes (history t (suc k))
-    owes-here = owes-by t story k x is (MakesMessage c) (MayByPaths t c) keeps-here step-does.one_path
-        (keeps-here.not_early not-clean) in_time-here
-
     pub lawful-here : ((LooksInBoth c → ⊥) → ReadsAlone t k job (looks c)) → (b : Clause) → (MayBreak t c b → ⊥) →
         Breaks b (history t (suc k)) → ⊥
     lawful-here alone b not = breaks-none t story k x is (MakesMessage c) (MayByPaths t c) keeps-here step-does.one_path (record {
       rightly = turn-rightly (state t k) job c errand.folder errand.unique t story k x is refl errand.purpose errand.stage fit.2 makes;
       flushed = λ _. flushes-all t story k x is c rearranges-here;
       listed = λ not. lists-none t story k job x is (looks c) (alone not) who (errand_turn job errand).asked makes (lists-alone not);
+      in_time = λ _. in_time-here;
     }) step-does.none_overwritten b (no-more t c not-clean b not)
 
   -- ---- what it says

@@ -17,7 +17,7 @@ use Rattle.md_beside.specs.Jobs.{AreLawful, AreSparing, AreTimely, AreForward, A
 use Rattle.md_beside.proofs.Acting.{stands-beside, by-who}
 use Rattle.md_beside.proofs.CleanKeeps.{keeps as clean-promise}
 use Rattle.md_beside.proofs.CleanSteps.{FitsClean, clean-first, clean-step, clean-does, keeps-here as clean-keeps, in_time-here as clean-in_time}
-use Rattle.md_beside.proofs.DeliveryKeeps.{owes-its as delivery-owes, keeps as delivery-promise}
+use Rattle.md_beside.proofs.DeliveryKeeps.{in_time-its as delivery-in_time, keeps as delivery-promise}
 use Rattle.md_beside.proofs.DeliverySteps.{FitsDelivery, delivery-first, delivery-beside, delivery-next, delivery-does, keeps-here as delivery-keeps}
 use Rattle.md_beside.proofs.EachMoment.{each-moment, by-taker}
 use Rattle.md_beside.proofs.ErrandKeeps.{keeps as errand-promise}
@@ -225,9 +225,9 @@ module _ (t : Story) (story : IsStory t) (names : AreOurs t) (lawful : AreLawful
           let of = of-call k x is h i who in
           let works = works-now k x is h i who in
           elim (kind-of c) [
-            | inl delivery ↦ (delivery-owes t story i c of delivery (λ k low. (holds-at k low).sound) one_path-at
+            | inl delivery ↦ delivery-in_time t story i c of delivery (λ k low. (holds-at k low).sound) one_path-at
                 (λ k low. (holds-at k low).deliveries i c of works delivery) (others-at i c of works delivery) timely.near k x is
-                who).in_time (subst WrittenLate (sym (history-next t k x is)) late)
+                who late
             | inr (inl errand) ↦ errand-in_time t story k (suc i) x is who h.sound h.one (h.errands i c of works errand) late
             | inr (inr clean) ↦ clean-in_time t story k (suc i) x is who h.sound h.one (h.cleans i c of clean) late
           ]

@@ -27,14 +27,14 @@ use Rattle.md_law.specs.Messages.{IsSeen, IsThere, IsMessageAt}
 use Rattle.md_law.specs.Owed as owed
 use Rattle.md_law.specs.Owed.{InTwoFolders}
 use Rattle.md_beside.specs.Story.{Story, Step, Did, asked, ours, step_at, state, history, actor_seen, call_seen, reply_seen, step_seen}
-use Rattle.md_beside.specs.Beside.{IsStory, BringsAbout, Owes}
+use Rattle.md_beside.specs.Beside.{IsStory, BringsAbout}
 use Rattle.md_beside.proofs.Fresh.{NeverThere, NeverUsed, IsWhole}
 use Rattle.md_beside.proofs.Histories.{next_at, history-next, path-history, path-next}
 use Rattle.md_beside.proofs.OneMaker.{maker-still}
 use Rattle.md_beside.proofs.Replies.{call-made, gives-up-nothing, answers-nothing}
 
--- What a step of ours keeps that may bring its own names about and no other, by what it does to paths: clauses of the law, but those that
--- it may break, what is owed, and the names of others.
+-- What a step of ours keeps that may bring its own names about and no other, by what it does to paths: clauses, but those that it may
+-- break, and the names of others.
 pub record KeepsPaths (t : Story) (k : ℕ) (x : Step) (own : List ℕ → Type 0) (may : Clause → Type 0) : Type 0 where
   pub whole : SeenBeforeWhole (next_at t k x) → ⊥
   pub unmixed : Mixed (next_at t k x) → ⊥
@@ -53,6 +53,7 @@ pub record KeepsRest (t : Story) (k : ℕ) (x : Step) (may : Clause → Type 0) 
   pub rightly : NotADirectory (next_at t k x) → ⊥
   pub flushed : (may clause.NotFlushed → ⊥) → NotFlushed (next_at t k x) → ⊥
   pub listed : (may clause.Unlisted → ⊥) → Unlisted (next_at t k x) → ⊥
+  pub in_time : (may clause.WrittenLate → ⊥) → owed.WrittenLate (next_at t k x) → ⊥
 
 -- one that breaks none of these, and brings one name about
 abbrev pub KeepsAll : Story → ℕ → Step → List ℕ → Type 0
@@ -344,20 +345,6 @@ module _ (t : Story) (story : IsStory t) (k : ℕ) (x : Step) (is : step_at t k 
   -- ---- all clauses
 
   module _ (own : List ℕ → Type 0) (may : Clause → Type 0) (keeps : KeepsPaths t k x own may) (one : HasOnePath (state t (suc k))) where
-    pub owes-by : (CleanedEarly h → ⊥) → (owed.WrittenLate h → ⊥) → Owes (history t (suc k))
-    owes-by early in_time = subst Owes (sym (history-next t k x is)) (record {
-      one_name = no_two_names one;
-      unmixed = keeps.unmixed;
-      unnamed = keeps.unnamed;
-      uncleaned = early;
-      unwritten = keeps.unwritten;
-      not_back = keeps.not_back;
-      one_folder = not_in_two_folders one;
-      unused = keeps.one_file;
-      unmade = keeps.unmade;
-      in_time = in_time;
-    })
-
     module _ (rest : KeepsRest t k x may) (none : NoneOverwritten (state t k) (state t (suc k))) where
       keeps-clause : (b : Clause) → (may b → ⊥) → Breaks b h → ⊥
       keeps-clause clause.NotADirectory not broken = rest.rightly broken
@@ -373,6 +360,12 @@ module _ (t : Story) (story : IsStory t) (k : ℕ) (x : Step) (is : step_at t k 
       keeps-clause clause.Unlisted not broken = rest.listed not broken
       keeps-clause clause.GaveUp not broken = gives-up-nothing t k x broken
       keeps-clause clause.AnsweredFalsely not broken = answers-nothing t k x broken
+      keeps-clause clause.InTwoFolders not broken = not_in_two_folders one broken
+      keeps-clause clause.NamedByAnother not broken = keeps.unnamed broken
+      keeps-clause clause.Rewritten not broken = keeps.unwritten broken
+      keeps-clause clause.UsedTwice not broken = keeps.one_file broken
+      keeps-clause clause.MadeAgain not broken = keeps.unmade broken
+      keeps-clause clause.WrittenLate not broken = rest.in_time not broken
 
       pub breaks-none : (b : Clause) → (may b → ⊥) → Breaks b (history t (suc k)) → ⊥
       breaks-none b not broken = keeps-clause b not (subst (Breaks b) (history-next t k x is) broken)

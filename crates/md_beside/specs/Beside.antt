@@ -22,9 +22,6 @@ use Rattle.md_core.specs.Answering.{is_ok, is_unused}
 use Rattle.md_core.specs.Accepting.{IsAccepted, MakesMessage, name_used}
 use Rattle.md_core.specs.Interleaving.{is_success, IsDeliveryOf}
 use Rattle.md_core.specs.Trace.{call_at}
-use Rattle.md_law.specs.Clauses as law
-use Rattle.md_law.specs.History.{History}
-use Rattle.md_law.specs.Owed as owed
 use Rattle.md_beside.specs.Story.{Story, Step, ours, another, Did, asked, wrote, flushed, step_at, state, box, is_by, IsTurn}
 
 -- ---- the premises
@@ -70,25 +67,6 @@ IsAtWork t job = (k : ℕ) × IsStepOf t job k
 abbrev pub AreOurs : Story → Type 0
 AreOurs t = (k job : ℕ) (x : Step) (actor : List ℕ) (c : Call) (u : List ℕ) → step_at t k ≡ Some x → x.who ≡ another actor
     → call_at t.calls job ≡ Some c → IsAtWork t job → MakesMessage c u → BringsAbout t k u → ⊥
-
--- what is owed to all jobs, and besides to those that deliver, copy, search both places, move or clean
-pub record Owes (h : History) : Type 0 where
-  -- to every job
-  pub one_name : law.TwoNames h → ⊥
-  pub one_folder : owed.InTwoFolders h → ⊥
-  -- to deliveries
-  pub unmixed : law.Mixed h → ⊥
-  pub unnamed : owed.NamedByAnother h → ⊥
-  pub uncleaned : law.CleanedEarly h → ⊥
-  -- to copies, whose messages share a file
-  pub unwritten : owed.Rewritten h → ⊥
-  -- to moves and copies, which look in new and then in cur
-  pub not_back : law.MovedBack h → ⊥
-  -- to moves, which use no name again then
-  pub unused : owed.UsedTwice h → ⊥
-  -- to cleans
-  pub unmade : owed.MadeAgain h → ⊥
-  pub in_time : owed.WrittenLate h → ⊥
 
 -- at every step the clock of the job and that of the log are no more than so many seconds apart
 abbrev pub AreApart : Story → ℕ → Type 0

@@ -16,7 +16,7 @@ use Rattle.md_law.specs.History.{History}
 use Rattle.md_law.specs.Law.{Breaks}
 use Rattle.md_law.specs.Owed as owed
 use Rattle.md_beside.specs.Story.{Story, Step, ours, another, step_at, state, box, history}
-use Rattle.md_beside.specs.Beside.{IsStory, IsAtWork, AreOurs, Owes, AreApart, IsAnswered, Acts, IsClean, Says, IsWholeOf}
+use Rattle.md_beside.specs.Beside.{IsStory, IsAtWork, AreOurs, AreApart, IsAnswered, Acts, IsClean, Says, IsWholeOf}
 
 -- ---- kinds of calls
 
@@ -78,15 +78,16 @@ AreUsedOnce = Others (λ h. owed.UsedTwice h → ⊥)
 
 -- ---- the law
 
--- Which clauses a step of a job may break. A delivery doesn't flush what it delivers. A Move and a Copy look in new before cur, and so may
--- miss a message that goes from cur to new. A Move may bring a message to a folder that had another of its name, where the others use names
--- again. A clean may take a young file away that has the name of an old one, or was written to since it was listed, where others make names
--- again or write late, or clocks are apart.
+-- Which clauses a step of a job may break. A delivery doesn't flush what it delivers, and may write late if clocks are apart. A Move and
+-- a Copy look in new before cur, and so may miss a message that goes from cur to new. A Move may bring a message to a folder that had
+-- another of its name, where the others use names again. A clean may take a young file away that has the name of an old one, or was
+-- written to since it was listed, where others make names again or write late, or clocks are apart.
 abbrev pub MayBreak : Story → Call → Clause → Type 0
 MayBreak t c clause.NotFlushed = IsDelivery c
 MayBreak t c clause.Unlisted = LooksInBoth c
 MayBreak t c clause.UsedAgain = IsMove c × (AreUsedOnce t → ⊥)
 MayBreak t c clause.CleanedEarly = IsClean c × (AreTimely t → ⊥)
+MayBreak t c clause.WrittenLate = IsDelivery c × (AreApart t 14400 → ⊥)
 MayBreak t c b = ⊥
 
 -- What a job promises: each step of its own is its call's effect, alone on the mailbox as the others left it, or leaves the mailbox as it
@@ -94,8 +95,8 @@ MayBreak t c b = ⊥
 -- so at a moment of its span, or that others took its message away as often as it has tries, or its file in tmp, or that 24 hours went by,
 -- or that a directory call of its own faulted, or how many old files a clean took. No message ever has two paths, and one that was
 -- delivered has the bytes of the body for as long as readers see it. No delivery is answered that its file in tmp was gone, if nobody takes
--- young files and no clock of ours is more than 4 hours from that of the directories. With such clocks a delivery does all that jobs of any
--- kind are owed; an errand does it always, and a clean where the others leave it time, and else but that it may take a young file.
+-- young files and no clock of ours is more than 4 hours from that of the directories. No step of its own breaks a clause, of the law or of
+-- what is owed, but those that its call may break.
 pub record KeepsPromise (t : Story) (job : ℕ) (c : Call) : Type 0 where
   pub as_alone : (k : ℕ) (x : Step) → step_at t k ≡ Some x → x.who ≡ ours job → AsAlone c x.effect (box t k) (box t (suc k))
   pub acts : (a : Answer) → IsAnswered t job a → Acts t job c a
@@ -103,8 +104,6 @@ pub record KeepsPromise (t : Story) (job : ℕ) (c : Call) : Type 0 where
   pub one_path : (k : ℕ) → HasOnePath (state t k)
   pub whole : (k : ℕ) → IsWholeOf t k c
   pub never_gone : AreApart t 14400 → AreSparing t → IsAnswered t job answer.TmpGone → ⊥
-  pub owes : (IsDelivery c → AreApart t 14400) → (k : ℕ) (x : Step) → step_at t k ≡ Some x → x.who ≡ ours job
-      → (IsClean c → (AreTimely t → ⊥) → law.CleanedEarly (history t (suc k)) → ⊥) → Owes (history t (suc k))
   pub lawful : (k : ℕ) (x : Step) (b : Clause) → step_at t k ≡ Some x → x.who ≡ ours job → (MayBreak t c b → ⊥)
       → Breaks b (history t (suc k)) → ⊥
 

@@ -8,7 +8,7 @@ use Rattle.md_log.specs.Texts.{clause_index}
 use Rattle.md_judge.specs.declared.log.Finding.{Finding}
 use Rattle.md_judge.specs.Logs.{Log, log_of}
 use Rattle.md_judge.specs.Orders.{AreFoundInOrder}
-use Rattle.md_judge.specs.Taken.{IsWithoutTicks}
+use Rattle.md_judge.specs.Taken.{IsWithoutTicks, by_law}
 use Rattle.md_judge.specs.Verdict.{AreInOrder, HasNoTicks, IsAmong, IsFinding}
 use Rattle.md_ffi.specs.Laying.{Lays}
 use Rattle.md_ffi.specs.Numbers.{fault_number}
@@ -22,12 +22,12 @@ finding_bytes f = eight_bytes f.line ++ four_bytes (clause_index f.clause + 1) +
 abbrev pub findings_bytes : List Finding → List ℕ
 findings_bytes found = flat_map finding_bytes found
 
--- The text is a log, and these are its findings, in the order of its lines, and at one line in the order of the law.
+-- The text is a log, and these are its findings by the law, in the order of its lines, and at one line in the order of the law.
 pub record AreFindings (text : List ℕ) (found : List Finding) : Type 0 where
   pub is_log : IsOk (log_of text)
   pub ordered : AreInOrder found
-  pub exact : (l : Log) → log_of text ≡ Ok l → HasNoTicks l → (number : ℕ) (c : Clause) → IsAmong found number c ↔ IsFinding l number c
-  pub placed : (l : Log) → log_of text ≡ Ok l → AreFoundInOrder l found
+  pub exact : (l : Log) → log_of text ≡ Ok l → HasNoTicks l → (number : ℕ) (c : Clause) → IsAmong found number c ↔ IsFinding (by_law l) number c
+  pub placed : (l : Log) → log_of text ≡ Ok l → AreFoundInOrder (by_law l) found
 
 -- The text is no log by this first wrong line; or calls overlap in it, and no order of them is found.
 pub record IsWrong (text : List ℕ) (e : LogFault) : Type 0 where

@@ -41,7 +41,7 @@ adds-none c o n fs P none m = (
 -- the clauses have their numbers
 pub clauses-numbered : HaveNumbersFrom 0 clauses
 clauses-numbered =
-    (refl, (refl, (refl, (refl, (refl, (refl, (refl, (refl, (refl, (refl, (refl, (refl, (refl, tt)))))))))))))
+    (refl, (refl, (refl, (refl, (refl, (refl, (refl, (refl, (refl, (refl, (refl, (refl, (refl, (refl, (refl, (refl, (refl, (refl, (refl, tt)))))))))))))))))))
 
 -- each clause has its place
 pub listed : (c : Clause) → slice_get clauses (clause_index c) ≡ Some c
@@ -58,6 +58,12 @@ listed clause.CleanedEarly = refl
 listed clause.Unlisted = refl
 listed clause.GaveUp = refl
 listed clause.AnsweredFalsely = refl
+listed clause.InTwoFolders = refl
+listed clause.NamedByAnother = refl
+listed clause.Rewritten = refl
+listed clause.UsedTwice = refl
+listed clause.MadeAgain = refl
+listed clause.WrittenLate = refl
 
 -- a clause is among the first of these
 abbrev pub Passed : Clause → List Clause → ℕ → Type 0

@@ -21,10 +21,10 @@ use Rattle.md_judge.specs.Logs.{Log, Numbered, empty_log, has_begun, with_line, 
 use Rattle.md_judge.specs.Verdict.{AreInOrder, IsAmong, IsFinding, HasNoTicks}
 use Rattle.md_judge.specs.Orders.{AreFoundInOrder}
 use Rattle.md_judge.specs.Placed.{IsUnplaced, HasPlaced}
-use Rattle.md_judge.specs.Taken.{IsWithoutTicks, Answers, AnswersAny, HasTaken, HasEnded, with_given}
+use Rattle.md_judge.specs.Taken.{IsWithoutTicks, Answers, AnswersAny, HasTaken, HasEnded, with_given, beside_law, by_law}
 use Rattle.md_judge.proofs.Lines.{HasSame}
 use Rattle.md_judge.proofs.Plain.{found-plain}
-use Rattle.md_judge.proofs.Whole.{on-log, given-text, none-given, lines-cut, lines-end}
+use Rattle.md_judge.proofs.Whole.{on-log, given-text, lines-cut, lines-end}
 
 -- where there is a value, it is this
 pub ok-of : {A E : Type 0} (r : Result A E) → IsOk r → (x : A) × (r ≡ Ok x)
@@ -262,20 +262,20 @@ wrong-stays (head ∷ texts) text more e is =
 
 -- ---- the lines of a text
 
--- A session has taken in the lines of a text up to these, which are left.
+-- A session that judges by the law alone has taken in the lines of a text up to these, which are left.
 abbrev pub HasTakenTo : List ℕ → List (List ℕ) → Session → Type 0
-HasTakenTo text left s = (texts : List (List ℕ)) × (lines_of text ≡ texts ++ left) × HasTaken [] texts s
+HasTakenTo text left s = (texts : List (List ℕ)) × (lines_of text ≡ texts ++ left) × HasTaken beside_law texts s
 
 -- and one more
 pub takes-next : (text one : List ℕ) (left others : List (List ℕ)) (s t : Session) → left ≡ one ∷ others → HasTakenTo text left s
-    → ((texts : List (List ℕ)) → HasTaken [] texts s → HasTaken [] (texts ++ one ∷ []) t) → HasTakenTo text others t
+    → ((texts : List (List ℕ)) → HasTaken beside_law texts s → HasTaken beside_law (texts ++ one ∷ []) t) → HasTakenTo text others t
 takes-next text one left others s t cut taken takes =
     (taken.0 ++ one ∷ [], taken.1 ∙ ap (λ ls. taken.0 ++ ls) cut ∙ sym (append_assoc taken.0 (one ∷ []) others), takes taken.0 taken.2)
 
 -- a line that is wrong where those before it are taken in is the first wrong line of the text
 pub text-stays : (text one : List ℕ) (left others : List (List ℕ)) (s : Session) (e : LogFault) → left ≡ one ∷ others
     → HasTakenTo text left s
-    → ((texts : List (List ℕ)) → HasTaken [] texts s → IsWithoutTicks texts → e.fault ≢ NoMemory → log_by (texts ++ one ∷ []) ≡ Err e)
+    → ((texts : List (List ℕ)) → HasTaken beside_law texts s → IsWithoutTicks texts → e.fault ≢ NoMemory → log_by (texts ++ one ∷ []) ≡ Err e)
     → IsWithoutTicks (lines_of text) → e.fault ≢ NoMemory → log_of text ≡ Err e
 unfolding log_of
 text-stays text one left others s e cut taken answers none known =
@@ -285,7 +285,7 @@ text-stays text one left others s e cut taken answers none known =
 
 pub text-stays-any : (text one : List ℕ) (left others : List (List ℕ)) (s : Session) (e : LogFault) → left ≡ one ∷ others
     → HasTakenTo text left s
-    → ((texts : List (List ℕ)) → HasTaken [] texts s → AnswersAny {A = Unit {0}} (Err e) (log_by (texts ++ one ∷ [])))
+    → ((texts : List (List ℕ)) → HasTaken beside_law texts s → AnswersAny {A = Unit {0}} (Err e) (log_by (texts ++ one ∷ [])))
     → AnswersAny {A = Unit {0}} (Err e) (log_of text)
 unfolding log_of
 text-stays-any text one left others s e cut taken answers = λ known found few.
@@ -293,9 +293,9 @@ text-stays-any text one left others s e cut taken answers = λ known found few.
     ap log_by all ∙ wrong-stays taken.0 one others e (answers taken.0 taken.2 known found few)
 
 -- all are taken in
-pub taken-all : (text : List ℕ) (left : List (List ℕ)) (s : Session) → left ≡ [] → HasTakenTo text left s → HasTaken [] (lines_of text) s
+pub taken-all : (text : List ℕ) (left : List (List ℕ)) (s : Session) → left ≡ [] → HasTakenTo text left s → HasTaken beside_law (lines_of text) s
 taken-all text left s end taken =
-    subst (λ (ls : List (List ℕ)). HasTaken [] ls s) (sym (taken.1 ∙ ap (λ ls. taken.0 ++ ls) end ∙ append-nil taken.0)) taken.2
+    subst (λ (ls : List (List ℕ)). HasTaken beside_law ls s) (sym (taken.1 ∙ ap (λ ls. taken.0 ++ ls) end ∙ append-nil taken.0)) taken.2
 
 -- a text is what its lines are
 pub log-is : (text : List ℕ) → log_of text ≡ log_by (lines_of text)
@@ -303,20 +303,19 @@ unfolding log_of
 log-is text = refl
 
 -- what was found is in order
-pub ordered-all : (text : List ℕ) (t : Session) → HasEnded [] (lines_of text) t → IsOk (log_of text)
+pub ordered-all : (text : List ℕ) (t : Session) → HasEnded beside_law (lines_of text) t → IsOk (log_of text)
     → AreInOrder t.findings.items
 unfolding log_of
 ordered-all text t ended ok = let has = ok-of (log_by (lines_of text)) ok in ended.ordered has.0 has.1
 
 -- and it is what is found where steps take effect in an order in which they may
-pub placed-all : (text : List ℕ) (t : Session) → HasEnded [] (lines_of text) t → (l : Log) → log_of text ≡ Ok l
-    → AreFoundInOrder l t.findings.items
+pub placed-all : (text : List ℕ) (t : Session) → HasEnded beside_law (lines_of text) t → (l : Log) → log_of text ≡ Ok l
+    → AreFoundInOrder (by_law l) t.findings.items
 unfolding log_of
-placed-all text t ended l is = subst (λ (m : Log). AreFoundInOrder m t.findings.items) (none-given l) (ended.found l is)
+placed-all text t ended l is = ended.found l is
 
 -- and what was found are the findings
-pub found-all : (text : List ℕ) (t : Session) → ((l : Log) → log_of text ≡ Ok l → HasNoTicks l → HasTaken [] (lines_of text) t)
-    → (l : Log) → log_of text ≡ Ok l → HasNoTicks l → (n : ℕ) (c : Clause) → IsAmong t.findings.items n c ↔ IsFinding l n c
+pub found-all : (text : List ℕ) (t : Session) → ((l : Log) → log_of text ≡ Ok l → HasNoTicks l → HasTaken beside_law (lines_of text) t)
+    → (l : Log) → log_of text ≡ Ok l → HasNoTicks l → (n : ℕ) (c : Clause) → IsAmong t.findings.items n c ↔ IsFinding (by_law l) n c
 unfolding log_of
-found-all text t taken l is none n c =
-    subst (λ (m : Log). IsAmong t.findings.items n c ↔ IsFinding m n c) (none-given l) (found-plain _ (with_given [] l) t ((taken l is none).placed l is) none n c)
+found-all text t taken l is none n c = found-plain _ (by_law l) t ((taken l is none).placed l is) none n c

@@ -1,6 +1,6 @@
 -- What is read of a whole log, line by line.
 use Rattle.std.proofs.Common.{ℕ, suc, ◌≡◌, ◌<◌, ◌≤◌, ◌+◌, length, List, [], ◌∷◌, ◌++◌, Some, Result, Ok, Err, IsOk, slice_get, refl, sym, ap, subst, ◌∙◌, true, false, not, is_some, Bool, arith}
-use Rattle.std.proofs.lemmas.List.{append-nil, length_push}
+use Rattle.std.proofs.lemmas.List.{length_push}
 use Rattle.std.specs.Prelude.{if◌then◌else◌, codes}
 use Rattle.std.specs.Str.{bytes_eq}
 use Rattle.md_dirs.specs.State.{file_at}
@@ -108,10 +108,6 @@ given-text given l number text = by (is_passed_over text) (line_of l.folders (ha
     by true r = refl
     by false (Ok v) = given-line given l number v
     by false (Err fault) = refl
-
--- none is given
-pub none-given : (l : Log) → with_given [] l ≡ l
-none-given l = ap (λ (cs : List Clause). record l { allowed = cs }) (append-nil l.allowed)
 
 -- ---- lines that are taken in one by one
 

@@ -1,6 +1,7 @@
 -- What is answered of the lines of a log, and what a session holds that has taken them in.
-use Rattle.std.specs.Prelude.{ℕ, suc, ◌≡◌, ◌≢◌, List, [], ◌++◌, take, length, Result, Ok, Err, IsOk}
+use Rattle.std.specs.Prelude.{ℕ, suc, ◌≡◌, ◌≢◌, List, [], ◌∷◌, ◌++◌, take, length, Result, Ok, Err, IsOk}
 use Rattle.md_log.specs.declared.clause.Clause.{Clause}
+use Rattle.md_log.specs.declared.clause.Clause.TheVariants.{InTwoFolders, NamedByAnother, Rewritten, UsedTwice, MadeAgain, WrittenLate}
 use Rattle.md_log.specs.declared.error.LineFault.{LineFault}
 use Rattle.md_log.specs.declared.error.LineFault.TheVariants.{NoMemory, NoOrder, TooManyOrders}
 use Rattle.md_log.specs.declared.error.LogFault.{LogFault}
@@ -33,6 +34,14 @@ AnswersAny (Err e) log = e.fault ≢ NoMemory → e.fault ≢ NoOrder → e.faul
 -- a log of which these clauses are not judged either
 abbrev pub with_given : List Clause → Log → Log
 with_given given l = record l { allowed = l.allowed ++ given }
+
+-- the clauses that are owed beside the law
+unfoldable pub beside_law : List Clause
+beside_law = InTwoFolders ∷ NamedByAnother ∷ Rewritten ∷ UsedTwice ∷ MadeAgain ∷ WrittenLate ∷ []
+
+-- a log that is judged by the law alone
+abbrev pub by_law : Log → Log
+by_law l = with_given beside_law l
 
 -- A session was told not to judge these clauses, and has taken in these lines, of which the first is the head. They are a log, and it has
 -- read that log, of which those clauses are not judged either.

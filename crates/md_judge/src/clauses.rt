@@ -8,14 +8,14 @@ use md_log::Clause;
 /// A set of clauses.
 #[derive(Clone, Copy)]
 pub(crate) struct Clauses {
-    has: [bool; 13],
+    has: [bool; 19],
 }
 
 impl Clauses {
     pub(crate) fn none() -> Self
         ensures { (c : Clause) → Has result c → ⊥ }
     {
-        Clauses { has: [false; 13] }
+        Clauses { has: [false; 19] }
     }
 
     pub(crate) fn add(&mut self, clause: Clause)

@@ -61,6 +61,9 @@ pub(crate) fn grade_of(clause: Clause, step: &Step, broken: &Broken) -> Grade
         Clause::NotFlushed => Grade::Owed,
         // Who goes by unique names, by tmp or by new relies on it.
         Clause::Mixed | Clause::TwoNames | Clause::UsedAgain | Clause::MovedBack => Grade::Owed,
+        Clause::InTwoFolders | Clause::UsedTwice | Clause::MadeAgain => Grade::Owed,
+        // Who delivers or cleans relies on it.
+        Clause::NamedByAnother | Clause::Rewritten | Clause::WrittenLate => Grade::Owed,
         // What was said may be so by the other program's doing. If not, AnsweredFalsely is found too.
         Clause::GaveUp => Grade::Custom,
     }

@@ -15,7 +15,7 @@ ghost use Rattle.md_judge.specs.Logs.{Log, Numbered, log_by, at_line, with_line,
 ghost use Rattle.md_judge.specs.Verdict.{AreEarlier, AreInOrder, HasNoTicks, IsAmong, IsFinding};
 ghost use Rattle.md_judge.specs.Orders.{AreFoundInOrder};
 ghost use Rattle.md_judge.specs.Placed.{IsUnplaced, HasLines, HasWaiting, HasPlaced, HasSettled, HasJudged, AreInOrderAtLines, AreBelowAtLine, IsNextStep, TakesAt, AddsFinding, KeepsHead, KeepsBeginning, Judges, IsHead, with_next, with_step};
-ghost use Rattle.md_judge.specs.Taken.{IsWithoutTicks, Agrees, Answers, AnswersAny, HasTaken, HasEnded, with_given};
+ghost use Rattle.md_judge.specs.Taken.{IsWithoutTicks, Agrees, Answers, AnswersAny, HasTaken, HasEnded, with_given, beside_law};
 
 use crate::clauses::Clauses;
 use crate::costs::Costs;
@@ -54,7 +54,21 @@ pub struct Session {
 }
 
 impl Session {
-    /// A log of which no line was read.
+    /// A log of which no line was read. It is judged by the law alone.
+    pub fn of_law(alloc: Global) -> Self
+        ensures taken { HasTaken beside_law [] result }
+    {
+        let mut session = Session::new(alloc);
+        session.allow(Clause::WrittenLate);
+        session.allow(Clause::MadeAgain);
+        session.allow(Clause::UsedTwice);
+        session.allow(Clause::Rewritten);
+        session.allow(Clause::NamedByAnother);
+        session.allow(Clause::InTwoFolders);
+        session
+    }
+
+    /// A log of which no line was read. It is judged by the law, and by what is owed beside it.
     pub fn new(alloc: Global) -> Self
         ensures taken { HasTaken [] [] result }
     {

@@ -1,5 +1,5 @@
 -- What is said of wrong lines, and the names of clauses.
-use Rattle.std.specs.Prelude.{ℕ, List, [], ◌∷◌, Option, codes}
+use Rattle.std.specs.Prelude.{ℕ, List, [], ◌∷◌, ◌++◌, Option, codes}
 use Rattle.std.specs.List.{find}
 use Rattle.std.specs.Str.{bytes_eq}
 use Rattle.md_log.specs.declared.error.LineFault.{LineFault}
@@ -43,12 +43,23 @@ clause_text clause.CleanedEarly = codes "CleanedEarly"
 clause_text clause.Unlisted = codes "Unlisted"
 clause_text clause.GaveUp = codes "GaveUp"
 clause_text clause.AnsweredFalsely = codes "AnsweredFalsely"
+clause_text clause.InTwoFolders = codes "InTwoFolders"
+clause_text clause.NamedByAnother = codes "NamedByAnother"
+clause_text clause.Rewritten = codes "Rewritten"
+clause_text clause.UsedTwice = codes "UsedTwice"
+clause_text clause.MadeAgain = codes "MadeAgain"
+clause_text clause.WrittenLate = codes "WrittenLate"
 
--- the clauses in the order of the law
-abbrev pub clauses : List Clause
-clauses =
+-- the clauses of the law, in its order
+abbrev pub law : List Clause
+law =
     clause.NotADirectory ∷ clause.Overwritten ∷ clause.SeenBeforeWhole ∷ clause.Mixed ∷ clause.NotFlushed ∷ clause.TwoNames ∷ clause.Gone
     ∷ clause.UsedAgain ∷ clause.MovedBack ∷ clause.CleanedEarly ∷ clause.Unlisted ∷ clause.GaveUp ∷ clause.AnsweredFalsely ∷ []
+
+-- all clauses: those of the law, and then those that are owed beside it
+abbrev pub clauses : List Clause
+clauses =
+    law ++ clause.InTwoFolders ∷ clause.NamedByAnother ∷ clause.Rewritten ∷ clause.UsedTwice ∷ clause.MadeAgain ∷ clause.WrittenLate ∷ []
 
 -- the number of a clause in that order, from 0
 abbrev pub clause_index : Clause → ℕ
@@ -65,7 +76,13 @@ clause_index clause.CleanedEarly = 9
 clause_index clause.Unlisted = 10
 clause_index clause.GaveUp = 11
 clause_index clause.AnsweredFalsely = 12
+clause_index clause.InTwoFolders = 13
+clause_index clause.NamedByAnother = 14
+clause_index clause.Rewritten = 15
+clause_index clause.UsedTwice = 16
+clause_index clause.MadeAgain = 17
+clause_index clause.WrittenLate = 18
 
--- the clause of a name
+-- the clause of the law that has a name
 unfoldable pub clause_named : List ℕ → Option Clause
-clause_named name = find (λ c. bytes_eq (clause_text c) name) clauses
+clause_named name = find (λ c. bytes_eq (clause_text c) name) law

@@ -1,8 +1,9 @@
-//! The clauses of the law.
+//! The clauses of the law, and those that are owed beside it.
 ghost use Rattle.std.specs.Prelude.{◌≡◌, ◌<◌};
 ghost use Rattle.md_log.specs.Texts.{clause_text, clause_index, clause_named};
 
-/// What a step may break. The order is that of findings at one line.
+/// What a step may break. The order is that of findings at one line: the thirteen clauses of the law come first, and then those that programs
+/// owe each other beside it (docs/LAW.md).
 #[derive(Clone, Copy, Debug, PartialEq, Eq)]
 pub enum Clause {
     /// A reply that the directory calls are not defined to give.
@@ -31,10 +32,22 @@ pub enum Clause {
     GaveUp,
     /// An answer is not so.
     AnsweredFalsely,
+    /// A message has the unique name of one in another folder.
+    InTwoFolders,
+    /// A file that readers don't see is named by another actor than made it.
+    NamedByAnother,
+    /// A file that readers saw is written to.
+    Rewritten,
+    /// A unique name is used for another file than it was, in any folder.
+    UsedTwice,
+    /// A path of tmp names a second file.
+    MadeAgain,
+    /// A file is written to that nobody has written to for 36 hours, or may have been.
+    WrittenLate,
 }
 
 /// The clauses in their order.
-pub const CLAUSES: [Clause; 13] = [
+pub const CLAUSES: [Clause; 19] = [
     Clause::NotADirectory,
     Clause::Overwritten,
     Clause::SeenBeforeWhole,
@@ -48,6 +61,43 @@ pub const CLAUSES: [Clause; 13] = [
     Clause::Unlisted,
     Clause::GaveUp,
     Clause::AnsweredFalsely,
+    Clause::InTwoFolders,
+    Clause::NamedByAnother,
+    Clause::Rewritten,
+    Clause::UsedTwice,
+    Clause::MadeAgain,
+    Clause::WrittenLate,
+];
+
+/// Those of the law.
+pub const LAW: [Clause; 13] = [
+    Clause::NotADirectory,
+    Clause::Overwritten,
+    Clause::SeenBeforeWhole,
+    Clause::Mixed,
+    Clause::NotFlushed,
+    Clause::TwoNames,
+    Clause::Gone,
+    Clause::UsedAgain,
+    Clause::MovedBack,
+    Clause::CleanedEarly,
+    Clause::Unlisted,
+    Clause::GaveUp,
+    Clause::AnsweredFalsely,
+];
+
+/// Those that each program owes the others, in the order of docs/LAW.md.
+pub const OWED: [Clause; 10] = [
+    Clause::TwoNames,
+    Clause::InTwoFolders,
+    Clause::Mixed,
+    Clause::NamedByAnother,
+    Clause::CleanedEarly,
+    Clause::Rewritten,
+    Clause::MovedBack,
+    Clause::UsedTwice,
+    Clause::MadeAgain,
+    Clause::WrittenLate,
 ];
 
 impl Clause {
@@ -69,24 +119,29 @@ impl Clause {
             Clause::Unlisted => "Unlisted",
             Clause::GaveUp => "GaveUp",
             Clause::AnsweredFalsely => "AnsweredFalsely",
+            Clause::InTwoFolders => "InTwoFolders",
+            Clause::NamedByAnother => "NamedByAnother",
+            Clause::Rewritten => "Rewritten",
+            Clause::UsedTwice => "UsedTwice",
+            Clause::MadeAgain => "MadeAgain",
+            Clause::WrittenLate => "WrittenLate",
         }
     }
 
     /// Its place in `CLAUSES`, from 0.
     pub fn index(self) -> usize
         ensures exact { result ≡ clause_index self }
-        ensures few { result < 13 }
+        ensures few { result < 19 }
     {
         self as usize
     }
 
-    /// The clause of a name.
+    /// The clause of the law that has a name.
     #[tactic(auto, unfolding(crate::specs::Texts::clause_named))]
     pub(crate) fn named(name: &[u8]) -> Option<Clause>
         ensures { result ≡ clause_named name.now }
     {
-        CLAUSES
-            .iter()
+        LAW.iter()
             .copied()
             .find(|clause| clause.name().as_bytes() == name)
     }

@@ -10,7 +10,7 @@ mod line;
 mod names;
 mod words;
 
-pub use clause::{CLAUSES, Clause};
+pub use clause::{CLAUSES, Clause, LAW, OWED};
 pub use error::{LineFault, LogFault};
 pub use folders::name_folder;
 pub use line::{Call, Deed, Line, Naming, Reply, Said, Step, Ticks, read_line};

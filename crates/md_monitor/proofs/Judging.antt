@@ -1,4 +1,4 @@
--- The monitor finds what the law has, and what each program owes the others.
+-- The monitor finds what the law has, and what is owed beside it.
 use Rattle.std.proofs.Common.{ℕ, ◌≡◌, List, Option, refl, sym, subst}
 use Rattle.std.specs.Bool.{Decides}
 use Rattle.std.proofs.lemmas.Bool.Decides.{Decides-and, Decides-not, Decides-like}
@@ -15,7 +15,6 @@ use Rattle.md_law.specs.Clauses.{reply_by, IsWrongReply, IsWrongCall, NotADirect
 use Rattle.md_law.specs.Law.{Breaks}
 use Rattle.md_monitor.specs.Judged.{kept_of, is_reply, is_wrong_reply, is_wrong_call, finds}
 use Rattle.md_monitor.specs.Readings.{readings_kept}
-use Rattle.md_monitor.specs.Finds.{OwedClause, two_names, mixed, named_by_another, cleaned_early, rewritten, moved_back, in_two_folders, used_twice, made_again, written_late, BreaksOwed, finds_owed}
 use Rattle.md_monitor.proofs.Tests.{fault-is}
 use Rattle.md_monitor.proofs.Stepping.{is-call, is-by}
 use Rattle.md_monitor.proofs.Finding as files
@@ -70,16 +69,9 @@ module _ (past : History) (x : Step) where
   breaks-is clause.Unlisted = unlisted past x
   breaks-is clause.GaveUp = answers.gave_up past x
   breaks-is clause.AnsweredFalsely = answers.answered_falsely past x
-
-  -- what is found of what is owed is what is owed
-  pub owed-is : (c : OwedClause) → Decides (finds_owed (at past) (now h) (kept_of past) x c) (BreaksOwed c h)
-  owed-is two_names = messages.two_names past x
-  owed-is mixed = files.mixed past x
-  owed-is named_by_another = owing.named_by_another past x
-  owed-is cleaned_early = files.cleaned_early past x
-  owed-is rewritten = owing.rewritten past x
-  owed-is moved_back = files.moved_back past x
-  owed-is in_two_folders = messages.in_two_folders past x
-  owed-is used_twice = messages.used_twice past x
-  owed-is made_again = messages.made_again past x
-  owed-is written_late = owing.written_late past x
+  breaks-is clause.InTwoFolders = messages.in_two_folders past x
+  breaks-is clause.NamedByAnother = owing.named_by_another past x
+  breaks-is clause.Rewritten = owing.rewritten past x
+  breaks-is clause.UsedTwice = messages.used_twice past x
+  breaks-is clause.MadeAgain = messages.made_again past x
+  breaks-is clause.WrittenLate = owing.written_late past x

@@ -134,7 +134,7 @@ module _ (past : History) (x : Step) where
 
   -- ---- what each program owes
 
-  pub in_two_folders : Decides (found.owes_in_two_folders (at past) (now h) (messages_kept past) x) (owed.InTwoFolders h)
+  pub in_two_folders : Decides (found.breaks_in_two_folders (at past) (now h) (messages_kept past) x) (owed.InTwoFolders h)
   unfolding moment
   in_two_folders = Decides-like _
       (λ (p, m, adds, message, (q, n, there, is, other)).
@@ -146,7 +146,7 @@ module _ (past : History) (x : Step) where
       (some-where _ (λ q n. IsOfAny (unique_of p.name) q × (q.folder ≢ p.folder))
       (λ e. Decides-and _ _ (of_any-is (unique_of p.name) e.0) (Decides-not _ (Decides-eqb e.0.folder p.folder))) (at h))))
 
-  pub used_twice : Decides (found.owes_used_twice (at past) (now h) (messages_kept past) x) (owed.UsedTwice h)
+  pub used_twice : Decides (found.breaks_used_twice (at past) (now h) (messages_kept past) x) (owed.UsedTwice h)
   used_twice = Decides-like _
       (λ (p, n, new, both).
       let other = once-some _ past (once-map (IsAnywhere (unique_of p.name))
@@ -170,7 +170,7 @@ module _ (past : History) (x : Step) where
       Decides-and _ _ (Decides-and (is_message e.0) _ (λ t. t, λ t. t) ((messages-kept past).was_any (unique_of e.0.name)))
       (Decides-not _ ((messages-kept past).was_any_file (unique_of e.0.name) e.1))))
 
-  pub made_again : Decides (found.owes_made_again (at past) (now h) (messages_kept past) x) (owed.MadeAgain h)
+  pub made_again : Decides (found.breaks_made_again (at past) (now h) (messages_kept past) x) (owed.MadeAgain h)
   made_again = Decides-like _
       (λ (p, n, new, (tmp, (other, differ, was))). (p, n, other, new, tmp, differ, was))
       (λ (p, n, other, new, tmp, differ, was). (p, n, new, (tmp, (other, differ, was))))

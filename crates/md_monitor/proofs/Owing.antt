@@ -23,10 +23,10 @@ module _ (past : History) (x : Step) where
   abbrev h : History
   h = next past x
 
-  pub rewritten : Decides (found.owes_rewritten (at past) (now h) (files_kept past) x) (owed.Rewritten h)
+  pub rewritten : Decides (found.breaks_rewritten (at past) (now h) (files_kept past) x) (owed.Rewritten h)
   rewritten = may_write-is past x _ (λ n. Once (λ m. IsSeen (at m) n) past) (λ n. (kept past n).was_seen)
 
-  pub named_by_another : Decides (found.owes_named_by_another (at past) (now h) (files_kept past) x) (owed.NamedByAnother h)
+  pub named_by_another : Decides (found.breaks_named_by_another (at past) (now h) (files_kept past) x) (owed.NamedByAnother h)
   unfolding files_kept
   named_by_another = Decides-like _
       (λ (p, n, new, both). (x.actor, p, n, (is-by past x x.actor).1 refl, new, both.0, both.1))
@@ -34,7 +34,7 @@ module _ (past : History) (x : Step) where
       (named-is past x _ (λ p n. (IsSeen (at past) n → ⊥) × (IsMaker h x.actor n → ⊥))
       (λ e. Decides-and _ _ (Decides-not _ (seen-is (at past) e.1)) (Decides-not _ (made-it h e.1 x.actor))))
 
-  pub written_late : Decides (found.owes_written_late (at past) (now h) (files_kept past) x) (owed.WrittenLate h)
+  pub written_late : Decides (found.breaks_written_late (at past) (now h) (files_kept past) x) (owed.WrittenLate h)
   written_late = Decides-like _
       (λ (n, may, (file, is, old)). (n, file, may, is, old))
       (λ (n, file, may, is, old). (n, may, (file, is, old)))

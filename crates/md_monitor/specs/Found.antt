@@ -70,6 +70,20 @@ module _ (s : State) (now : ℕ) (kept : ℕ → FileKept) (x : Step) where
       is_tmp e.0.place && not (is_seen (after_call x.call now s) e.1) && not (is_maker (kept e.1) x.actor)
       && is_some_and (file_by s.files e.1) (λ file. nat_lt (now - file.stamp) 129600)
 
+  -- ---- clauses that are owed beside it
+
+  abbrev pub breaks_rewritten : Bool
+  breaks_rewritten = may_write (λ n. (kept n).was_seen)
+
+  abbrev pub breaks_named_by_another : Bool
+  breaks_named_by_another = is_some_and named (λ e. not (is_seen s e.1) && not (is_maker (kept_after s x kept e.1) x.actor))
+
+  abbrev pub breaks_written_late : Bool
+  breaks_written_late =
+      may_write (λ n. is_some_and (file_by s.files n) (λ file. nat_le 129600 (now - file.stamp)))
+
+  -- ---- all
+
   -- the step breaks the clause, so far as it goes by files
   abbrev pub breaks_by_files : Clause → Bool
   breaks_by_files clause.Overwritten = overwrites
@@ -79,16 +93,7 @@ module _ (s : State) (now : ℕ) (kept : ℕ → FileKept) (x : Step) where
   breaks_by_files clause.MovedBack = breaks_moved_back
   breaks_by_files clause.CleanedEarly =
       is_some_and (change_of s x.call).taken is_cleaned_early || is_some_and (turned_by s named) is_cleaned_early
+  breaks_by_files clause.NamedByAnother = breaks_named_by_another
+  breaks_by_files clause.Rewritten = breaks_rewritten
+  breaks_by_files clause.WrittenLate = breaks_written_late
   breaks_by_files c = false
-
-  -- ---- what each program owes
-
-  abbrev pub owes_rewritten : Bool
-  owes_rewritten = may_write (λ n. (kept n).was_seen)
-
-  abbrev pub owes_named_by_another : Bool
-  owes_named_by_another = is_some_and named (λ e. not (is_seen s e.1) && not (is_maker (kept_after s x kept e.1) x.actor))
-
-  abbrev pub owes_written_late : Bool
-  owes_written_late =
-      may_write (λ n. is_some_and (file_by s.files n) (λ file. nat_le 129600 (now - file.stamp)))

@@ -17,7 +17,7 @@ use Rattle.md_law.specs.Readings.{Looker}
 use Rattle.md_law.specs.Clauses.{reply_by}
 use Rattle.md_monitor.specs.Changes.{change_of}
 use Rattle.md_monitor.specs.Files.{FileKept, is_fault, written_by, flushed_by, made_by, files_kept, kept_after}
-use Rattle.md_monitor.specs.Messages.{MessagesKept, messages_kept, messages_after, breaks_two_names, breaks_gone, breaks_used_again}
+use Rattle.md_monitor.specs.Messages.{MessagesKept, messages_kept, messages_after, breaks_two_names, breaks_gone, breaks_used_again, breaks_in_two_folders, breaks_used_twice, breaks_made_again}
 use Rattle.md_monitor.specs.Found.{breaks_by_files}
 use Rattle.md_monitor.specs.Answers.{ClaimKept, claims_kept, claim_after, breaks_gave_up, breaks_answered_falsely}
 use Rattle.md_monitor.specs.Readings.{ReadingKept, readings_kept, reading_after, is_wrong_reading}
@@ -89,4 +89,7 @@ finds s now kept x clause.UsedAgain = breaks_used_again s now kept.messages x
 finds s now kept x clause.Unlisted = breaks_unlisted s kept.readings kept.listings x
 finds s now kept x clause.GaveUp = breaks_gave_up s kept.claims x
 finds s now kept x clause.AnsweredFalsely = breaks_answered_falsely s kept.claims x
+finds s now kept x clause.InTwoFolders = breaks_in_two_folders s now kept.messages x
+finds s now kept x clause.UsedTwice = breaks_used_twice s now kept.messages x
+finds s now kept x clause.MadeAgain = breaks_made_again s now kept.messages x
 finds s now kept x c = breaks_by_files s now kept.files x c

@@ -136,12 +136,12 @@ module _ (s : State) (now : ℕ) (kept : MessagesKept) (x : Step) where
       not (is_there s e.0.folder (unique_of e.0.name)) && kept.was_there e.0.folder (unique_of e.0.name)
       && not (kept.was_file e.0.folder (unique_of e.0.name) e.1))
 
-  abbrev pub owes_in_two_folders : Bool
-  owes_in_two_folders = adds_message (λ e. nat_lt 0 (paths_beside after e.0.folder (unique_of e.0.name)))
+  abbrev pub breaks_in_two_folders : Bool
+  breaks_in_two_folders = adds_message (λ e. nat_lt 0 (paths_beside after e.0.folder (unique_of e.0.name)))
 
-  abbrev pub owes_used_twice : Bool
-  owes_used_twice = is_some_and named (λ e.
+  abbrev pub breaks_used_twice : Bool
+  breaks_used_twice = is_some_and named (λ e.
       is_message e.0 && kept.was_any (unique_of e.0.name) && not (kept.was_any_file (unique_of e.0.name) e.1))
 
-  abbrev pub owes_made_again : Bool
-  owes_made_again = is_some_and named (λ e. is_tmp e.0.place && named_other (kept.paths e.0) e.1)
+  abbrev pub breaks_made_again : Bool
+  breaks_made_again = is_some_and named (λ e. is_tmp e.0.place && named_other (kept.paths e.0) e.1)

@@ -98,11 +98,11 @@ module _ (s : State) (kept : ℕ → FileKept) (w : Watch) (are : AreFiles s kep
   mixed now x = same-at (found.written_by (file_at s) x.call) _ _ (λ n is. ap not (maker-is n x.actor))
       ∙ wrote s (λ n. not (files.is_maker (kept n) x.actor)) x.call
 
-  pub rewritten : (now : ℕ) (x : Step) → found.is_rewritten w (found.written_by (file_at s) x.call) ≡ files.owes_rewritten s now kept x
+  pub rewritten : (now : ℕ) (x : Step) → found.is_rewritten w (found.written_by (file_at s) x.call) ≡ files.breaks_rewritten s now kept x
   rewritten now x = same-at (found.written_by (file_at s) x.call) _ _ (λ n is. are.was_seen n) ∙ wrote s (λ n. (kept n).was_seen) x.call
 
   pub written_late : HasFiles s → (x : Step) → found.is_late w (found.written_by (file_at s) x.call)
-      ≡ files.owes_written_late s w.clock kept x
+      ≡ files.breaks_written_late s w.clock kept x
   written_late filed x = same-at (found.written_by (file_at s) x.call) _ _ (λ n is. let at = wrote-at s x.call n is in
       by_stamp filed (λ stamp. nat_le 129600 (w.clock - stamp)) at.0 n at.1)
       ∙ wrote s (λ n. is_some_and (file_by s.files n) (λ file. nat_le 129600 (w.clock - file.stamp))) x.call
@@ -137,7 +137,7 @@ module _ (s : State) (kept : ℕ → FileKept) (w : Watch) (are : AreFiles s kep
   moved_back now x = ap (λ b. b && not (files.is_from_new x.call))
       (same-at (change_of s x.call).named _ _ (λ e is. ap (λ b. (is_message e.0 && is_new e.0.place) && b) (are.was_cur e.1)))
 
-  pub named_by_another : (now : ℕ) (x : Step) → found.is_anothers w x (change_of s x.call).named ≡ files.owes_named_by_another s now kept x
+  pub named_by_another : (now : ℕ) (x : Step) → found.is_anothers w x (change_of s x.call).named ≡ files.breaks_named_by_another s now kept x
   named_by_another now x = same-at (change_of s x.call).named _ _ (λ e is.
       (λ i. (not (seen-is e.1 i) && not (found.makes x.call)) && not (maker-is e.1 x.actor i))
       ∙ by (is_seen s e.1) (found.makes x.call) (kept e.1).maker
@@ -217,14 +217,14 @@ and-parts true b c = refl
 and-parts false b c = refl
 
 module _ (s : State) (kept : MessagesKept) (w : Watch) (are : AreMessages s kept w.messages) where
-  pub used_twice : (now : ℕ) (x : Step) → found.is_used_twice w (change_of s x.call).named ≡ messages.owes_used_twice s now kept x
+  pub used_twice : (now : ℕ) (x : Step) → found.is_used_twice w (change_of s x.call).named ≡ messages.breaks_used_twice s now kept x
   used_twice now x = same-at (change_of s x.call).named _ _ (λ e is.
       of-message (is_message e.0) (unique_of e.0.name) _
       ∙ (λ i. is_message e.0 && (are.was_any (unique_of e.0.name) i && not (are.was_any_file (unique_of e.0.name) e.1 i)))
       ∙ and-parts (is_message e.0) _ _)
 
 pub made_again : (s : State) (kept : MessagesKept) (w : Watch) → AreDrafts kept w.drafts → (now : ℕ) (x : Step)
-    → found.is_made_again w (change_of s x.call).named ≡ messages.owes_made_again s now kept x
+    → found.is_made_again w (change_of s x.call).named ≡ messages.breaks_made_again s now kept x
 made_again s kept w are now x = same-at (change_of s x.call).named _ _ (λ e is. by e (is_tmp e.0.place) refl)
   where
     by : (e : Path × ℕ) (b : Bool) → is_tmp e.0.place ≡ b → (b && named_other (path_in w.drafts e.0.folder e.0.name) e.1)
@@ -285,7 +285,7 @@ module _ (s : State) (now : ℕ) (kept : MessagesKept) (x : Step) (kept' : Messa
       (Decides-ltb 0 (paths_beside (after_call x.call now s) folder u)))
 
   pub in_two_folders : (found.adds (turn s (change_of s x.call)) && found.is_elsewhere after (change_of s x.call).named)
-      ≡ messages.owes_in_two_folders s now kept x
+      ≡ messages.breaks_in_two_folders s now kept x
   in_two_folders = adds-is s (change_of s x.call).named (change_of s x.call).taken
       (λ e u. nat_lt (count_in_folder after.messages e.0.folder u) (count_anywhere after.messages u))
       ∙ same-at (change_of s x.call).named _ _ (λ e is.

@@ -15,17 +15,15 @@ use Rattle.md_log.specs.declared.clause.Clause.{Clause}
 use Rattle.md_law.specs.Messages.{is_tmp}
 use Rattle.md_monitor.specs.Files.{FileKept, files_kept, count_where, seen_times}
 use Rattle.md_monitor.specs.Messages.{MessagesKept, messages_kept, paths_of, paths_as, is_of_any}
-use Rattle.md_monitor.specs.Finds.{BreaksOwed}
 use Rattle.md_watch.specs.Stored.{HasFiles}
 use Rattle.md_log.specs.declared.error.LineFault.{LineFault}
 use Rattle.md_log.specs.declared.error.LineFault.TheVariants.{SamePath, NoSuchPath}
-use Rattle.md_watch.specs.declared.clause.OwedClause.{OwedClause}
 use Rattle.md_watch.specs.declared.files.FileKept.{FileKept as Kept}
 use Rattle.md_watch.specs.declared.messages.Messages.{Messages}
 use Rattle.md_watch.specs.declared.drafts.Drafts.{Drafts}
 use Rattle.md_watch.specs.declared.broken.Broken.{Broken}
 use Rattle.md_watch.specs.declared.watch.Watch.{Watch}
-use Rattle.md_watch.specs.Clauses.{IsBroken, meant, breaks}
+use Rattle.md_watch.specs.Clauses.{breaks}
 use Rattle.md_watch.specs.Changes.{Turn, file_in, after_turn}
 use Rattle.md_watch.specs.Files as files
 use Rattle.md_watch.specs.Messages as messages
@@ -78,11 +76,7 @@ pub record Holds (h : History) (w : Watch) : Type 0 where
 
 -- the clauses that are found are those that the last step breaks
 abbrev pub Finds : Broken → History → Type 0
-Finds b h = (c : OwedClause) → IsBroken b c ↔ BreaksOwed (meant c) h
-
--- so are those of the law
-abbrev pub FindsLaw : Broken → History → Type 0
-FindsLaw b h = (c : Clause) → (breaks b c ≡ true) ↔ Breaks c h
+Finds b h = (c : Clause) → (breaks b c ≡ true) ↔ Breaks c h
 
 -- at the beginning there is a folder more
 abbrev pub with_folder : Moment → Moment

@@ -1,8 +1,7 @@
 //! Which clauses a step breaks.
 ghost use Rattle.std.specs.Prelude.{◌≡◌};
-ghost use Rattle.md_watch.specs.Clauses.{is_broken, breaks};
+ghost use Rattle.md_watch.specs.Clauses.{breaks};
 
-use crate::clause::OwedClause;
 use crate::memory::Heard;
 use md_log::Clause;
 
@@ -57,25 +56,7 @@ pub(crate) struct OwedBefore {
 }
 
 impl Broken {
-    /// Whether the step breaks the clause of what is owed.
-    pub fn has(&self, clause: OwedClause) -> bool
-        ensures { result ≡ is_broken self.now clause }
-    {
-        match clause {
-            OwedClause::TwoNames => self.two_names,
-            OwedClause::InTwoFolders => self.in_two_folders,
-            OwedClause::Mixed => self.law.mixed,
-            OwedClause::NamedByAnother => self.owed.named_by_another,
-            OwedClause::CleanedEarly => self.cleaned_early,
-            OwedClause::Rewritten => self.owed.rewritten,
-            OwedClause::MovedBack => self.law.moved_back,
-            OwedClause::UsedTwice => self.owed.used_twice,
-            OwedClause::MadeAgain => self.owed.made_again,
-            OwedClause::WrittenLate => self.owed.written_late,
-        }
-    }
-
-    /// Whether the step breaks the clause of the law.
+    /// Whether the step breaks the clause.
     pub fn breaks(&self, clause: Clause) -> bool
         ensures { result ≡ breaks self.now clause }
     {
@@ -93,6 +74,12 @@ impl Broken {
             Clause::Unlisted => self.heard.read.unlisted,
             Clause::GaveUp => self.heard.told.gave_up,
             Clause::AnsweredFalsely => self.heard.told.falsely,
+            Clause::InTwoFolders => self.in_two_folders,
+            Clause::NamedByAnother => self.owed.named_by_another,
+            Clause::Rewritten => self.owed.rewritten,
+            Clause::UsedTwice => self.owed.used_twice,
+            Clause::MadeAgain => self.owed.made_again,
+            Clause::WrittenLate => self.owed.written_late,
         }
     }
 

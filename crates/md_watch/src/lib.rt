@@ -1,4 +1,4 @@
-//! A watch on what programs that share maildirs do: which clauses of the law, and of what they owe each other, each step breaks
+//! A watch on what programs that share maildirs do: which clauses of the law, and of those that are owed beside it, each step breaks
 //! (docs/LAW.md).
 //!
 //! `Watch` goes with a history from step to step: what it keeps is what the monitor of `md_monitor` keeps, in tables.
@@ -7,7 +7,6 @@
 mod broken;
 mod change;
 mod claims;
-mod clause;
 mod directory;
 mod drafts;
 mod files;
@@ -25,5 +24,4 @@ mod table;
 mod watch;
 
 pub use broken::Broken;
-pub use clause::{OWED, OwedClause};
 pub use watch::{OpenReading, Presence, Watch};

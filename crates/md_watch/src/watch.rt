@@ -5,7 +5,7 @@ ghost use Rattle.md_log.specs.declared.error.LineFault.TheVariants.{NoMemory};
 ghost use Rattle.md_law.specs.History.{History, Moment, opening, next};
 ghost use Rattle.md_watch.specs.Changes.{turn_of, adding};
 ghost use Rattle.md_watch.specs.Found.{before_of, law_before, owed_before, after_of};
-ghost use Rattle.md_watch.specs.Watches.{Holds, with_folder, PutsFile, PutsName, IsPathRefused, IsNameRefused, Finds, FindsLaw, Touches, Follows};
+ghost use Rattle.md_watch.specs.Watches.{Holds, with_folder, PutsFile, PutsName, IsPathRefused, IsNameRefused, Finds, Touches, Follows};
 
 mod earlier;
 mod finding;
@@ -116,7 +116,6 @@ impl Watch {
     pub fn step(&mut self, step: &Step) -> Result<Broken, AllocError>
         ensures holds { (h : History) → Holds h self.old → OnOk result (Holds (next h step.now) self.new) }
         ensures found { (h : History) → Holds h self.old → IfOk result (λ broken. Finds broken (next h step.now)) }
-        ensures law { (h : History) → Holds h self.old → IfOk result (λ broken. FindsLaw broken (next h step.now)) }
     {
         self.clock = self.clock.max(step.moment);
         let change = self.paths.change(self.files.count(), &step.call);

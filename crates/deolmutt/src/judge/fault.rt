@@ -2,7 +2,6 @@
 
 use crate::judge::blame::{Blame, blamed_word};
 use md_judge::{LineFault, LogFault};
-use md_owed::Why;
 use std::alloc::{AllocError, Global};
 
 /// Why a log was not judged.
@@ -12,8 +11,6 @@ pub(crate) enum Fault {
     Log(LogFault),
     /// A line is wrong by this word.
     Word(LogFault, Blame),
-    /// The calls of this line and of another overlap.
-    Overlap(u64),
     /// Reading failed within this line.
     Read(u64),
     /// Writing failed.
@@ -41,7 +38,7 @@ impl Fault {
     pub(crate) fn line(self) -> u64 {
         match self {
             Fault::Log(fault) | Fault::Word(fault, _) => fault.line,
-            Fault::Overlap(line) | Fault::Read(line) => line,
+            Fault::Read(line) => line,
             Fault::Write => 0,
         }
     }
@@ -59,7 +56,6 @@ impl Fault {
     pub(crate) fn text(self) -> &'static str {
         match self {
             Fault::Log(fault) | Fault::Word(fault, _) => fault.fault.text(),
-            Fault::Overlap(_) => "calls overlap",
             Fault::Read(_) => "read fault",
             Fault::Write => "write fault",
         }
@@ -76,15 +72,5 @@ impl From<AllocError> for Fault {
 impl From<LogFault> for Fault {
     fn from(fault: LogFault) -> Fault {
         Fault::Log(fault)
-    }
-}
-
-impl From<md_owed::Fault> for Fault {
-    fn from(fault: md_owed::Fault) -> Fault {
-        let md_owed::Fault { line, why } = fault;
-        match why {
-            Why::Wrong(fault) => Fault::Log(LogFault { line, fault }),
-            Why::Overlap => Fault::Overlap(line),
-        }
     }
 }

@@ -1,40 +1,36 @@
 //! What each call of our jobs relies on, as docs/LAW.md has it.
 
-use md_owed::OwedClause;
+use md_judge::Clause;
 
 // To each job: a message has one path, in all folders.
-const ERRAND: &[OwedClause] = &[OwedClause::TwoNames, OwedClause::InTwoFolders];
+const ERRAND: &[Clause] = &[Clause::TwoNames, Clause::InTwoFolders];
 
-const DELIVER: &[OwedClause] = &[
-    OwedClause::TwoNames,
-    OwedClause::InTwoFolders,
-    OwedClause::Mixed,
-    OwedClause::NamedByAnother,
-    OwedClause::CleanedEarly,
+const DELIVER: &[Clause] = &[
+    Clause::TwoNames,
+    Clause::InTwoFolders,
+    Clause::Mixed,
+    Clause::NamedByAnother,
+    Clause::CleanedEarly,
 ];
 
-const MOVE: &[OwedClause] = &[
-    OwedClause::TwoNames,
-    OwedClause::InTwoFolders,
-    OwedClause::MovedBack,
-    OwedClause::UsedTwice,
+const MOVE: &[Clause] = &[
+    Clause::TwoNames,
+    Clause::InTwoFolders,
+    Clause::MovedBack,
+    Clause::UsedTwice,
 ];
 
-const COPY: &[OwedClause] = &[
-    OwedClause::TwoNames,
-    OwedClause::InTwoFolders,
-    OwedClause::MovedBack,
-];
+const COPY: &[Clause] = &[Clause::TwoNames, Clause::InTwoFolders, Clause::MovedBack];
 
-const CLEAN: &[OwedClause] = &[
-    OwedClause::TwoNames,
-    OwedClause::InTwoFolders,
-    OwedClause::MadeAgain,
-    OwedClause::WrittenLate,
+const CLEAN: &[Clause] = &[
+    Clause::TwoNames,
+    Clause::InTwoFolders,
+    Clause::MadeAgain,
+    Clause::WrittenLate,
 ];
 
 /// The clauses that a call relies on, by the name of its command.
-pub(crate) fn relied_on(call: &str) -> Option<&'static [OwedClause]> {
+pub(crate) fn relied_on(call: &str) -> Option<&'static [Clause]> {
     match call {
         "deliver" => Some(DELIVER),
         "seen" | "flag" | "expunge" => Some(ERRAND),

@@ -20,5 +20,12 @@ pub(crate) fn why(clause: Clause) -> &'static str {
         Clause::GaveUp =>
             "a call was refused, and the program reports success without another look",
         Clause::AnsweredFalsely => "what the program reports is not so",
+        Clause::InTwoFolders => "a message has the unique name of one in another folder",
+        Clause::NamedByAnother =>
+            "a file that no reader sees is named by another program than made it",
+        Clause::Rewritten => "a file is written to that readers have seen",
+        Clause::UsedTwice => "a unique name is used for a second message",
+        Clause::MadeAgain => "a name in tmp is used for a second file",
+        Clause::WrittenLate => "a file is written to that nobody has written to for 36 hours",
     }
 }

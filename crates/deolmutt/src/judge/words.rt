@@ -4,8 +4,7 @@ use crate::judge::relied::relied_on;
 use crate::order::Mistake;
 use crate::trouble::Trouble;
 use clap::ArgMatches;
-use md_judge::{CLAUSES, Clause, GRADES, Grade};
-use md_owed::OwedClause;
+use md_judge::{Clause, GRADES, Grade, LAW, OWED};
 use std::alloc::Global;
 
 /// How findings are printed.
@@ -51,10 +50,31 @@ pub(crate) struct Strictness {
 /// What is judged of what programs owe each other.
 #[derive(Drop)]
 pub(crate) struct Owing<'a> {
-    /// The clauses, where not all ten are asked for.
-    pub(crate) relied: Option<&'static [OwedClause]>,
+    /// The clauses that are asked for.
+    pub(crate) clauses: &'static [Clause],
     /// The actors whose steps are left out.
     pub(crate) ours: Vec<&'a str>,
+}
+
+impl Rules<'_> {
+    /// The clauses by which a log is judged.
+    pub(crate) fn clauses(&self) -> &'static [Clause] {
+        match self {
+            Rules::Law(_) => &LAW,
+            Rules::Owed(_) => &OWED,
+        }
+    }
+
+    /// Whether a finding of a clause, of a grade, in a step of an actor, is to be shown.
+    pub(crate) fn ask_for(&self, clause: Clause, grade: Grade, actor: &[u8]) -> bool {
+        match self {
+            Rules::Law(strictness) => grade.is_at_least(strictness.least),
+            Rules::Owed(owing) => {
+                owing.clauses.iter().any(|asked| *asked == clause)
+                    && !owing.ours.iter().any(|ours| ours.as_bytes() == actor)
+            }
+        }
+    }
 }
 
 /// What words say of judging that the options have read.
@@ -70,24 +90,24 @@ pub(crate) fn read_judging<'a>(
 }
 
 fn read_rules<'a>(alloc: Global, words: &ArgMatches<'a>) -> Result<Rules<'a>, Mistake<'a>> {
-    let relied = match words.get_str("relies") {
-        Some(call) => Some(read_relied(call)?),
-        None => None,
+    let clauses = match words.get_str("relies") {
+        Some(call) => read_relied(call)?,
+        None if words.get_flag("owed") => &OWED,
+        None => {
+            return Ok(Rules::Law(Strictness {
+                allowed: read_allowed(alloc, words)?,
+                least: read_least(words.get_str("least"))?,
+            }));
+        }
     };
-    if relied.is_none() && !words.get_flag("owed") {
-        return Ok(Rules::Law(Strictness {
-            allowed: read_allowed(alloc, words)?,
-            least: read_least(words.get_str("least"))?,
-        }));
-    }
     let mut ours = Vec::new(alloc);
     for actor in words.get_strs("by").unwrap_or(&[]) {
         ours.push(*actor)?;
     }
-    Ok(Rules::Owed(Owing { relied, ours }))
+    Ok(Rules::Owed(Owing { clauses, ours }))
 }
 
-fn read_relied<'a>(call: &'a str) -> Result<&'static [OwedClause], Mistake<'a>> {
+fn read_relied<'a>(call: &'a str) -> Result<&'static [Clause], Mistake<'a>> {
     match relied_on(call) {
         Some(relied) => Ok(relied),
         None => Err(Mistake::Wrong {
@@ -148,5 +168,5 @@ fn form_of(words: &ArgMatches<'_>) -> Form {
 
 // The clause of a name, unless it is always judged.
 fn clause_named(name: &str) -> Option<Clause> {
-    CLAUSES.iter().copied().find(|clause| *clause != Clause::NotADirectory && clause.name() == name)
+    LAW.iter().copied().find(|clause| *clause != Clause::NotADirectory && clause.name() == name)
 }

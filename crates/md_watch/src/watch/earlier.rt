@@ -31,6 +31,10 @@ impl Watch {
             Clause::Unlisted => self.before_left_out(call),
             Clause::GaveUp => self.to_moment(self.marks.acts.called),
             Clause::AnsweredFalsely => self.before_false(call),
+            Clause::NamedByAnother => Some(self.marks_at(target_of(call)?)?.made as usize),
+            Clause::Rewritten => Some(self.marks_at(target_of(call)?)?.seen as usize),
+            Clause::WrittenLate => Some(self.marks_at(target_of(call)?)?.written as usize),
+            Clause::InTwoFolders | Clause::UsedTwice | Clause::MadeAgain => None,
         }
     }
 

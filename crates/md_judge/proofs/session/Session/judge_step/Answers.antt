@@ -57,13 +57,13 @@ pub returns-clause-judges : goal.returns-clause-judges
 returns-clause-judges c = λ h holds.
     let s = c.args.self.now in
     let kept = c.loop-clause.invariant in
-    let law = c.in_ok-broken.ensures.law h holds in
+    let found = c.in_ok-broken.ensures.found h holds in
     record {
       allowed = kept.keeps.allowed;
       holds = subst (λ w. Holds (next h c.args.step.now) w) (sym kept.watch) (c.in_ok-broken.ensures.holds h holds);
       found = λ o. adds-all o c.args.line c.loop-clause.clause-index ((breaks c.in_ok-broken.broken o ≡ true) × (Has s.allowed o → ⊥))
           (Breaks o (next h c.args.step.now) × (Has s.allowed o → ⊥)) (record s { watch = c.step.new.self; entries = c.push.new.self }) c.loop-clause.self
-          c.loop-clause-test.false (λ both. ((law o).0 both.0, both.1), λ both. ((law o).1 both.0, both.1)) (kept.found o);
+          c.loop-clause-test.false (λ both. ((found o).0 both.0, both.1), λ both. ((found o).1 both.0, both.1)) (kept.found o);
       ordered = λ order earlier. (kept.ordered order earlier).0;
       at_lines = λ order below. (kept.at_lines order below).0;
     }
@@ -75,6 +75,6 @@ returns-clause-keeps c =
 
 pub returns-clause-wrong : goal.returns-clause-wrong
 returns-clause-wrong c = λ h holds.
-    let law = c.in_ok-broken.ensures.law h holds clause.NotADirectory in
+    let found = c.in_ok-broken.ensures.found h holds clause.NotADirectory in
     let is = c.breaks.ensures in
-    (λ wrong. law.0 (sym is ∙ wrong), λ wrong. is ∙ law.1 wrong)
+    (λ wrong. found.0 (sym is ∙ wrong), λ wrong. is ∙ found.1 wrong)

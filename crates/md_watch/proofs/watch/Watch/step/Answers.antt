@@ -6,7 +6,7 @@ use Rattle.md_watch.specs.Changes.{Turn, turn_of, turn_by, file_in}
 use Rattle.md_watch.specs.Found.{before_of, after_of}
 use Rattle.md_watch.specs.Memory as memories
 use Rattle.md_watch.specs.Presences.{in_folders}
-use Rattle.md_watch.specs.Watches.{Holds, Touches, Finds, FindsLaw}
+use Rattle.md_watch.specs.Watches.{Holds, Touches, Finds}
 use Rattle.md_watch.proofs.Breaking.{step-finds}
 use Rattle.md_watch.proofs.watch.Watch.step.Goals as goal
 
@@ -14,8 +14,7 @@ abbrev new : goal.After-after → Watch
 new c = record c.follow.new.self { memory = c.follow-2.new.self }
 
 all : (c : goal.After-after) (h : History) → Holds h c.args.self.now
-    → Holds (next h c.args.step.now) (new c) × Finds c.after.result (next h c.args.step.now) × FindsLaw c.after.result
-    (next h c.args.step.now)
+    → Holds (next h c.args.step.now) (new c) × Finds c.after.result (next h c.args.step.now)
 all c h holds =
     let w = c.args.self.now in
     let x = c.args.step.now in
@@ -48,6 +47,3 @@ returns-clause-holds c = λ h holds. (all c h holds).0
 
 pub returns-clause-found : goal.returns-clause-found
 returns-clause-found c = λ h holds. (all c h holds).1
-
-pub returns-clause-law : goal.returns-clause-law
-returns-clause-law c = λ h holds. (all c h holds).2

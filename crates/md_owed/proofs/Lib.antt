@@ -1,4 +1,0 @@
-pub mod Telling
-pub mod Taking
-pub mod Heading
-pub mod Refusing
