@@ -7,14 +7,17 @@ use crate::row::place_name;
 use crate::session::{Host, Session};
 use crate::status::Status;
 use crate::trouble::Trouble;
-use md_disk::{Flaw, check_folders};
+use md_disk::{Disk, Flaw, check_folders};
 use md_jobs::DirReply;
 use std::alloc::{AllocError, Global};
 
 /// Prints a line for each flaw of a maildir, and refuses it where there is one.
 pub(crate) fn checked<R: Host>(session: &Session<'_, R>, maildir: &str) -> Result<Status, Failure> {
-    let disk = maildirs(session, &[maildir])?;
-    let (reply, flaws) = check_folders(session.alloc, &disk)?;
+    print_flaws(session, &maildirs(session, &[maildir])?)
+}
+
+fn print_flaws<R: Host>(session: &Session<'_, R>, disk: &Disk<'_, R>) -> Result<Status, Failure> {
+    let (reply, flaws) = check_folders(session.alloc, disk)?;
     if reply != DirReply::Ok {
         return Err(Failure::caused(session.alloc, Trouble::Fault, disk.cause()));
     }

@@ -29,30 +29,8 @@ pub(crate) fn delivered<R: Host>(
     maildir: &str,
     how: &Delivering<'_>,
 ) -> Result<Status, Failure> {
-    let folder = match how.folder {
-        Some(name) => format!(in session.alloc; "{maildir}/.{name}")?,
-        None => String::from_str(session.alloc, maildir)?,
-    };
-    let mut sending = Sending {
-        disk: target(session, folder.as_str(), how.flushes)?,
-        folder,
-        namer: session.namer()?,
-        prints: how.prints,
-        progress: Progress::new(session),
-    };
-    let status = match how.source {
-        MailSource::Message => sending.send_rest(session, input(session)?)?,
-        MailSource::Mailbox => sending.send_all(session, input(session)?)?,
-        MailSource::Files(path) => sending.send_files(session, path)?,
-    };
-    sending.progress.end(session);
-    if sending.disk.is_unflushed() {
-        session.tell(
-            sending.folder.as_bytes(),
-            &Failure::from(Trouble::Unflushed),
-        );
-    }
-    Ok(status)
+    let mut sending = Sending::new(session, maildir, how)?;
+    sending.send_from(session, how.source)
 }
 
 // The lines of standard input.
@@ -72,6 +50,42 @@ struct Sending<'r, R: Host> {
 }
 
 impl<'r, R: Host> Sending<'r, R> {
+    fn new(
+        session: &Session<'r, R>,
+        maildir: &str,
+        how: &Delivering<'_>,
+    ) -> Result<Sending<'r, R>, Failure> {
+        let folder = match how.folder {
+            Some(name) => format!(in session.alloc; "{maildir}/.{name}")?,
+            None => String::from_str(session.alloc, maildir)?,
+        };
+        Ok(Sending {
+            disk: target(session, folder.as_str(), how.flushes)?,
+            folder,
+            namer: session.namer()?,
+            prints: how.prints,
+            progress: Progress::new(session),
+        })
+    }
+
+    // Delivers what a source has.
+    fn send_from(
+        &mut self,
+        session: &Session<'_, R>,
+        source: MailSource<'_>,
+    ) -> Result<Status, Failure> {
+        let status = match source {
+            MailSource::Message => self.send_rest(session, input(session)?)?,
+            MailSource::Mailbox => self.send_all(session, input(session)?)?,
+            MailSource::Files(path) => self.send_files(session, path)?,
+        };
+        self.progress.end(session);
+        if self.disk.is_unflushed() {
+            session.tell(self.folder.as_bytes(), &Failure::from(Trouble::Unflushed));
+        }
+        Ok(status)
+    }
+
     // Delivers a message.
     fn send(&mut self, session: &Session<'_, R>, message: &[u8]) -> Result<(), Failure> {
         let alloc = session.alloc;

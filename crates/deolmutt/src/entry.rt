@@ -13,7 +13,8 @@ use crate::session::{Host, Session};
 use crate::showing::{listed, read};
 use crate::status::Status;
 use crate::trouble::{Trouble, trouble_of};
-use md_disk::clean;
+use clap::{ArgMatches, Error};
+use md_disk::{Disk, clean};
 use md_runs::{Advice, complaint, explained, run_named};
 use std::random::RandomSource;
 use std::sync::Wait;
@@ -33,19 +34,30 @@ pub(crate) fn program<R: Host + Threads + Wait + Sync + RandomSource>(
 
 // What is done for words that name no run.
 fn without_run<R: Host + RandomSource>(session: &Session<'_, R>, words: &[&str]) -> Status {
-    let parsed = match options(session.alloc) {
-        Ok(options) => options.try_get_matches_from(words),
-        Err(_) => return no_memory(session),
+    let Ok(options) = options(session.alloc) else {
+        return no_memory(session);
     };
-    match parsed {
-        Ok(matches) => match read_order(session.alloc, &matches) {
-            Ok(order) => perform(session, order),
-            Err(mistake) => mistaken(session, mistake),
-        },
-        Err(error) => match explained(session.alloc, PROGRAM, &error) {
-            Ok(advice) => advised(session, &advice),
-            Err(_) => no_memory(session),
-        },
+    match options.try_get_matches_from(words) {
+        Ok(matches) => with_options(session, &matches),
+        Err(error) => unparsed(session, &error),
+    }
+}
+
+// What is done for words that the options have read.
+fn with_options<R: Host + RandomSource>(
+    session: &Session<'_, R>,
+    matches: &ArgMatches<'_>,
+) -> Status {
+    match read_order(session.alloc, matches) {
+        Ok(order) => perform(session, order),
+        Err(mistake) => mistaken(session, mistake),
+    }
+}
+
+fn unparsed<R: Host>(session: &Session<'_, R>, error: &Error) -> Status {
+    match explained(session.alloc, PROGRAM, error) {
+        Ok(advice) => advised(session, &advice),
+        Err(_) => no_memory(session),
     }
 }
 
@@ -110,8 +122,11 @@ fn perform_work<R: Host>(
 
 // Takes away old files of tmp.
 fn cleaned<R: Host>(session: &Session<'_, R>, maildir: &str) -> Result<Status, Failure> {
-    let mut disk = maildirs(session, &[maildir])?;
-    let answer = clean(session.alloc, &mut disk, 0)?;
+    clean_tmp(session, &mut maildirs(session, &[maildir])?)
+}
+
+fn clean_tmp<R: Host>(session: &Session<'_, R>, disk: &mut Disk<'_, R>) -> Result<Status, Failure> {
+    let answer = clean(session.alloc, disk, 0)?;
     match trouble_of(answer) {
         None => Ok(Status::Done),
         Some(trouble) => Err(Failure::caused(session.alloc, trouble, disk.cause())),

@@ -57,81 +57,95 @@ pub(crate) fn options<'a>(alloc: Global) -> Result<Command<'a>, AllocError> {
     let command = with_mail(alloc, command)?;
     let command = with_changes(alloc, command)?;
     let command = with_care(alloc, command)?;
-    with_scripts(alloc, command)?
-        .subcommand(log(alloc)?)?
-        .subcommand(judge(alloc)?)
+    let command = with_scripts(alloc, command)?;
+    let command = with(command, log(alloc))?;
+    with(command, judge(alloc))
+}
+
+// A command with one more subcommand. A command is large: here alone one is let go if the subcommand could not be made.
+fn with<'a>(
+    command: Command<'a>,
+    subcommand: Result<Command<'a>, AllocError>,
+) -> Result<Command<'a>, AllocError> {
+    command.subcommand(subcommand?)
 }
 
 // The subcommands that make maildirs, and bring and show mail.
 fn with_mail<'a>(alloc: Global, command: Command<'a>) -> Result<Command<'a>, AllocError> {
-    command
-        .subcommand(on_box(
-            alloc,
-            "make",
-            "Makes a maildir, of folders of mode 0700; what is there stays",
-        )?)?
-        .subcommand(deliver(alloc)?)?
-        .subcommand(list(alloc)?)?
-        .subcommand(read(alloc)?)
+    let make = on_box(
+        alloc,
+        "make",
+        "Makes a maildir, of folders of mode 0700; what is there stays",
+    );
+    let command = with(command, make)?;
+    let command = with(command, deliver(alloc))?;
+    let command = with(command, list(alloc))?;
+    with(command, read(alloc))
 }
 
 // The subcommands that change messages.
 fn with_changes<'a>(alloc: Global, command: Command<'a>) -> Result<Command<'a>, AllocError> {
-    command
-        .subcommand(on_keys(
-            alloc,
-            "seen",
-            "Moves messages from new to cur, with the flag S",
-        )?)?
-        .subcommand(flag(alloc)?)?
-        .subcommand(to_box(
-            alloc,
-            "move",
-            "Moves messages to another maildir; place and flags stay",
-        )?)?
-        .subcommand(to_box(
-            alloc,
-            "copy",
-            "Gives messages a second one of their files in another maildir, under a fresh name",
-        )?)?
-        .subcommand(on_keys(
-            alloc,
-            "expunge",
-            "Takes away messages of cur that have the flag T",
-        )?)
+    let seen = on_keys(
+        alloc,
+        "seen",
+        "Moves messages from new to cur, with the flag S",
+    );
+    let command = with(command, seen)?;
+    let command = with(command, flag(alloc))?;
+    let moving = to_box(
+        alloc,
+        "move",
+        "Moves messages to another maildir; place and flags stay",
+    );
+    let command = with(command, moving)?;
+    let copy = to_box(
+        alloc,
+        "copy",
+        "Gives messages a second one of their files in another maildir, under a fresh name",
+    );
+    let command = with(command, copy)?;
+    let expunge = on_keys(
+        alloc,
+        "expunge",
+        "Takes away messages of cur that have the flag T",
+    );
+    with(command, expunge)
 }
 
 // The subcommands that take care of a maildir.
 fn with_care<'a>(alloc: Global, command: Command<'a>) -> Result<Command<'a>, AllocError> {
-    command
-        .subcommand(on_box(
-            alloc,
-            "clean",
-            "Takes away files of tmp that were not used for 36 hours",
-        )?)?
-        .subcommand(on_box(
-            alloc,
-            "check",
-            "Prints what breaks the format of a maildir, a line for each flaw",
-        )?)
+    let clean = on_box(
+        alloc,
+        "clean",
+        "Takes away files of tmp that were not used for 36 hours",
+    );
+    let command = with(command, clean)?;
+    let check = on_box(
+        alloc,
+        "check",
+        "Prints what breaks the format of a maildir, a line for each flaw",
+    );
+    with(command, check)
 }
 
 // The subcommands that run scripts over a store in memory.
 fn with_scripts<'a>(alloc: Global, command: Command<'a>) -> Result<Command<'a>, AllocError> {
-    command
-        .subcommand(Command::new(alloc, "play").about("Plays the script on standard input"))?
-        .subcommand(counted(
-            alloc,
-            "threads",
-            "Runs the script's jobs by N threads, 1 to 16, and prints their answers and the folders",
-            count(alloc, "How many threads, 1 to 16", MOST_THREADS as i64),
-        )?)?
-        .subcommand(counted(
-            alloc,
-            "index",
-            "Prints the header summaries of the script's files that are messages, made by N workers, 1 to 64",
-            count(alloc, "How many workers, 1 to 64", MOST_WORKERS as i64),
-        )?)
+    let play = Command::new(alloc, "play").about("Plays the script on standard input");
+    let command = command.subcommand(play)?;
+    let threads = counted(
+        alloc,
+        "threads",
+        "Runs the script's jobs by N threads, 1 to 16, and prints their answers and the folders",
+        count(alloc, "How many threads, 1 to 16", MOST_THREADS as i64),
+    );
+    let command = with(command, threads)?;
+    let index = counted(
+        alloc,
+        "index",
+        "Prints the header summaries of the script's files that are messages, made by N workers, 1 to 64",
+        count(alloc, "How many workers, 1 to 64", MOST_WORKERS as i64),
+    );
+    with(command, index)
 }
 
 // A run of a script that wants a number.
@@ -177,25 +191,23 @@ fn to_box<'a>(alloc: Global, name: &'a str, about: &'a str) -> Result<Command<'a
 }
 
 fn deliver<'a>(alloc: Global) -> Result<Command<'a>, AllocError> {
-    let folder = Arg::new(alloc, "folder")
-        .long("folder")
-        .value_name("NAME")
-        .help("Delivers to the folder BOX/.NAME (Maildir++)")
-        .action(ArgAction::Set);
-    let from = Arg::new(alloc, "from")
-        .long("from")
-        .value_name("DIR")
-        .help(
-            "Delivers each regular file of DIR, in order of their names, in place of standard input",
-        )
-        .action(ArgAction::Set);
     on_box(
         alloc,
         "deliver",
         "Delivers the message on standard input, of at most 16777216 bytes",
     )?
-    .arg(folder)?
-    .arg(from)?
+    .arg(valued(
+        alloc,
+        "folder",
+        "NAME",
+        "Delivers to the folder BOX/.NAME (Maildir++)",
+    ))?
+    .arg(valued(
+        alloc,
+        "from",
+        "DIR",
+        "Delivers each regular file of DIR, in order of their names, in place of standard input",
+    ))?
     .arg(switch(
         alloc,
         "no-sync",
@@ -228,19 +240,19 @@ fn read<'a>(alloc: Global) -> Result<Command<'a>, AllocError> {
 }
 
 fn flag<'a>(alloc: Global) -> Result<Command<'a>, AllocError> {
-    let add = Arg::new(alloc, "add")
-        .long("add")
-        .value_name("LETTERS")
-        .help("The flags that are added, in place of CHANGE")
-        .action(ArgAction::Set);
-    let remove = Arg::new(alloc, "remove")
-        .long("remove")
-        .value_name("LETTERS")
-        .help("The flags that are removed, in place of CHANGE")
-        .action(ArgAction::Set);
     on_box(alloc, "flag", "Changes the flags of messages in cur")?
-        .arg(add)?
-        .arg(remove)?
+        .arg(valued(
+            alloc,
+            "add",
+            "LETTERS",
+            "The flags that are added, in place of CHANGE",
+        ))?
+        .arg(valued(
+            alloc,
+            "remove",
+            "LETTERS",
+            "The flags that are removed, in place of CHANGE",
+        ))?
         .arg(many(
             alloc,
             "KEY",
@@ -261,6 +273,15 @@ fn many<'a>(alloc: Global, name: &'a str, help: &'a str) -> Arg<'a> {
     one(alloc, name, help)
         .action(ArgAction::Append)
         .num_args(1..)
+}
+
+/// An option with a value.
+pub(crate) fn valued<'a>(alloc: Global, name: &'a str, value: &'a str, help: &'a str) -> Arg<'a> {
+    Arg::new(alloc, name)
+        .long(name)
+        .value_name(value)
+        .help(help)
+        .action(ArgAction::Set)
 }
 
 /// An option without a value.

@@ -37,8 +37,17 @@ pub(crate) fn listed<R: Host>(
     if reply != DirReply::Ok {
         return Err(Failure::caused(session.alloc, Trouble::Fault, disk.cause()));
     }
+    print_all(session, maildir, shape, all.as_slice())
+}
+
+fn print_all<R: Host>(
+    session: &Session<'_, R>,
+    maildir: &str,
+    shape: Shape,
+    all: &[Listed],
+) -> Result<Status, Failure> {
     let mut page = Vec::new(session.alloc);
-    for message in &all {
+    for message in all {
         push_listed(session, maildir, shape, message, &mut page)?;
         if page.len() >= PAGE {
             print(session, page.as_slice())?;

@@ -1,6 +1,6 @@
 //! The subcommands on logs of directory calls, and their help.
 
-use crate::options::switch;
+use crate::options::{switch, valued};
 use clap::{Arg, ArgAction, Command};
 use std::alloc::{AllocError, Global};
 
@@ -36,6 +36,9 @@ Examples:
 
 docs/JUDGE.md has the log's language and the law.";
 
+// The options of judging by the law alone.
+const LAW_ALONE: &[&str] = &["allow", "least"];
+
 /// The log of a script.
 pub(crate) fn log<'a>(alloc: Global) -> Result<Command<'a>, AllocError> {
     Command::new(alloc, "log")
@@ -50,44 +53,46 @@ pub(crate) fn log<'a>(alloc: Global) -> Result<Command<'a>, AllocError> {
 
 /// The judging of a log.
 pub(crate) fn judge<'a>(alloc: Global) -> Result<Command<'a>, AllocError> {
-    let file = Arg::new(alloc, "FILE")
-        .help("The log; - or none is standard input")
-        .action(ArgAction::Set);
     let command = Command::new(alloc, "judge")
         .about("Prints which steps of a log of directory calls break the law of a maildir")
         .after_help(AFTER_JUDGE);
-    with_owed(alloc, with_law(alloc, with_forms(alloc, command)?)?)?.arg(file)
+    let command = with_forms(alloc, command)?;
+    let command = with_law(alloc, command)?;
+    let command = with_owed(alloc, command)?;
+    command.arg(
+        Arg::new(alloc, "FILE")
+            .help("The log; - or none is standard input")
+            .action(ArgAction::Set),
+    )
 }
 
 // How findings are printed.
 fn with_forms<'a>(alloc: Global, command: Command<'a>) -> Result<Command<'a>, AllocError> {
-    let lines = switch(alloc, "lines", "Prints LINE CLAUSE for each finding");
-    let json = switch(alloc, "json", "Prints an object of JSON for each finding").conflicts_with(
-        "lines",
-    )?;
+    let command = command.arg(switch(alloc, "lines", "Prints LINE CLAUSE for each finding"))?;
+    let json = switch(alloc, "json", "Prints an object of JSON for each finding");
+    let command = with_other(command, json, &["lines"])?;
     let summary = switch(
         alloc,
         "summary",
         "Prints how often each clause is broken and at which line first, and the sum",
-    )
-    .conflicts_with("lines")?
-    .conflicts_with("json")?;
-    command.arg(lines)?.arg(json)?.arg(summary)
+    );
+    with_other(command, summary, &["lines", "json"])
 }
 
 // Which findings by the law are shown.
 fn with_law<'a>(alloc: Global, command: Command<'a>) -> Result<Command<'a>, AllocError> {
-    let allow = Arg::new(alloc, "allow")
-        .long("allow")
-        .value_name("CLAUSE")
-        .help("Leaves this clause out, as a line `allow CLAUSE` of the log; may be repeated")
-        .action(ArgAction::Append);
-    let least = Arg::new(alloc, "least")
-        .long("least")
-        .value_name("GRADE")
-        .help("Leaves out findings of a lower grade: lost, misled, owed or custom")
-        .action(ArgAction::Set);
-    command.arg(allow)?.arg(least)
+    let allow = valued(
+        alloc,
+        "allow",
+        "CLAUSE",
+        "Leaves this clause out, as a line `allow CLAUSE` of the log; may be repeated",
+    );
+    command.arg(allow.action(ArgAction::Append))?.arg(valued(
+        alloc,
+        "least",
+        "GRADE",
+        "Leaves out findings of a lower grade: lost, misled, owed or custom",
+    ))
 }
 
 // Judging by what programs owe each other.
@@ -97,25 +102,28 @@ fn with_owed<'a>(alloc: Global, command: Command<'a>) -> Result<Command<'a>, All
         "owed",
         "Judges by what each program owes the others, in place of the law (docs/LAW.md)",
     );
-    let relies = Arg::new(alloc, "relies")
-        .long("relies")
-        .value_name("CALL")
-        .help(
-            "Judges by what this call of deolmutt relies on: deliver, seen, flag, move, copy, expunge or clean",
-        )
-        .action(ArgAction::Set);
-    let by = Arg::new(alloc, "by")
-        .long("by")
-        .value_name("ACTOR")
-        .help("Leaves the steps of this actor out, with --owed or --relies; may be repeated")
-        .action(ArgAction::Append);
-    command
-        .arg(without_law(owed)?)?
-        .arg(without_law(relies)?)?
-        .arg(without_law(by)?)
+    let command = with_other(command, owed, LAW_ALONE)?;
+    let relies = valued(
+        alloc,
+        "relies",
+        "CALL",
+        "Judges by what this call of deolmutt relies on: deliver, seen, flag, move, copy, expunge or clean",
+    );
+    let command = with_other(command, relies, LAW_ALONE)?;
+    let by = valued(
+        alloc,
+        "by",
+        "ACTOR",
+        "Leaves the steps of this actor out, with --owed or --relies; may be repeated",
+    );
+    with_other(command, by.action(ArgAction::Append), LAW_ALONE)
 }
 
-// An option that can't be used with those of the law.
-fn without_law<'a>(option: Arg<'a>) -> Result<Arg<'a>, AllocError> {
-    option.conflicts_with("allow")?.conflicts_with("least")
+// A command with one more option, which can't be used with these others.
+fn with_other<'a>(
+    command: Command<'a>,
+    option: Arg<'a>,
+    others: &[&'a str],
+) -> Result<Command<'a>, AllocError> {
+    command.arg(option.conflicts_with_all(others)?)
 }
