@@ -37,25 +37,27 @@ pub(crate) fn listed<R: Host>(
     if reply != DirReply::Ok {
         return Err(Failure::caused(session.alloc, Trouble::Fault, disk.cause()));
     }
-    print_all(session, maildir, shape, all.as_slice())
+    let mut page = Vec::new(session.alloc);
+    print_all(session, maildir, shape, all.as_slice(), &mut page)?;
+    Ok(Status::Done)
 }
 
+// Prints the lines of messages, by a page that is lent and empty.
 fn print_all<R: Host>(
     session: &Session<'_, R>,
     maildir: &str,
     shape: Shape,
     all: &[Listed],
-) -> Result<Status, Failure> {
-    let mut page = Vec::new(session.alloc);
+    page: &mut Vec<u8>,
+) -> Result<(), Failure> {
     for message in all {
-        push_listed(session, maildir, shape, message, &mut page)?;
+        push_listed(session, maildir, shape, message, page)?;
         if page.len() >= PAGE {
             print(session, page.as_slice())?;
             page.clear();
         }
     }
-    print(session, page.as_slice())?;
-    Ok(Status::Done)
+    print(session, page.as_slice())
 }
 
 // Appends the line of a message. A name that is none of a message has no line.

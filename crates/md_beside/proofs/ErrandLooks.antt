@@ -12,7 +12,8 @@ use Rattle.md_jobs.specs.Machines.Purposes.{searches}
 use Rattle.md_jobs.specs.Tasks.Errand.{Stage, Look, Act}
 use Rattle.md_core.specs.Alone.{entry_if, is_in_folder, is_in_place}
 use Rattle.md_core.specs.Machine.{Standing, working, answered}
-use Rattle.md_core.specs.Mailbox.{Entry, HasOnePath, mailbox_of, entry_of, is_message, is_tmp}
+use Rattle.md_core.specs.Mailbox.{Entry, HasOnePath, mailbox_of, entry_of}
+use Rattle.md_used.specs.Paths.{is_message, is_tmp}
 use Rattle.md_core.specs.Tasks.Task.{Task, Deliver, Errand, Clean}
 use Rattle.md_core.proofs.Answers.Turns.OneMessage.{HasLooked}
 use Rattle.md_core.proofs.Mailbox.Shown.{mailbox-shows, shows-mailbox}

@@ -24,7 +24,8 @@ use Rattle.md_jobs.specs.declared.purpose.Purpose.TheVariants.{Seen, Flag, Move,
 use Rattle.md_jobs.specs.declared.step.DirReply.{DirReply}
 use Rattle.md_jobs.specs.declared.step.DirReply.TheVariants as reply
 use Rattle.md_core.specs.Accepting.{MakesMessage}
-use Rattle.md_core.specs.Mailbox.{HasOnePath, is_message}
+use Rattle.md_core.specs.Mailbox.{HasOnePath}
+use Rattle.md_used.specs.Paths.{is_message}
 use Rattle.md_core.proofs.Directories.Frames.{not_tmp}
 use Rattle.md_core.proofs.Induction.Good.{ErrandFits}
 use Rattle.md_core.proofs.Looking.LookUps.{unique-part, message-name, info-in}

@@ -7,7 +7,7 @@ use Rattle.md_dirs.specs.declared.paths.Path.{Path}
 use Rattle.md_name.specs.Names.{unique_of}
 use Rattle.md_jobs.specs.declared.call.Call.{Call}
 use Rattle.md_jobs.specs.declared.call.Call.TheVariants as call
-use Rattle.md_core.specs.Mailbox.{is_message}
+use Rattle.md_used.specs.Paths.{is_message}
 use Rattle.md_core.proofs.Answers.Turns.OneMessage.{Trying, idle, looking, acting, TriesOn, IsOver}
 use Rattle.md_core.proofs.Machines.Errand.Table.Calls.{sought, tries_in}
 use Rattle.md_beside.specs.Story.{Story, Step, ours, step_at, state, standing, standing_from}

@@ -7,7 +7,8 @@ use Rattle.md_dirs.specs.declared.paths.Place.TheVariants.{Tmp, New, Cur}
 use Rattle.md_name.specs.Names.{unique_of}
 use Rattle.md_core.specs.Accepting.{name_used}
 use Rattle.md_core.specs.Interleaving.{NoneOverwritten}
-use Rattle.md_core.specs.Mailbox.{HasOnePath, is_message}
+use Rattle.md_core.specs.Mailbox.{HasOnePath}
+use Rattle.md_used.specs.Paths.{is_message}
 use Rattle.md_core.proofs.Directories.Frames.{not_tmp, tmp-key, message-key}
 use Rattle.md_jobs.specs.Asked.{Asked, create, append, link, rename, unlink, list}
 use Rattle.md_log.specs.declared.clause.Clause.{Clause}

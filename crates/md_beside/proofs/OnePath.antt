@@ -6,7 +6,8 @@ use Rattle.md_dirs.proofs.Sound.{by_path, by_number}
 use Rattle.md_dirs.specs.State.{file_at}
 use Rattle.md_dirs.specs.declared.paths.Path.{Path}
 use Rattle.md_name.specs.Names.{unique_of}
-use Rattle.md_core.specs.Mailbox.{HasOnePath, is_message}
+use Rattle.md_core.specs.Mailbox.{HasOnePath}
+use Rattle.md_used.specs.Paths.{is_message}
 use Rattle.md_law.specs.Clauses.{TwoNames}
 use Rattle.md_law.specs.History.{History, at, before}
 use Rattle.md_law.specs.Owed.{InTwoFolders}

@@ -19,7 +19,7 @@ use Rattle.md_jobs.specs.Turn.{Turn}
 use Rattle.md_jobs.specs.declared.step.DirReply.{DirReply}
 use Rattle.md_jobs.specs.declared.step.DirReply.TheVariants as reply
 use Rattle.md_core.specs.Accepting.{name_used}
-use Rattle.md_core.specs.Mailbox.{is_message}
+use Rattle.md_used.specs.Paths.{is_message}
 use Rattle.md_core.proofs.Directories.Frames.{tmp-key, not_tmp}
 use Rattle.md_core.proofs.Induction.Good.{IsUnused, HasNoMessage, IsUniqueName, StageFits}
 use Rattle.md_log.specs.declared.line.Call.TheVariants as told

@@ -7,7 +7,7 @@ use Rattle.md_dirs.specs.declared.paths.Place.TheVariants.{Tmp, New, Cur}
 use Rattle.md_name.specs.Names.{unique_of}
 use Rattle.md_jobs.specs.declared.call.Call.{Call}
 use Rattle.md_core.specs.Accepting.{MakesMessage, name_used}
-use Rattle.md_core.specs.Mailbox.{is_message}
+use Rattle.md_used.specs.Paths.{is_message}
 use Rattle.md_core.proofs.Directories.Frames.{message-key, not_tmp}
 use Rattle.md_log.specs.declared.clause.Clause.{Clause}
 use Rattle.md_log.specs.declared.clause.Clause.TheVariants as clause

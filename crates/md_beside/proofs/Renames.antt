@@ -9,7 +9,8 @@ use Rattle.md_dirs.specs.Calls.{after_rename, after_unlink, is_one_file, with_fi
 use Rattle.md_dirs.specs.State.{State, file_at}
 use Rattle.md_dirs.specs.declared.paths.Path.{Path}
 use Rattle.md_name.specs.Names.{unique_of}
-use Rattle.md_core.specs.Mailbox.{HasOnePath, is_message}
+use Rattle.md_core.specs.Mailbox.{HasOnePath}
+use Rattle.md_used.specs.Paths.{is_message}
 use Rattle.md_core.proofs.Directories.Calls.Rename.{moved-is}
 
 -- the file of a message is renamed to another name of it: the new path names it, the old is gone, and the others are as they were

@@ -11,7 +11,8 @@ use Rattle.md_dirs.specs.declared.paths.Place.TheVariants.{New, Cur}
 use Rattle.md_jobs.specs.Asked.{create, append, link, rename, unlink, list}
 use Rattle.md_jobs.specs.declared.step.DirReply.{DirReply}
 use Rattle.md_jobs.specs.declared.step.DirReply.TheVariants as reply
-use Rattle.md_core.specs.Mailbox.{HasOnePath, is_message}
+use Rattle.md_core.specs.Mailbox.{HasOnePath}
+use Rattle.md_used.specs.Paths.{is_message}
 use Rattle.md_log.specs.declared.line.Call.TheVariants as told
 use Rattle.md_log.specs.declared.line.Naming.{Naming}
 use Rattle.md_log.specs.declared.line.Naming.TheVariants as naming

@@ -16,7 +16,8 @@ use Rattle.md_jobs.specs.declared.effect.Effect.{Effect}
 use Rattle.md_jobs.specs.declared.step.DirReply.{DirReply}
 use Rattle.md_jobs.specs.declared.step.DirReply.TheVariants as reply
 use Rattle.md_name.specs.Names.{unique_of}
-use Rattle.md_core.specs.Mailbox.{Entry, HasOnePath, is_message}
+use Rattle.md_core.specs.Mailbox.{Entry, HasOnePath}
+use Rattle.md_used.specs.Paths.{is_message}
 use Rattle.md_core.specs.Alone.{alone}
 use Rattle.md_core.specs.Answering.{is_ok, is_unused}
 use Rattle.md_core.specs.Accepting.{IsAccepted, MakesMessage, name_used}

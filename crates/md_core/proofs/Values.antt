@@ -25,12 +25,13 @@ pub use Rattle.md_core.specs.Machine.{Machine, Occurrence, Standing, after_event
 pub use Rattle.md_core.specs.Stepping.{AsAlone, IsRun, ShowsStep, Simulates, Succeeds, effects_by}
 pub use Rattle.md_core.specs.Trace.{IsAnswered, IsStepOf, IsTrace, Step, Trace, box, call_at, effects, file_in, state, state_after, step_at, steps_of}
 pub use Rattle.md_core.specs.Tracing.{GrowsByStep, HasOneClock, IsLogged, IsShown, KeepsStates, clock_before, deeds_from, trace_of}
-pub use Rattle.md_core.specs.Mailbox.{Entry, HasOnePath, Mailbox, bytes_of, entry_of, is_message, is_tmp, mailbox_of, message_of, name_cmp}
+pub use Rattle.md_core.specs.Mailbox.{Entry, HasOnePath, Mailbox, bytes_of, entry_of, mailbox_of, message_of, name_cmp}
+pub use Rattle.md_used.specs.Paths.{is_message, is_tmp}
 pub use Rattle.md_core.specs.History.{IsAllowed, IsAllowedAfter, IsLegal, IsNowhere, IsThere, Listed, MayGetFlags, Names, WasNowhere, as_listed, name_of, names_after, names_after_change, names_of, size_in}
 pub use Rattle.md_core.specs.Alone.{Outcome, alone, copy_alone, copy_by, deliver_alone, entry_if, expunge_alone, expunge_by, flag_alone, flag_by, flags_in, info_copied, info_with, is_in_folder, is_in_place, move_alone, refuse, seen_alone, seen_by}
 pub use Rattle.md_core.specs.Accepting.{IsAccepted, IsFresh, IsLookUp, MakesMessage, name_used}
 pub use Rattle.md_core.specs.Interleaving.{Acts, HasSeenOld, Interleaves, IsCopied, IsCopyTo, IsDelivery, IsDeliveryOf, IsEffectOf, IsOwnEffect, IsTmpOf, IsWhole, KeepsTmp, MayChange, NoneOverwritten, TakesEffect, is_effect_at, is_success}
-pub use Rattle.md_core.specs.Used.{is_among, may_be_among}
+pub use Rattle.md_used.specs.Used.{is_among, may_be_among}
 pub use Rattle.md_jobs.specs.Asked.{Asked, append, ask_of, create, is_fault, link, list, rename, reply_by, state_by, unlink}
 pub use Rattle.md_jobs.specs.Turn.{After, NoCall, Takes, TakesOrEnds, Turn, TurnOf, ends, ends_by, goes_on, reply_of, rows_for}
 pub use Rattle.md_dirs.specs.Rows.{ends_unique, is_in, is_named, row_by, row_named, row_of, rows_of}
@@ -40,9 +41,10 @@ pub use Rattle.std.specs.Option.{option_and_then, option_map, option_map_or, opt
 pub use Rattle.std.specs.List.{after_first, before_first, cons_option, filter_map, list_all, list_any, position_or_len, starts_with}
 pub use Rattle.std.specs.FinMap.{entries, entries_sorted, find, get, get-entries, get-from_entries, is_sorted, same_map}
 pub use Rattle.std.specs.Str.{bytes_eq}
-pub use Rattle.md_core.specs.Looking.{IsLookOf, entries_before, fault_after, is_before, is_message_of, is_of, is_tmp_of}
+pub use Rattle.md_core.specs.Looking.{IsLookOf, entries_before, is_before}
+pub use Rattle.md_used.specs.Seen.{fault_after, is_message_of, is_of, is_tmp_of}
 pub use Rattle.md_core.specs.Submitting.{bad_tries, checks, checks_of_look_up, first_met, is_used, makes, most_tries, no_folder, submit_refusal, uses}
-pub use Rattle.md_core.specs.Loading.{fault_of, first_fault, is_bad_name, is_long_unique, is_same_message, load_refusal}
+pub use Rattle.md_used.specs.Loading.{fault_of, first_fault, is_bad_name, is_long_unique, is_same_message, load_refusal}
 pub use Rattle.md_core.specs.Gathering.{AreOf, Covers, GrowsFrom, HasMade, HasName, KeepsMade, KeepsUsed, StillUsed, holds, is_used_before, may_change, may_take}
 pub use Rattle.md_core.specs.Worlds.{AreUsed, IsWorld, TakesAll, machine_by, occurrences, run_of}
 pub use Rattle.md_core.specs.Laws.{HasJob, HasPath, IsInCur, IsNotInTmp, IsPlaced, KeepsPlaces}
@@ -53,8 +55,8 @@ pub use Rattle.md_core.specs.Bounds.{most_over, most_steps}
 pub use Rattle.md_core.specs.Sparing.{AreApart, CleanersSpare}
 pub use Rattle.md_core.specs.Settling.{first_unanswered, settled}
 pub use Rattle.md_core.specs.Joining.{AddsName, HasJobsFromOne, HasJobsTo, UsesAgain, job_after, joined, numbered_after}
-pub use Rattle.md_core.specs.declared.used.Used.{Used}
-pub use Rattle.md_core.specs.declared.world.looking.Seen.{Seen}
+pub use Rattle.md_used.specs.declared.used.Used.{Used}
+pub use Rattle.md_used.specs.declared.seen.Seen.{Seen}
 pub use Rattle.md_dirs.specs.Calls.{Device, after_append, after_create, after_rename, after_unlink, empty_file, file_with_more, is_one_file, with_files_still_named, with_path, without_path}
 pub use Rattle.md_dirs.specs.declared.paths.File.{File}
 pub use Rattle.md_dirs.specs.declared.calls.DirError.{DirError}

@@ -1,4 +1,3 @@
-pub mod UsedLemmas
 pub mod UniqueNames
 pub mod Quick
 pub mod Held

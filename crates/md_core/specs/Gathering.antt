@@ -10,8 +10,8 @@ use Rattle.md_dirs.specs.declared.paths.Place.TheVariants.{Tmp}
 use Rattle.md_jobs.specs.declared.call.Call.{Call}
 use Rattle.md_jobs.specs.declared.call.Call.TheVariants.{Expunge, Clean}
 use Rattle.md_core.specs.Submitting.{uses, makes}
-use Rattle.md_core.specs.Used.{is_among}
-use Rattle.md_core.specs.declared.used.Used.{Used}
+use Rattle.md_used.specs.Used.{is_among}
+use Rattle.md_used.specs.declared.used.Used.{Used}
 
 -- names are those that entries use up
 abbrev pub AreOf : List (Path × ℕ) → List (List ℕ) → Type 0

@@ -14,7 +14,8 @@ use Rattle.md_jobs.specs.declared.call.Call.TheVariants as call
 use Rattle.md_jobs.specs.declared.effect.Effect.{Effect}
 use Rattle.md_jobs.specs.declared.step.DirReply.{DirReply}
 use Rattle.md_jobs.specs.declared.step.DirReply.TheVariants as reply
-use Rattle.md_core.specs.Mailbox.{Entry, mailbox_of, is_tmp, is_message, HasOnePath}
+use Rattle.md_core.specs.Mailbox.{Entry, mailbox_of, HasOnePath}
+use Rattle.md_used.specs.Paths.{is_tmp, is_message}
 use Rattle.md_core.specs.Alone.{alone}
 use Rattle.md_core.specs.History.{names_of, names_after, IsLegal}
 use Rattle.md_jobs.specs.Asked.{Asked, link, rename, unlink, list}

@@ -8,7 +8,8 @@ use Rattle.md_dirs.specs.declared.paths.Place.TheVariants.{Tmp, Cur}
 use Rattle.md_name.specs.Names.{unique_of}
 use Rattle.md_jobs.specs.declared.effect.Effect.{Effect}
 use Rattle.md_core.specs.History.{Listed, Names, names_after}
-use Rattle.md_core.specs.Mailbox.{bytes_of, is_message}
+use Rattle.md_core.specs.Mailbox.{bytes_of}
+use Rattle.md_used.specs.Paths.{is_message}
 use Rattle.md_core.specs.Runs.{Run, jobs_of}
 
 -- what can be seen of a path whose file has this number

@@ -5,8 +5,6 @@ pub mod Tasks
 pub mod Machine
 pub mod Standing
 pub mod Runs
-pub mod Used
-pub mod Loading
 pub mod Submitting
 pub mod Answering
 pub mod Sparing

@@ -1,5 +1,5 @@
 -- A mailbox: a finite map from unique names to where a message is and what it holds. It knows no files, no tmp and no retries.
-use Rattle.std.specs.Prelude.{ℕ, ◌≡◌, List, [], Option, Some, None, Bool, true, false, ◌&&◌, not, if◌then◌else◌}
+use Rattle.std.specs.Prelude.{ℕ, ◌≡◌, List, [], Option, Some, None, true, if◌then◌else◌}
 use Rattle.std.specs.List.{filter_map}
 use Rattle.std.specs.Ordering.{nat_cmp}
 use Rattle.std.specs.Cmp.Lexicographic.{slice_cmp}
@@ -8,8 +8,8 @@ use Rattle.md_dirs.specs.State.{State, file_at, file_by}
 use Rattle.md_dirs.specs.declared.paths.Path.{Path}
 use Rattle.md_dirs.specs.declared.paths.File.{File}
 use Rattle.md_dirs.specs.declared.paths.Place.{Place}
-use Rattle.md_dirs.specs.declared.paths.Place.TheVariants.{Tmp, New, Cur}
-use Rattle.md_name.specs.Names.{unique_of, info_text, is_message_name}
+use Rattle.md_name.specs.Names.{unique_of, info_text}
+use Rattle.md_used.specs.Paths.{is_message}
 
 -- a message: its folder, new or cur, the text after the colon of its name, if there is one, and its bytes
 pub record Entry : Type 0 where
@@ -30,16 +30,6 @@ Mailbox = finmap.FinMap name_cmp Entry
 abbrev pub bytes_of : Option File → List ℕ
 bytes_of None = []
 bytes_of (Some file) = file.bytes
-
--- whether a directory is tmp
-abbrev pub is_tmp : Place → Bool
-is_tmp Tmp = true
-is_tmp New = false
-is_tmp Cur = false
-
--- maildir(5): a message has a name in new or cur that begins with no dot
-abbrev pub is_message : Path → Bool
-is_message p = not (is_tmp p.place) && is_message_name p.name
 
 -- the message of a path and the number of its file, as it is there
 abbrev pub entry_of : State → Path → ℕ → Entry

@@ -9,8 +9,8 @@ use Rattle.md_dirs.specs.declared.paths.Path.{Path}
 use Rattle.md_dirs.specs.declared.paths.Place.{Place}
 use Rattle.md_dirs.specs.declared.paths.Place.TheVariants.{New, Cur}
 use Rattle.md_name.specs.Names.{unique_of, is_message_name}
-use Rattle.md_core.specs.Loading.{is_bad_name, is_long_unique}
-use Rattle.md_core.specs.Mailbox.{is_tmp}
+use Rattle.md_used.specs.Loading.{is_bad_name, is_long_unique}
+use Rattle.md_used.specs.Paths.{is_tmp}
 use Rattle.md_core.specs.Runs.{clock_by}
 
 -- whether a path has a fault by itself

@@ -11,7 +11,7 @@ use Rattle.md_core.specs.Alone.{alone}
 use Rattle.md_core.specs.Trace.{Step, call_at}
 use Rattle.md_core.specs.Machine.{Machine, Occurrence, step_out, job_at, step_of as done_of}
 use Rattle.md_core.specs.Runs.{Run, first_clock, machine_at, machine_of, effects_of, step_refusal, box_in}
-use Rattle.md_core.specs.Loading.{load_refusal}
+use Rattle.md_used.specs.Loading.{load_refusal}
 use Rattle.md_core.specs.Submitting.{submit_refusal}
 use Rattle.md_core.specs.Interleaving.{is_effect_at, is_success}
 

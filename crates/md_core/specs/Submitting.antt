@@ -10,7 +10,7 @@ use Rattle.md_jobs.specs.declared.error.CoreError.{CoreError}
 use Rattle.md_jobs.specs.declared.error.CoreError.TheVariants as core
 use Rattle.md_jobs.specs.declared.call.Call.{Call}
 use Rattle.md_jobs.specs.declared.call.Call.TheVariants.{Deliver, Seen, Flag, Move, Expunge, Copy, Clean}
-use Rattle.md_core.specs.Mailbox.{is_tmp, is_message}
+use Rattle.md_used.specs.Paths.{is_tmp, is_message}
 use Rattle.md_core.specs.Runs.{Run}
 
 -- a body has at most 16 MiB

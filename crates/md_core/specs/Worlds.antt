@@ -11,8 +11,8 @@ use Rattle.md_core.specs.Standing.{JobView, standings}
 use Rattle.md_core.specs.Runs.{Run, machine_of, dirs_of, jobs_of, failures_of, calls_made_of, and_events, step_refusal, IsRefusal}
 use Rattle.md_core.specs.Submitting.{is_used}
 use Rattle.md_core.specs.Gathering.{Covers, HasMade, is_used_before, may_change}
-use Rattle.md_core.specs.Used.{is_among}
-use Rattle.md_core.specs.declared.used.Used.{Used}
+use Rattle.md_used.specs.Used.{is_among}
+use Rattle.md_used.specs.declared.used.Used.{Used}
 use Rattle.md_core.specs.Stepping.{IsRun}
 
 -- events and their marks

@@ -3,7 +3,6 @@
 
 mod jobs;
 pub mod laws;
-mod used;
 mod world;
 
 pub use jobs::task::Task;

@@ -1,9 +1,9 @@
 //! The world: directories, the jobs on them, and the log of their steps.
 use crate::jobs::job::Job;
-use crate::used::Used;
 use log::Log;
 use md_dirs::Dirs;
 use md_jobs::Snapshot;
+use md_used::Used;
 use std::alloc::Global;
 use std::marker::Model;
 

@@ -11,7 +11,7 @@ use denote.Steps.{nothing}
 use denote.Struct.Struct.{within}
 use denote.Struct.Owning.{shape, to}
 use Rattle.std.specs.declared.option.Option.TheVariants.{None}
-use Rattle.md_ffi.specs.contracts.driven.Driven as kept
+use Rattle.md_driven.specs.contracts.driven.Driven as kept
 use Rattle.md_ffi.specs.contracts.driven_slot.DrivenSlot as slot
 use Rattle.md_ffi.proofs.Values.{Heap, both}
 

@@ -3,8 +3,8 @@ use Rattle.std.proofs.Common.{ℕ, ◌≡◌, ◌⊎◌, ◌==◌, List, [], ◌
 use Rattle.md_dirs.specs.declared.image.ImageFile.{ImageFile}
 use Rattle.md_script.specs.declared.error.PlayKind.TheVariants.{NoMemory}
 use Rattle.md_ffi.specs.Files.{file_in, AreFiles, StopsAt}
-use Rattle.md_ffi.specs.declared.refusal.Refusal.{Refusal}
-use Rattle.md_ffi.specs.declared.refusal.Refusal.TheVariants.{Kind}
+use Rattle.md_driven.specs.declared.refusal.Refusal.{Refusal}
+use Rattle.md_driven.specs.declared.refusal.Refusal.TheVariants.{Kind}
 use Rattle.md_ffi.proofs.Records.{empty, not-empty}
 
 pub more : (files : List ImageFile) (bytes left : List ℕ) → AreFiles files bytes left → (file : ImageFile) (rest : List ℕ)

@@ -1,6 +1,5 @@
 pub mod DrivenSlots
 pub mod Filed
-pub mod Laid
 pub mod Listed
 pub mod Packed
 pub mod Records
@@ -8,4 +7,3 @@ pub mod Refused
 pub mod Slots
 pub mod Unanswered
 pub mod Values
-pub mod Wrapping

@@ -6,7 +6,7 @@ use Rattle.std.proofs.lemmas.List.Elements.{All-append, All-cons, All-nil}
 use Rattle.std.proofs.lemmas.List.Folds.{length-flat_map-take}
 use Rattle.std.specs.List.{flat_map}
 use Rattle.md_dirs.specs.Path.{place_index}
-use Rattle.md_view.specs.declared.entry.Entry.{Entry}
+use Rattle.md_listing.specs.declared.entry.Entry.{Entry}
 use Rattle.md_ffi.specs.Reading.{four_bytes, eight_bytes, entry_bytes, entries_bytes, HasShortName}
 
 -- what stands before a name takes 16 bytes
@@ -45,7 +45,3 @@ pub has_room : (es : List Entry) (i : ℕ) (e : Entry) → i < length es → e �
 has_room es i e less is =
     subst (λ (x : Entry). length (flat_map entry_bytes (take i es)) + length (entry_bytes x) ≤ length (entries_bytes es)) (sym is)
     (length-flat_map-take entry_bytes es i e less)
-
--- lists that end alike from a position on do so from each later one on
-pub ends_alike_after : {X : Type 0} (n k : ℕ) (xs ys : List X) → drop n xs ≡ drop n ys → drop (n + k) xs ≡ drop (n + k) ys
-ends_alike_after n k xs ys same = sym (drop-drop k n xs) ∙ ap (drop k) same ∙ drop-drop k n ys

@@ -6,8 +6,8 @@ use Rattle.md_jobs.specs.declared.answer.Answer.{Answer}
 use Rattle.md_core.specs.Runs.{Run}
 use Rattle.md_ffi.specs.Calling.{Comes}
 use Rattle.md_ffi.specs.Records.{record_in, Answered, Record}
-use Rattle.md_ffi.specs.Shown.{answer_shown}
-use Rattle.md_ffi.specs.declared.shown.AnswerShown.{AnswerShown}
+use Rattle.md_driven.specs.Shown.{answer_shown}
+use Rattle.md_driven.specs.declared.shown.AnswerShown.{AnswerShown}
 
 pub answered-more : (now : ℕ) (so_far : List AnswerShown) (bytes left : List ℕ) (old mid new : Run) → Answered now so_far bytes old left mid
     → (r : Record) → record_in left ≡ Ok r → (a : Answer) (shown : AnswerShown) → shown ≡ answer_shown (Some a)

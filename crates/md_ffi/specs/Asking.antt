@@ -12,8 +12,8 @@ use Rattle.md_script.specs.declared.error.PlayKind.TheVariants.{Name}
 use Rattle.md_text.specs.Bind.{◌>>=◌}
 use Rattle.md_ffi.specs.declared.asked.Asked.{Asked}
 use Rattle.md_ffi.specs.declared.asked.Own.{Own}
-use Rattle.md_ffi.specs.declared.refusal.Refusal.{Refusal}
-use Rattle.md_ffi.specs.declared.refusal.Refusal.TheVariants.{BadKind, Kind}
+use Rattle.md_driven.specs.declared.refusal.Refusal.{Refusal}
+use Rattle.md_driven.specs.declared.refusal.Refusal.TheVariants.{BadKind, Kind}
 
 -- the moment by a job's own clock, where one is given
 abbrev pub own_at : Own → Option ℕ

@@ -9,10 +9,10 @@ use Rattle.md_core.specs.Submitting.{bad_tries}
 use Rattle.md_script.specs.Kinds.{core_kind}
 use Rattle.md_text.specs.Bind.{◌>>=◌}
 use Rattle.md_ffi.specs.Asking.{call_at, unless}
-use Rattle.md_ffi.specs.Driving.{Driving, driving_of}
-use Rattle.md_ffi.specs.Numbers.{refusal_number}
+use Rattle.md_driven.specs.Driving.{Driving, driving_of}
+use Rattle.md_driven.specs.Numbers.{refusal_number}
 use Rattle.md_ffi.specs.declared.asked.Asked.{Asked}
-use Rattle.md_ffi.specs.declared.refusal.Refusal.{Refusal}
+use Rattle.md_driven.specs.declared.refusal.Refusal.{Refusal}
 
 -- why a call is refused that looks for one message: its unique name, or its tries
 abbrev pub look_up_refusal : List ℕ → ℕ → Option CoreError

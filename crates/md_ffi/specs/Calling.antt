@@ -10,13 +10,13 @@ use Rattle.md_core.specs.Submitting.{submit_refusal}
 use Rattle.md_script.specs.declared.error.PlayKind.TheVariants.{NoMemory}
 use Rattle.md_ffi.specs.Asking.{call_at}
 use Rattle.md_ffi.specs.Doing.{submitted}
-use Rattle.md_ffi.specs.Numbers.{refusal_number}
-use Rattle.md_ffi.specs.Shown.{answer_shown}
+use Rattle.md_driven.specs.Numbers.{refusal_number}
+use Rattle.md_driven.specs.Shown.{answer_shown}
 use Rattle.md_ffi.specs.declared.asked.Asked.{Asked}
 use Rattle.md_ffi.specs.declared.jobs.NoAnswer.{NoAnswer}
 use Rattle.md_ffi.specs.declared.jobs.NoAnswer.TheVariants.{Refused, Stopped}
-use Rattle.md_ffi.specs.declared.refusal.Refusal.TheVariants.{Kind}
-use Rattle.md_ffi.specs.declared.shown.AnswerShown.{AnswerShown}
+use Rattle.md_driven.specs.declared.refusal.Refusal.TheVariants.{Kind}
+use Rattle.md_driven.specs.declared.shown.AnswerShown.{AnswerShown}
 
 -- A call was made, and this is its answer. The run goes on by the call and by steps of its job, all at one moment, and by nothing else; a
 -- success has its one effect; and the call did what it does alone, or nothing.

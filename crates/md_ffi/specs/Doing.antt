@@ -14,14 +14,14 @@ use Rattle.md_script.specs.Kinds.{core_kind}
 use Rattle.md_script.specs.declared.error.PlayKind.TheVariants.{NoMemory}
 use Rattle.md_text.specs.Bind.{◌>>=◌}
 use Rattle.md_ffi.specs.Asking.{call_at, unless}
-use Rattle.md_ffi.specs.Numbers.{core_number, refusal_number}
-use Rattle.md_ffi.specs.Shown.{answer_shown, step_shown}
-use Rattle.md_ffi.specs.declared.shown.AnswerShown.{AnswerShown}
-use Rattle.md_ffi.specs.declared.shown.StepShown.{StepShown}
+use Rattle.md_driven.specs.Numbers.{core_number, refusal_number}
+use Rattle.md_driven.specs.Shown.{answer_shown, step_shown}
+use Rattle.md_driven.specs.declared.shown.AnswerShown.{AnswerShown}
+use Rattle.md_driven.specs.declared.shown.StepShown.{StepShown}
 use Rattle.md_ffi.specs.declared.asked.Asked.{Asked}
 use Rattle.md_ffi.specs.declared.held.Held.{Held}
-use Rattle.md_ffi.specs.declared.refusal.Refusal.{Refusal}
-use Rattle.md_ffi.specs.declared.refusal.Refusal.TheVariants.{Kind, Closed, Unanswered}
+use Rattle.md_driven.specs.declared.refusal.Refusal.{Refusal}
+use Rattle.md_driven.specs.declared.refusal.Refusal.TheVariants.{Kind, Closed, Unanswered}
 
 -- a closed handle stays so and refuses, and this is kept; behind an open one the world goes from one run to another, and this holds of the
 -- two

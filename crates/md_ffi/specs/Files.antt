@@ -6,12 +6,12 @@ use Rattle.md_core.specs.Runs.{Run}
 use Rattle.md_script.specs.Sessions.{run_over}
 use Rattle.md_script.specs.declared.error.PlayKind.{PlayKind}
 use Rattle.md_text.specs.Bind.{◌>>=◌}
-use Rattle.md_ffi.specs.Numbers.{kind_number, refusal_number}
-use Rattle.md_ffi.specs.Reading.{place_at}
+use Rattle.md_driven.specs.Numbers.{kind_number, refusal_number}
+use Rattle.md_driven.specs.Shown.{place_at}
 use Rattle.md_ffi.specs.Records.{cut, eight_at, four_at}
 use Rattle.md_ffi.specs.declared.held.Held.{Held}
-use Rattle.md_ffi.specs.declared.refusal.Refusal.{Refusal}
-use Rattle.md_ffi.specs.declared.refusal.Refusal.TheVariants.{NoPlace}
+use Rattle.md_driven.specs.declared.refusal.Refusal.{Refusal}
+use Rattle.md_driven.specs.declared.refusal.Refusal.TheVariants.{NoPlace}
 
 -- the file of a record's head, with this place, name and bytes
 abbrev pub file_of : List ℕ → Place → List ℕ → List ℕ → ImageFile

@@ -3,18 +3,12 @@ use Rattle.std.specs.Prelude.{ℕ, ◌≡◌, ◌⊎◌, ◌==◌, Option, Some,
 use Rattle.md_jobs.specs.declared.step.DirReply.{DirReply}
 use Rattle.md_jobs.specs.declared.step.DirReply.TheVariants as reply
 use Rattle.md_jobs.specs.declared.step.StepOut.{StepOut}
-use Rattle.md_ffi.specs.Driving.{Driving, requested, TookReply}
-use Rattle.md_ffi.specs.Numbers.{refusal_number}
-use Rattle.md_ffi.specs.Shown.{step_shown}
-use Rattle.md_ffi.specs.declared.refusal.Refusal.{Refusal}
-use Rattle.md_ffi.specs.declared.refusal.Refusal.TheVariants.{BadReply, Closed}
-use Rattle.md_ffi.specs.declared.shown.StepShown.{StepShown}
-
--- the reply of a number
-abbrev pub reply_at : ℕ → Option DirReply
-reply_at n =
-    if n == 1 then Some reply.Ok else if n == 2 then Some reply.Exists else if n == 3 then Some reply.NotFound
-    else if n == 4 then Some reply.Fault else None
+use Rattle.md_driven.specs.Driving.{Driving, requested, TookReply}
+use Rattle.md_driven.specs.Numbers.{refusal_number}
+use Rattle.md_driven.specs.Shown.{step_shown}
+use Rattle.md_driven.specs.declared.refusal.Refusal.{Refusal}
+use Rattle.md_driven.specs.declared.refusal.Refusal.TheVariants.{BadReply, Closed}
+use Rattle.md_driven.specs.declared.shown.StepShown.{StepShown}
 
 -- a closed handle stays so and refuses, and this is kept; behind an open one the job goes on, and this holds of it before and after
 abbrev pub OnDriven : Option Driving → Option Driving → ℕ → Type 0 → (Driving → Driving → Type 0) → Type 0

@@ -10,8 +10,8 @@ use Rattle.md_judge.specs.Logs.{Log, log_of}
 use Rattle.md_judge.specs.Orders.{AreFoundInOrder}
 use Rattle.md_judge.specs.Taken.{IsWithoutTicks, by_law}
 use Rattle.md_judge.specs.Verdict.{AreInOrder, HasNoTicks, IsAmong, IsFinding}
-use Rattle.md_ffi.specs.Laying.{Lays}
-use Rattle.md_ffi.specs.Numbers.{fault_number}
+use Rattle.md_driven.specs.Laying.{Lays}
+use Rattle.md_driven.specs.Numbers.{fault_number}
 use Rattle.md_ffi.specs.Reading.{four_bytes, eight_bytes}
 
 -- a finding: the number of its line, that of its clause in the order of the law, from 1, and 4 bytes that are 0

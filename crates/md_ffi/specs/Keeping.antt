@@ -7,11 +7,11 @@ use Rattle.md_dirs.specs.State.{bytes_at_path}
 use Rattle.md_dirs.specs.declared.paths.Place.{Place}
 use Rattle.md_dirs.specs.declared.rows.Row.{Row}
 use Rattle.md_core.specs.Runs.{Run, dirs_of}
-use Rattle.md_ffi.specs.Numbers.{refusal_number}
-use Rattle.md_ffi.specs.Reading.{place_at}
+use Rattle.md_driven.specs.Numbers.{refusal_number}
+use Rattle.md_driven.specs.Shown.{place_at}
 use Rattle.md_ffi.specs.declared.keeping.RowShown.{RowShown}
-use Rattle.md_ffi.specs.declared.refusal.Refusal.{Refusal}
-use Rattle.md_ffi.specs.declared.refusal.Refusal.TheVariants.{NoPlace, NotThere}
+use Rattle.md_driven.specs.declared.refusal.Refusal.{Refusal}
+use Rattle.md_driven.specs.declared.refusal.Refusal.TheVariants.{NoPlace, NotThere}
 
 -- the stamp and the size of a row
 abbrev pub row_shown : Row → RowShown

@@ -7,7 +7,7 @@ use Rattle.md_script.specs.Indexing.{at_line}
 use Rattle.md_script.specs.Kinds.{at_no_line}
 use Rattle.md_script.specs.Sessions.{run_over}
 use Rattle.md_script.specs.Setups.{Setting, setting_of}
-use Rattle.md_ffi.specs.Numbers.{kind_number}
+use Rattle.md_driven.specs.Numbers.{kind_number}
 use Rattle.md_ffi.specs.declared.held.Held.{Held}
 
 -- The store over the folders and files of a setup, where no line of it was refused. One that can't be opened is refused at no line.

@@ -8,10 +8,10 @@ use Rattle.md_script.specs.Kinds.{at_no_line, name_kind}
 use Rattle.md_script.specs.declared.error.PlayError.{PlayError}
 use Rattle.md_script.specs.declared.error.PlayKind.TheVariants.{NoMemory}
 use Rattle.md_ffi.specs.Asking.{unless}
-use Rattle.md_ffi.specs.Laying.{Lays}
-use Rattle.md_ffi.specs.Numbers.{kind_number, refusal_number}
-use Rattle.md_ffi.specs.declared.refusal.Refusal.{Refusal}
-use Rattle.md_ffi.specs.declared.refusal.Refusal.TheVariants.{NoMessageName}
+use Rattle.md_driven.specs.Laying.{Lays}
+use Rattle.md_driven.specs.Numbers.{kind_number, refusal_number}
+use Rattle.md_driven.specs.declared.refusal.Refusal.{Refusal}
+use Rattle.md_driven.specs.declared.refusal.Refusal.TheVariants.{NoMessageName}
 
 -- the unique name of a second, a microsecond, a process, a count and a host, or why there is none
 unfoldable pub made : ℕ → ℕ → ℕ → ℕ → List ℕ → Result (List ℕ) Refusal

@@ -1,5 +1,5 @@
 -- What is read of a world, as C has it.
-use Rattle.std.specs.Prelude.{ℕ, ◌==◌, ◌++◌, ◌<◌, ◌^◌, List, Option, Some, None, Result, Ok, Err, length, ok_or, flat_map, nat_lt, slice_get, if◌then◌else◌}
+use Rattle.std.specs.Prelude.{ℕ, ◌++◌, ◌<◌, ◌^◌, List, Option, Some, None, Result, Ok, Err, length, ok_or, flat_map, nat_lt, slice_get, if◌then◌else◌}
 use Rattle.std.specs.Option.{option_map}
 use Rattle.std.specs.FinMap as finmap
 use Rattle.std.specs.Int.{w32, w64, to_le_bytes}
@@ -7,19 +7,15 @@ use Rattle.md_dirs.specs.Path.{place_index}
 use Rattle.md_dirs.specs.Rows.{rows_of}
 use Rattle.md_dirs.specs.declared.rows.Row.{Row}
 use Rattle.md_dirs.specs.declared.paths.Place.{Place}
-use Rattle.md_dirs.specs.declared.paths.Place.TheVariants.{Tmp, New, Cur}
 use Rattle.md_jobs.specs.declared.error.CoreError.TheVariants.{NoFolder}
 use Rattle.md_core.specs.Mailbox.{Entry as Message, mailbox_of}
 use Rattle.md_core.specs.Runs.{Run, dirs_of}
-use Rattle.md_view.specs.Law.{names_at, listing_of}
-use Rattle.md_view.specs.declared.entry.Entry.{Entry}
+use Rattle.md_listing.specs.Law.{names_at, listing_of}
+use Rattle.md_listing.specs.declared.entry.Entry.{Entry}
 use Rattle.md_script.specs.declared.error.PlayKind.TheVariants.{Core}
-use Rattle.md_ffi.specs.declared.refusal.Refusal.{Refusal}
-use Rattle.md_ffi.specs.declared.refusal.Refusal.TheVariants.{Kind, NoPlace, NotThere}
-
--- the place of a number
-abbrev pub place_at : ℕ → Option Place
-place_at n = if n == 0 then Some Tmp else if n == 1 then Some New else if n == 2 then Some Cur else None
+use Rattle.md_driven.specs.Shown.{place_at}
+use Rattle.md_driven.specs.declared.refusal.Refusal.{Refusal}
+use Rattle.md_driven.specs.declared.refusal.Refusal.TheVariants.{Kind, NoPlace, NotThere}
 
 -- a number in 4 bytes, little-endian
 unfoldable pub four_bytes : ℕ → List ℕ

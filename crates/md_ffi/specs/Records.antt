@@ -5,13 +5,13 @@ use Rattle.md_jobs.specs.declared.answer.Answer.{Answer}
 use Rattle.md_core.specs.Runs.{Run}
 use Rattle.md_text.specs.Bind.{◌>>=◌}
 use Rattle.md_ffi.specs.Calling.{no_answer_number, Comes}
-use Rattle.md_ffi.specs.Numbers.{refusal_number}
-use Rattle.md_ffi.specs.Shown.{answer_shown}
+use Rattle.md_driven.specs.Numbers.{refusal_number}
+use Rattle.md_driven.specs.Shown.{answer_shown}
 use Rattle.md_ffi.specs.declared.asked.Asked.{Asked}
 use Rattle.md_ffi.specs.declared.jobs.NoAnswer.{NoAnswer}
-use Rattle.md_ffi.specs.declared.refusal.Refusal.{Refusal}
-use Rattle.md_ffi.specs.declared.refusal.Refusal.TheVariants.{BadRecord, Room}
-use Rattle.md_ffi.specs.declared.shown.AnswerShown.{AnswerShown}
+use Rattle.md_driven.specs.declared.refusal.Refusal.{Refusal}
+use Rattle.md_driven.specs.declared.refusal.Refusal.TheVariants.{BadRecord, Room}
+use Rattle.md_driven.specs.declared.shown.AnswerShown.{AnswerShown}
 
 -- the first bytes, so many, and the rest
 abbrev pub cut : ℕ → List ℕ → Result (List ℕ × List ℕ) Refusal

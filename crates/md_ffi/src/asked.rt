@@ -1,12 +1,12 @@
 //! What a caller in C asks.
 ghost use Rattle.std.specs.Prelude.{◌≡◌, ◌⊎◌, Ok, Err, MatchResult};
 ghost use Rattle.md_ffi.specs.Asking.{call_at, flags_at, own_at};
-ghost use Rattle.md_ffi.specs.declared.refusal.Refusal.TheVariants.{Kind};
+ghost use Rattle.md_driven.specs.declared.refusal.Refusal.TheVariants.{Kind};
 ghost use Rattle.md_script.specs.declared.error.PlayKind.TheVariants.{NoMemory};
 
-use crate::refusal::Refusal;
 use md_core::Call;
 use md_dirs::Bytes;
+use md_driven::Refusal;
 use md_name::{Flags, NameError};
 use md_script::PlayKind;
 use std::alloc::Global;

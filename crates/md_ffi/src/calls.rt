@@ -2,15 +2,14 @@
 ghost use Rattle.std.specs.Prelude.{◌≡◌, ◌+◌, ◌≤◌, ◌<◌, Ok, Err, IfOk, MatchResult, length};
 ghost use Rattle.md_ffi.specs.Doing.{OnHeld};
 ghost use Rattle.md_ffi.specs.Records.{asked_in, cut, eight_at, four_at, record_in, recorded, CallsAll};
-ghost use Rattle.md_ffi.specs.declared.refusal.Refusal.TheVariants.{BadRecord};
+ghost use Rattle.md_driven.specs.declared.refusal.Refusal.TheVariants.{BadRecord};
 
 use crate::asked::{Asked, Brought};
 use crate::handle::Handle;
 use crate::jobs::call;
-use crate::refusal::Refusal;
-use crate::shown::AnswerShown;
 use md_core::World;
 use md_dirs::IndexDirs;
+use md_driven::{AnswerShown, Refusal};
 use std::alloc::Global;
 
 // A record: what is asked, the bytes that it brings, and what follows it.

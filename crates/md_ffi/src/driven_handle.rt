@@ -1,9 +1,9 @@
 //! The handle that C keeps of a driven job.
 ghost use Rattle.std.specs.Prelude.{◌≡◌, Option, Some, None, is_some, option_map};
 
-use crate::driven::Driven;
 use crate::driven_slot::DrivenSlot;
 use crate::loose::Loose;
+use md_driven::Driven;
 use std::alloc::Global;
 use std::mem;
 

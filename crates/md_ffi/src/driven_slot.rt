@@ -3,12 +3,12 @@ ghost use Rattle.std.specs.Prelude.{◌≡◌, Option, Some, None, is_some, IsTr
 ghost use Rattle.std.specs.Coded.{codes};
 ghost use Rattle.std.specs.contracts.impls.GlobalAllocator.TheImpl.{ghosts};
 ghost use Rattle.md_name.specs.contracts.flags.Flags as flags;
-ghost use Rattle.md_ffi.specs.Driving.{Driving};
-ghost use Rattle.md_ffi.specs.contracts.driven.Driven.{the_row};
+ghost use Rattle.md_driven.specs.Driving.{Driving};
+ghost use Rattle.md_driven.specs.contracts.driven.Driven.{the_row};
 ghost use Rattle.md_ffi.specs.Slots.{slot_owns};
 
-use crate::driven::Driven;
 use crate::loose::Loose;
+use md_driven::Driven;
 use std::alloc::Global;
 use std::marker::Model;
 use std::ptr::null_mut;

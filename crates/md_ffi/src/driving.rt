@@ -3,19 +3,17 @@ ghost use Rattle.std.specs.Prelude.{⊤, ◌≡◌, ◌⊎◌, Some, None, Ok, E
 ghost use Rattle.md_core.specs.Runs.{answer_of};
 ghost use Rattle.md_script.specs.declared.error.PlayKind.TheVariants.{NoMemory};
 ghost use Rattle.md_ffi.specs.Beginning.{begun, Begins};
-ghost use Rattle.md_ffi.specs.Driving.{ask_refusal, asked_at, hear_refusal, requested, with_row, LaysAsked};
-ghost use Rattle.md_ffi.specs.Handled.{free_number, reply_at, Goes, OnDriven, TakesOr, Unless};
-ghost use Rattle.md_ffi.specs.Numbers.{refusal_number};
-ghost use Rattle.md_ffi.specs.Shown.{answer_shown};
-ghost use Rattle.md_ffi.specs.declared.refusal.Refusal.TheVariants.{Kind};
+ghost use Rattle.md_driven.specs.Driving.{ask_refusal, asked_at, hear_refusal, requested, with_row, LaysAsked};
+ghost use Rattle.md_ffi.specs.Handled.{free_number, Goes, OnDriven, TakesOr, Unless};
+ghost use Rattle.md_driven.specs.Numbers.{refusal_number};
+ghost use Rattle.md_driven.specs.Shown.{reply_at};
+ghost use Rattle.md_driven.specs.Shown.{answer_shown};
+ghost use Rattle.md_driven.specs.declared.refusal.Refusal.TheVariants.{Kind};
 
 use crate::asked::{Asked, Brought, call_of};
 use crate::checks::refusal_alone;
-use crate::driven::Driven;
 use crate::driven_handle::DrivenHandle;
-use crate::refusal::{Refusal, status};
-use crate::request::RequestShown;
-use crate::shown::{AnswerShown, StepShown, reply_of};
+use md_driven::{AnswerShown, Driven, Refusal, RequestShown, StepShown, reply_of, status};
 use md_script::PlayKind;
 use std::alloc::{AllocError, Global};
 

@@ -5,15 +5,14 @@ ghost use Rattle.md_script.specs.Sessions.{run_over};
 ghost use Rattle.md_script.specs.declared.error.PlayKind.{PlayKind};
 ghost use Rattle.md_script.specs.declared.error.PlayKind.TheVariants.{NoMemory};
 ghost use Rattle.md_ffi.specs.Files.{file_in, AreFiles, GivesStore, StopsAt};
-ghost use Rattle.md_ffi.specs.declared.refusal.Refusal.TheVariants.{Kind};
+ghost use Rattle.md_driven.specs.declared.refusal.Refusal.TheVariants.{Kind};
 
 use crate::calls::{cut, eight_at, four_at};
 use crate::handle::Handle;
 use crate::held::Held;
-use crate::refusal::{NO_MEMORY, Refusal};
 use crate::seed::seed_of;
-use crate::shown::place_of;
 use md_dirs::{Bytes, FileName, HashSeed, ImageFile, IndexDirs, Path};
+use md_driven::{NO_MEMORY, Refusal, place_of};
 use md_script::{PlayKind, open_store};
 use std::alloc::Global;
 

@@ -2,9 +2,8 @@
 ghost use Rattle.md_script.specs.Indexing.{index_of_script};
 ghost use Rattle.md_ffi.specs.Naming.{Indexes};
 
-use crate::refusal::{Refusal, status};
-use crate::room::lay;
 use crate::seed::seed_of;
+use md_driven::{Refusal, lay, status};
 use md_script::index_text;
 use std::alloc::Global;
 

@@ -5,17 +5,16 @@ ghost use Rattle.md_core.specs.Runs.{answer_of, jobs_of, step_refusal};
 ghost use Rattle.md_script.specs.Kinds.{core_kind};
 ghost use Rattle.md_ffi.specs.Asking.{own_at};
 ghost use Rattle.md_ffi.specs.Calling.{no_answer_number, Calls, Comes};
-ghost use Rattle.md_ffi.specs.Numbers.{core_number, refusal_number};
+ghost use Rattle.md_driven.specs.Numbers.{core_number, refusal_number};
 ghost use Rattle.md_ffi.specs.Doing.{is_job, submitted, Answers, Ends, GivesIn, OnHeld, Steps};
-ghost use Rattle.md_ffi.specs.Shown.{answer_shown};
-ghost use Rattle.md_ffi.specs.declared.refusal.Refusal.TheVariants.{Kind};
+ghost use Rattle.md_driven.specs.Shown.{answer_shown};
+ghost use Rattle.md_driven.specs.declared.refusal.Refusal.TheVariants.{Kind};
 
 use crate::asked::{Asked, Brought, Own, call_of};
 use crate::handle::Handle;
-use crate::refusal::{NO_MEMORY, Refusal};
-use crate::shown::{AnswerShown, StepShown};
 use md_core::{Answer, CallError, CoreError, JobId, World};
 use md_dirs::IndexDirs;
+use md_driven::{AnswerShown, NO_MEMORY, Refusal, StepShown};
 use md_script::PlayKind;
 use std::alloc::Global;
 

@@ -2,8 +2,7 @@
 ghost use Rattle.std.specs.Prelude.{◌≡◌, IfOk};
 ghost use Rattle.md_ffi.specs.Judging.{finding_bytes, findings_bytes, Judges};
 
-use crate::refusal::{NO_MEMORY, Refusal, status};
-use crate::room::lay;
+use md_driven::{NO_MEMORY, Refusal, lay, status};
 use md_judge::{Finding, judge_log};
 use md_log::LineFault;
 use std::alloc::{AllocError, Global};

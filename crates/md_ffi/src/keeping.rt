@@ -2,15 +2,13 @@
 ghost use Rattle.std.specs.Prelude.{◌≡◌};
 ghost use Rattle.md_ffi.specs.Doing.{OnHeld};
 ghost use Rattle.md_ffi.specs.Keeping.{contents_at, row_at, ShowsRow};
-ghost use Rattle.md_ffi.specs.Laying.{LaysOrRefuses};
-ghost use Rattle.md_ffi.specs.Numbers.{status_number};
+ghost use Rattle.md_driven.specs.Laying.{LaysOrRefuses};
+ghost use Rattle.md_driven.specs.Numbers.{status_number};
 
 use crate::handle::Handle;
 use crate::held::Held;
-use crate::refusal::{Refusal, status};
-use crate::room::lay;
-use crate::shown::place_of;
 use md_dirs::Dirs;
+use md_driven::{Refusal, lay, place_of, status};
 use std::alloc::Global;
 
 /// What is shown of a name in a directory: the stamp of its file in seconds, and its size in bytes.

@@ -7,9 +7,9 @@ ghost use Rattle.md_ffi.specs.Loads.{loaded, GivesWorld};
 
 use crate::handle::Handle;
 use crate::held::Held;
-use crate::refusal::Refusal;
 use crate::seed::seed_of;
 use md_dirs::HashSeed;
+use md_driven::Refusal;
 use md_script::{PlayError, image, load};
 use std::alloc::{AllocError, Global};
 

@@ -4,14 +4,13 @@ ghost use Rattle.md_name.specs.Names.{split_of};
 ghost use Rattle.md_head.specs.Summaries.{summary_of};
 ghost use Rattle.md_script.specs.Sessions.{transcript};
 ghost use Rattle.md_script.specs.Texts.{summary_text};
-ghost use Rattle.md_ffi.specs.Laying.{Gives};
+ghost use Rattle.md_driven.specs.Laying.{Gives};
 ghost use Rattle.md_ffi.specs.Naming.{made, Plays, Splits};
-ghost use Rattle.md_ffi.specs.Numbers.{status_number};
+ghost use Rattle.md_driven.specs.Numbers.{status_number};
 
-use crate::refusal::{NO_MEMORY, Refusal, status};
-use crate::room::lay;
 use crate::seed::seed_of;
 use md_dirs::IndexDirs;
+use md_driven::{NO_MEMORY, Refusal, lay, status};
 use md_head::summary;
 use md_name::{Info, UniqueParts, make_unique, split};
 use md_script::{PlayKind, push_summary, transcript_over};

@@ -2,18 +2,16 @@
 ghost use Rattle.std.specs.Prelude.{◌≡◌, ◌≤◌, ◌+◌, ◌++◌, ◌⊎◌, Ok, Err, IfSome, IsSome, All, MatchResult, length, take, drop};
 ghost use Rattle.md_script.specs.declared.error.PlayKind.TheVariants.{NoMemory};
 ghost use Rattle.md_ffi.specs.Doing.{OnHeld};
-ghost use Rattle.md_ffi.specs.Laying.{Gives, LaysOrRefuses};
-ghost use Rattle.md_ffi.specs.Numbers.{status_number};
+ghost use Rattle.md_driven.specs.Laying.{Gives, LaysOrRefuses};
+ghost use Rattle.md_driven.specs.Numbers.{status_number};
 ghost use Rattle.md_ffi.specs.Reading.{four_bytes, eight_bytes, entry_bytes, entries_bytes, HasShortName, listed, message_at, name_at};
-ghost use Rattle.md_ffi.specs.declared.refusal.Refusal.TheVariants.{Kind};
+ghost use Rattle.md_driven.specs.declared.refusal.Refusal.TheVariants.{Kind};
 
 use crate::handle::Handle;
 use crate::held::Held;
-use crate::refusal::{NO_MEMORY, Refusal, status};
-use crate::room::{lay, lay_at};
-use crate::shown::{place_number, place_of};
 use md_core::{CoreError, World};
 use md_dirs::IndexDirs;
+use md_driven::{NO_MEMORY, Refusal, lay, lay_at, place_number, place_of, status};
 use md_script::PlayKind;
 use md_view::{EntryRef, ViewError, list_lent};
 use std::alloc::Global;
@@ -57,7 +55,7 @@ fn listing_length(entries: &[EntryRef<'_>]) -> Option<usize>
 
 // Lays a message of a listing at a position of a buffer that has room for it there: its place, the lengths of its name and of its bytes, and
 // its name. It gives the position after it.
-#[tactic(auto, using(crate::proofs::Listed::length_entry, crate::proofs::Listed::length_header, crate::proofs::Listed::ends_alike_after))]
+#[tactic(auto, using(crate::proofs::Listed::length_entry, crate::proofs::Listed::length_header, md_driven::proofs::Laid::ends_alike_after))]
 fn lay_entry(entry: &EntryRef<'_>, out: &mut [u8], at: usize) -> usize
     requires name { HasShortName entry.now }
     requires room { at + length (entry_bytes entry.now) ≤ length out.old }
@@ -72,7 +70,7 @@ fn lay_entry(entry: &EntryRef<'_>, out: &mut [u8], at: usize) -> usize
 }
 
 // Lays messages at the front of a buffer, one after another.
-#[tactic(auto, using(crate::proofs::Listed::one_more, crate::proofs::Listed::length_more, crate::proofs::Listed::has_room, crate::proofs::Listed::ends_alike_after))]
+#[tactic(auto, using(crate::proofs::Listed::one_more, crate::proofs::Listed::length_more, crate::proofs::Listed::has_room, md_driven::proofs::Laid::ends_alike_after))]
 fn lay_entries(entries: &[EntryRef<'_>], out: &mut [u8])
     requires names { All HasShortName entries.now }
     requires room { length (entries_bytes entries.now) ≤ length out.old }

@@ -4,9 +4,9 @@ ghost use Rattle.md_core.specs.Settling.{first_unanswered, settle_error, settled
 ghost use Rattle.md_ffi.specs.Doing.{OnHeld, Settles};
 
 use crate::handle::Handle;
-use crate::refusal::{NO_MEMORY, Refusal};
 use md_core::{JobId, SettleError, SettleRefused, World};
 use md_dirs::IndexDirs;
+use md_driven::{NO_MEMORY, Refusal};
 use std::alloc::Global;
 use std::mem;
 

@@ -1,10 +1,9 @@
 //! The version of the interface, and the texts of its refusals.
 ghost use Rattle.std.specs.Prelude.{◌≡◌, ◌≤◌, ℕ, List};
-ghost use Rattle.md_ffi.specs.Laying.{LaysFront};
-ghost use Rattle.md_ffi.specs.Numbers.{IsTextOf};
+ghost use Rattle.md_driven.specs.Laying.{LaysFront};
+ghost use Rattle.md_driven.specs.Numbers.{IsTextOf};
 
-use crate::refusal::text_of;
-use crate::room::lay_front;
+use md_driven::{lay_front, text_of};
 
 /// The version of the interface.
 #[unsafe(no_mangle)]

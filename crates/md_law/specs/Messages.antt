@@ -8,6 +8,7 @@ use Rattle.md_dirs.specs.declared.paths.Place.TheVariants.{Tmp, New, Cur}
 use Rattle.md_name.specs.Letters.{Set}
 use Rattle.md_name.specs.Names.{unique_of, info_of, flags_of, is_message_name}
 
+-- the place is tmp
 abbrev pub is_tmp : Place → Bool
 is_tmp Tmp = true
 is_tmp New = false

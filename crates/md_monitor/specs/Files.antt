@@ -52,11 +52,13 @@ seen_times s n = times is_message s n
 abbrev pub is_seen : State → ℕ → Bool
 is_seen s n = nat_lt 0 (seen_times s n)
 
+-- the place is new
 abbrev pub is_new : Place → Bool
 is_new Tmp = false
 is_new New = true
 is_new Cur = false
 
+-- the place is cur
 abbrev pub is_cur : Place → Bool
 is_cur Tmp = false
 is_cur New = false

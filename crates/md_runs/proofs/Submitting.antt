@@ -8,7 +8,7 @@ use Rattle.md_jobs.specs.declared.error.CoreError.TheVariants as core
 use Rattle.md_jobs.specs.declared.call.Call.{Call}
 use Rattle.md_dirs.specs.State.{State}
 use Rattle.md_dirs.specs.declared.image.ImageFile.{ImageFile}
-use Rattle.md_core.specs.Loading.{load_refusal}
+use Rattle.md_used.specs.Loading.{load_refusal}
 use Rattle.md_core.specs.Runs.{Run, new_run, and_call, IsRefusal}
 use Rattle.md_core.specs.Submitting.{submit_refusal}
 use Rattle.md_script.specs.declared.error.PlayKind.{PlayKind}

@@ -6,9 +6,9 @@ use Rattle.std.proofs.lemmas.Bool.{eqb-true}
 use Rattle.std.proofs.lemmas.List.{map-append}
 use Rattle.std.proofs.lemmas.List.Elements.{All-head, All-tail, All-nil, All-cons, All-append, All-filter}
 use Rattle.md_core.specs.Runs.{Run}
-use Rattle.md_view.specs.declared.entry.Entry.{Entry}
-use Rattle.md_view.specs.declared.listing.BegunListing.{BegunListing}
-use Rattle.md_view.specs.Law.{names_at, listing_of, HasBegun}
+use Rattle.md_listing.specs.declared.entry.Entry.{Entry}
+use Rattle.md_listing.specs.declared.listing.BegunListing.{BegunListing}
+use Rattle.md_listing.specs.Law.{names_at, listing_of, HasBegun}
 use Rattle.md_script.specs.declared.error.PlayKind.{PlayKind}
 use Rattle.md_script.specs.declared.error.PlayKind.TheVariants.{NoFirst}
 use Rattle.md_text.specs.Bind.{◌>>=◌}

@@ -8,7 +8,7 @@ use Rattle.md_dirs.specs.declared.image.ImageFile.{ImageFile}
 use Rattle.md_jobs.specs.declared.error.CoreError.{CoreError}
 use Rattle.md_jobs.specs.declared.call.Call.{Call}
 use Rattle.md_jobs.specs.declared.step.Event.{Event}
-use Rattle.md_core.specs.Loading.{load_refusal}
+use Rattle.md_used.specs.Loading.{load_refusal}
 use Rattle.md_core.specs.Runs.{Run, new_run, first_clock, and_event}
 use Rattle.md_core.specs.Stepping.{IsRun}
 use Rattle.md_core.specs.Submitting.{submit_refusal}

@@ -4,8 +4,8 @@ use Rattle.md_jobs.specs.declared.call.Call.{Call}
 use Rattle.md_core.specs.Machine.{Occurrence}
 use Rattle.md_core.specs.Runs.{Run, and_call, and_event}
 use Rattle.md_core.specs.Stepping.{IsRun}
-use Rattle.md_view.specs.declared.listing.BegunListing.{BegunListing}
-use Rattle.md_view.specs.Law.{HasBegun, Continues}
+use Rattle.md_listing.specs.declared.listing.BegunListing.{BegunListing}
+use Rattle.md_listing.specs.Law.{HasBegun, Continues}
 use Rattle.md_script.specs.Held.{MayWait}
 
 -- the law of listings that wait

@@ -15,7 +15,7 @@ use Rattle.md_name.specs.Names.{is_colon, begins_with_dot, unique_of, info_of, i
 use Rattle.md_name.proofs.Colons.{unique_of-found, info_of-found, unique_of-not_found, info_of-not_found}
 use Rattle.md_name.proofs.Flagged.{from_list-spelling}
 use Rattle.md_name.proofs.Sets.{IsOfLetters-from_list}
-use Rattle.md_view.proofs.Keyed.{both, first, second, less, is_less}
+use Rattle.md_listing.proofs.Keyed.{both, first, second, less, is_less}
 use Rattle.md_script.specs.Texts.{letters_text, flags_text, flags_by}
 use Rattle.md_script.proofs.Spelled.{spelled_none}
 

@@ -1,8 +1,8 @@
 -- The program's commands, as contracts see them.
 use Rattle.std.specs.Prelude.{◌≡◌, ◌≢◌, ℕ, List, Result, Ok, Err}
 use Rattle.md_core.specs.Runs.{Run}
-use Rattle.md_view.specs.declared.listing.BegunListing.{BegunListing}
-use Rattle.md_view.specs.Law.{HasBegun}
+use Rattle.md_listing.specs.declared.listing.BegunListing.{BegunListing}
+use Rattle.md_listing.specs.Law.{HasBegun}
 use Rattle.md_script.specs.declared.error.PlayKind.{PlayKind}
 use Rattle.md_script.specs.declared.error.PlayKind.TheVariants.{NoMemory}
 use Rattle.md_script.specs.declared.command.Command.{Command as Held}

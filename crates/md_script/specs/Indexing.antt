@@ -10,8 +10,8 @@ use Rattle.md_head.specs.declared.shown.Summary.{Summary}
 use Rattle.md_core.specs.Mailbox.{Entry as Message, Mailbox, mailbox_of}
 use Rattle.md_core.specs.History.{names_of}
 use Rattle.md_core.specs.Runs.{Run, dirs_of}
-use Rattle.md_view.specs.declared.entry.Entry.{Entry}
-use Rattle.md_view.specs.Readings.{reading_of, join_of}
+use Rattle.md_listing.specs.declared.entry.Entry.{Entry}
+use Rattle.md_listing.specs.Readings.{reading_of, join_of}
 use Rattle.md_script.specs.declared.error.PlayKind.{PlayKind}
 use Rattle.md_script.specs.declared.error.PlayError.{PlayError}
 use Rattle.md_text.specs.Bind.{◌>>=◌}

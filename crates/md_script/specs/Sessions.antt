@@ -16,12 +16,12 @@ use Rattle.md_jobs.specs.declared.error.CoreError.{CoreError}
 use Rattle.md_jobs.specs.declared.call.Call.{Call}
 use Rattle.md_jobs.specs.declared.step.Event.{Event}
 use Rattle.md_jobs.specs.declared.step.StepOut.{StepOut}
-use Rattle.md_core.specs.Loading.{load_refusal}
+use Rattle.md_used.specs.Loading.{load_refusal}
 use Rattle.md_core.specs.Mailbox.{Entry, mailbox_of}
 use Rattle.md_core.specs.Machine.{Occurrence, job_at, step_of, step_out}
 use Rattle.md_core.specs.Runs.{Run, new_run, machine_of, dirs_of, jobs_of, and_event, and_call, step_refusal, steps_left}
 use Rattle.md_core.specs.Submitting.{submit_refusal}
-use Rattle.md_view.specs.Law.{names_at, listing_of}
+use Rattle.md_listing.specs.Law.{names_at, listing_of}
 use Rattle.md_script.specs.declared.error.PlayKind.{PlayKind}
 use Rattle.md_script.specs.declared.error.PlayKind.TheVariants.{SamePath, Core, Name, NoFirst}
 use Rattle.md_script.specs.declared.verb.Mode.TheVariants.{Playing}

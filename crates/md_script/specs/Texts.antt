@@ -13,7 +13,7 @@ use Rattle.md_jobs.specs.declared.step.DirCall.TheVariants as dir
 use Rattle.md_jobs.specs.declared.step.DirReply.{DirReply}
 use Rattle.md_jobs.specs.declared.step.DirReply.TheVariants as reply
 use Rattle.md_jobs.specs.declared.step.StepOut.{StepOut}
-use Rattle.md_view.specs.declared.entry.Entry.{Entry}
+use Rattle.md_listing.specs.declared.entry.Entry.{Entry}
 use Rattle.md_text.specs.Escapes.{escape_all}
 use Rattle.md_text.specs.Places.{place_text}
 

@@ -7,15 +7,15 @@ use Rattle.md_dirs.specs.declared.paths.Place.{Place}
 use Rattle.md_dirs.specs.declared.paths.Place.TheVariants.{Tmp, New, Cur}
 use Rattle.md_core.specs.History.{Listed, Names}
 use Rattle.md_core.specs.Laws.{IsNotInTmp, KeepsPlaces}
-use Rattle.md_core.specs.Mailbox.{is_tmp}
+use Rattle.md_used.specs.Paths.{is_tmp}
 use Rattle.md_jobs.specs.declared.effect.Effect.{Effect}
-use Rattle.md_view.specs.declared.entry.Entry.{Entry}
-use Rattle.md_view.specs.Law.{names_after_first}
+use Rattle.md_listing.specs.declared.entry.Entry.{Entry}
+use Rattle.md_listing.specs.Law.{names_after_first}
 use Rattle.md_view.specs.Named.{Named, AreMessages}
-use Rattle.md_view.specs.Readings.{reading_of, join_of, IsInOrder}
-use Rattle.md_view.proofs.Keyed.{in-order}
-use Rattle.md_view.proofs.LawHolds.{good-listing, LegalKeepPlaces}
-use Rattle.md_view.proofs.Readings.{reading-sorted}
+use Rattle.md_listing.specs.Readings.{reading_of, join_of, IsInOrder}
+use Rattle.md_listing.proofs.Keyed.{in-order}
+use Rattle.md_listing.proofs.LawHolds.{good-listing, LegalKeepPlaces}
+use Rattle.md_listing.proofs.Readings.{reading-sorted}
 use Rattle.md_store.specs.declared.error.ListError.{ListError}
 use Rattle.md_store.specs.Listing.{IsLegalFrom, read_at, listing, IsGoodFrom, Finishes, Lists, Reading}
 use Rattle.md_store.proofs.Beginnings.{no_longer, cut_at_end, begins_later}

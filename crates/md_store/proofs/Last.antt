@@ -8,7 +8,7 @@ use Rattle.md_core.specs.Tracing.{trace_of, IsShown}
 use Rattle.md_core.specs.Mailbox.{mailbox_of}
 use Rattle.md_core.specs.Runs.{Run, dirs_of, effects_of}
 use Rattle.md_view.specs.Named.{Named, named_of}
-use Rattle.md_view.specs.Readings.{reading_of, join_of}
+use Rattle.md_listing.specs.Readings.{reading_of, join_of}
 use Rattle.md_store.specs.Listing.{listing, ShowsLast}
 use Rattle.md_store.proofs.Beginnings.{all_of_it, no_longer}
 

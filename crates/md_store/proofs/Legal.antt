@@ -12,7 +12,7 @@ use Rattle.md_jobs.specs.declared.effect.Effect.{Effect}
 use Rattle.md_view.specs.Named.{Named, IsMessage, AreMessages, is_listed, is_free, fits, after_change}
 use Rattle.md_view.proofs.Held.Applying.{listed-facts, insert-messages, remove-messages}
 use Rattle.md_view.proofs.Held.Fitting.{allowed-applied, nowhere}
-use Rattle.md_view.proofs.Rows.{and-first, and-second}
+use Rattle.md_listing.proofs.Rows.{and-first, and-second}
 use Rattle.md_store.specs.Listing.{named_after, IsLegalFrom}
 
 -- a name that may be got is a message's

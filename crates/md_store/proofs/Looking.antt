@@ -2,7 +2,7 @@
 use Rattle.std.proofs.Common.{ℕ, ◌≡◌, ◌<◌, true, List, Option, sym, ap, ◌∙◌, subst, Result, Ok, Err, IfOk}
 use mathlib.Core.List.{IsPrefix}
 use Rattle.md_jobs.specs.declared.effect.Effect.{Effect}
-use Rattle.md_view.specs.declared.entry.Entry.{Entry}
+use Rattle.md_listing.specs.declared.entry.Entry.{Entry}
 use Rattle.md_view.specs.Named.{Named, AreMessages}
 use Rattle.md_store.specs.declared.error.ListError.{ListError}
 use Rattle.md_store.specs.declared.rule.Knowledge.{Knowledge}

@@ -4,13 +4,13 @@ use Rattle.md_dirs.specs.declared.paths.Place.{Place}
 use Rattle.md_dirs.specs.declared.paths.Place.TheVariants.{New, Cur}
 use Rattle.md_core.specs.History.{names_after, IsLegal, Names, names_of}
 use Rattle.md_jobs.specs.declared.effect.Effect.{Effect}
-use Rattle.md_view.specs.declared.entry.Entry.{Entry}
+use Rattle.md_listing.specs.declared.entry.Entry.{Entry}
 use Rattle.md_view.specs.Named.{Named, AreMessages}
-use Rattle.md_view.specs.Readings.{reading_of, join_of}
+use Rattle.md_listing.specs.Readings.{reading_of, join_of}
 use mathlib.Core.List.{IsPrefix}
 use Rattle.md_core.specs.Mailbox.{mailbox_of}
 use Rattle.md_core.specs.Runs.{Run, dirs_of}
-use Rattle.md_view.specs.Law.{names_after_first, IsGoodListing}
+use Rattle.md_listing.specs.Law.{names_after_first, IsGoodListing}
 use Rattle.md_store.specs.Pages.{Log, Page}
 use Rattle.md_store.specs.declared.rule.Knowledge.{Knowledge}
 

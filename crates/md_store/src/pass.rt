@@ -3,7 +3,7 @@ ghost use Rattle.std.specs.Prelude.{◌≡◌, ◌<◌, ◌≤◌, ◌⊎◌, tr
 ghost use mathlib.Core.List.{IsPrefix};
 ghost use Rattle.left_right.specs.Sides.{view as seat_view};
 ghost use Rattle.md_view.specs.Named.{AreMessages};
-ghost use Rattle.md_view.specs.Readings.{IsInOrder};
+ghost use Rattle.md_listing.specs.Readings.{IsInOrder};
 ghost use Rattle.md_store.specs.declared.error.ListError.TheVariants as refusal;
 ghost use Rattle.md_store.specs.Listing.{named_after, IsLegalFrom, seen_in, IsLooked, Sees};
 ghost use Rattle.md_core.specs.Stepping.{IsRun};

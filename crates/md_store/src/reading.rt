@@ -1,6 +1,6 @@
 ghost use Rattle.std.specs.Prelude.{◌≡◌};
 ghost use Rattle.md_dirs.specs.declared.paths.Place.TheVariants.{New};
-ghost use Rattle.md_view.specs.Readings.{IsInOrder};
+ghost use Rattle.md_listing.specs.Readings.{IsInOrder};
 ghost use Rattle.md_store.specs.Listing.{IsLegalFrom, read_at, Reading};
 ghost use Rattle.std.specs.Coded.{codes};
 ghost use Rattle.md_name.specs.contracts.flags.Flags as flags;

@@ -11,8 +11,8 @@ use Rattle.md_dirs.specs.declared.paths.Place.{Place}
 use Rattle.md_dirs.specs.declared.paths.Place.TheVariants.{Tmp, New, Cur}
 use Rattle.md_core.specs.Mailbox.{name_cmp}
 use Rattle.md_core.specs.History.{Listed}
-use Rattle.md_view.specs.declared.entry.Entry.{Entry}
-use Rattle.md_view.specs.Readings.{with_unique, reading_of, IsInOrder}
+use Rattle.md_listing.specs.declared.entry.Entry.{Entry}
+use Rattle.md_listing.specs.Readings.{with_unique, reading_of, IsInOrder}
 use Rattle.md_view.specs.Named.{Named, AreMessages}
 use Rattle.md_view.specs.declared.names.tree.Leaf.{Leaf}
 

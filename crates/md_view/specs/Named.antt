@@ -9,7 +9,8 @@ use Rattle.md_dirs.specs.State.{State, place_by}
 use Rattle.md_dirs.specs.declared.paths.Place.{Place}
 use Rattle.md_dirs.specs.declared.paths.Place.TheVariants.{Tmp, New, Cur}
 use Rattle.md_name.specs.Names.{unique_of, is_message_name}
-use Rattle.md_core.specs.Mailbox.{mailbox_of, is_tmp}
+use Rattle.md_core.specs.Mailbox.{mailbox_of}
+use Rattle.md_used.specs.Paths.{is_tmp}
 use Rattle.md_core.specs.History.{Listed, Names, names_of, names_after_change}
 use Rattle.md_jobs.specs.declared.effect.Change.{Change}
 use Rattle.md_jobs.specs.declared.effect.Change.TheVariants.{Add, Rename, Remove, Same}

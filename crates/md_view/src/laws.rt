@@ -5,8 +5,8 @@ ghost use Rattle.md_core.specs.Mailbox.{mailbox_of};
 ghost use Rattle.md_core.specs.Runs.{Run, dirs_of};
 ghost use Rattle.md_core.specs.Stepping.{IsRun};
 ghost use Rattle.md_jobs.specs.declared.effect.Effect.{Effect as EffectSeen};
-ghost use Rattle.md_view.specs.declared.listing.BegunListing.{BegunListing};
-ghost use Rattle.md_view.specs.Law.{names_at, names_after_first, listing_of, IsGoodListing, HasBegun, Continues};
+ghost use Rattle.md_listing.specs.declared.listing.BegunListing.{BegunListing};
+ghost use Rattle.md_listing.specs.Law.{names_at, names_after_first, listing_of, IsGoodListing, HasBegun, Continues};
 ghost use Rattle.md_view.specs.Named.{Named, AreMessages, fits};
 
 use md_core::{Effect, World};

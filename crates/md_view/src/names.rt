@@ -3,8 +3,8 @@ ghost use Rattle.std.specs.Prelude.{◌≡◌, IfOk, IfErr, OnOk, OnErr};
 ghost use Rattle.md_core.specs.Runs.{dirs_of};
 ghost use Rattle.md_view.specs.Named.{named_of, after_change, AreMessages, Named, named_code};
 ghost use Rattle.md_dirs.specs.declared.paths.Place.TheVariants.{Cur};
-ghost use Rattle.md_view.specs.Readings.{reading_of, join_of, IsInOrder};
-ghost use Rattle.md_view.specs.declared.error.ViewError.TheVariants.{NoMemory};
+ghost use Rattle.md_listing.specs.Readings.{reading_of, join_of, IsInOrder};
+ghost use Rattle.md_listing.specs.declared.error.ViewError.TheVariants.{NoMemory};
 ghost use Rattle.md_view.specs.Held.{held_names, HoldNames};
 
 mod apply;
@@ -14,14 +14,12 @@ mod folder;
 mod list;
 mod tree;
 
-use crate::entry::{Entry, EntryRef, copied, lend};
-use crate::error::ViewError;
-use crate::merging::join_lent;
 use apply::apply_to;
 use entry_list::EntryList;
 use folder::{FolderNames, all_again, all_of};
 use md_core::{Change, World};
 use md_dirs::{Dirs, Place};
+use md_listing::{Entry, EntryRef, ViewError, copied, join_lent, lend};
 use std::alloc::{AllocError, Global};
 use std::marker::Model;
 pub use tree::EntryTree;

@@ -17,12 +17,12 @@ use Rattle.md_monitor.specs.Answers.{ClaimKept, breaks_answered_falsely, breaks_
 use Rattle.md_watch.specs.declared.claims.Claims.{Claims}
 use Rattle.md_watch.specs.declared.claims.finding.Past.{Past}
 use Rattle.md_watch.specs.declared.flagged.Flagged.{Flagged}
-use Rattle.md_watch.specs.declared.messages.Messages.{Messages}
+use Rattle.md_kept.specs.declared.messages.Messages.{Messages}
 use Rattle.md_watch.specs.declared.presences.Presences.{Presences}
-use Rattle.md_watch.specs.Changes.{Turn}
+use Rattle.md_kept.specs.Changes.{Turn}
 use Rattle.md_watch.specs.Claims.{AreClaims, Steps, actor_in, did_by, is_false_in, is_given_up_in, is_so_in, is_there_in}
 use Rattle.md_watch.specs.Flagged.{AreFlagged, PassesFlags, spell_in}
-use Rattle.md_watch.specs.Messages.{count_in_folder}
+use Rattle.md_kept.specs.Messages.{count_in_folder}
 use Rattle.md_watch.specs.Presences.{ArePresences, PassesAll, in_folders}
 use Rattle.md_watch.specs.Spells.{always_by, ever_by, spell_at}
 use Rattle.md_watch.specs.Watches.{AreMessages}

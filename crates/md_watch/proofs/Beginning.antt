@@ -24,16 +24,16 @@ use Rattle.md_watch.specs.Stored.{HasFiles}
 use Rattle.md_watch.proofs.Stored.{has-made, has-named}
 use Rattle.md_watch.specs.declared.memory.Memory.{Memory}
 use Rattle.md_watch.specs.declared.watch.Watch.{Watch}
-use Rattle.md_watch.specs.Changes.{adding, file_in}
-use Rattle.md_watch.specs.Files.{Adds, made_by, maker_of, times_of, maker_in, is_unflushed_in, is_cut_in, was_cur_in, was_seen_in, times_in}
-use Rattle.md_watch.specs.Messages as messages
-use Rattle.md_watch.specs.Drafts as drafts
+use Rattle.md_kept.specs.Changes.{adding, file_in}
+use Rattle.md_kept.specs.Files.{Adds, made_by, maker_of, times_of, maker_in, is_unflushed_in, is_cut_in, was_cur_in, was_seen_in, times_in}
+use Rattle.md_kept.specs.Messages as messages
+use Rattle.md_kept.specs.Drafts as drafts
 use Rattle.md_watch.specs.Memory as memories
 use Rattle.md_watch.specs.Watches.{AreMessages, AreDrafts, Keeps, Holds, with_folder, PutsFile, PutsName, Follows}
 use Rattle.md_watch.proofs.Counting.{one}
 use Rattle.md_watch.proofs.Keeping.{Leads, AreTouched, turned}
 use Rattle.md_watch.proofs.Going.{with-memory}
-use Rattle.md_watch.proofs.Keys.{path-is}
+use Rattle.md_kept.proofs.Keys.{path-is}
 use Rattle.md_watch.proofs.Remembering.{begins-put, begins-folder}
 use Rattle.md_watch.proofs.Touching.{added, made-stamps}
 

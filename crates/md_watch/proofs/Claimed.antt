@@ -17,11 +17,11 @@ use Rattle.md_monitor.specs.Answers.{ClaimKept, acts_by, claim_after, claim_firs
 use Rattle.md_monitor.proofs.Recounting.{recount}
 use Rattle.md_watch.specs.declared.claims.Claims.{Claims}
 use Rattle.md_watch.specs.declared.claims.actor.Actor.{Actor}
-use Rattle.md_watch.specs.declared.messages.Messages.{Messages}
+use Rattle.md_kept.specs.declared.messages.Messages.{Messages}
 use Rattle.md_watch.specs.declared.presences.InFolders.{InFolders}
-use Rattle.md_watch.specs.Changes.{Turn}
+use Rattle.md_kept.specs.Changes.{Turn}
 use Rattle.md_watch.specs.Claims.{ActsAs, AreClaimsBy, Did, FlagSpells, IsBefore, IsClaim, MessageSpells, Steps, act_by, actor_in, begin, change, change_by, did_before, did_by, is_left_by, is_told, look_by, look_of, nothing, told_by, told_of, was_at, was_gone, was_shown}
-use Rattle.md_watch.specs.Messages.{count_in_folder}
+use Rattle.md_kept.specs.Messages.{count_in_folder}
 use Rattle.md_watch.specs.Presences.{in_folders, is_in_folder}
 use Rattle.md_watch.specs.Spells.{IsTimely, Passes}
 use Rattle.md_watch.proofs.Counting.{one}

@@ -17,11 +17,11 @@ use Rattle.md_watch.specs.declared.claims.Claims.{Claims}
 use Rattle.md_watch.specs.declared.claims.actor.Actor.{Actor}
 use Rattle.md_watch.specs.declared.claims.deeds.Deeds.{Deeds}
 use Rattle.md_watch.specs.declared.presences.InFolders.{InFolders}
-use Rattle.md_watch.specs.declared.table.Table.{Table}
-use Rattle.md_watch.specs.Changes.{Turn, message_of}
-use Rattle.md_watch.specs.Tables.{value_at, is_key, Puts}
+use Rattle.md_kept.specs.declared.table.Table.{Table}
+use Rattle.md_kept.specs.Changes.{Turn, message_of}
+use Rattle.md_kept.specs.Tables.{value_at, is_key, Puts}
 use Rattle.md_watch.specs.Claims.{Acts, ActsAs, Answers, Begins, Did, Does, IsNew, Looks, Steps, act, act_at, act_by, actor_in, change, change_by, did_after, did_in, did_of, did_or, is_told, look_by, nothing, told_by}
-use Rattle.md_watch.proofs.Keys.{key-is, message-is}
+use Rattle.md_kept.proofs.Keys.{key-is, message-is}
 
 -- a call on two paths that is not done is one by the first of them
 pub act-undone : (n : Naming) (p q : Path) (r : Reply) (now : ℕ) (old new : Actor) → is_ok r ≡ false

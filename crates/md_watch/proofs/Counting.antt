@@ -12,8 +12,8 @@ use Rattle.md_name.specs.Names.{unique_of}
 use Rattle.md_law.specs.Messages.{is_message}
 use Rattle.md_monitor.specs.Files.{is_some_and, count_where}
 use Rattle.md_monitor.specs.Messages.{is_of_any, paths_of, paths_beside}
-use Rattle.md_watch.specs.Changes.{Turn}
-use Rattle.md_watch.specs.Messages.{come, gone, turning}
+use Rattle.md_kept.specs.Changes.{Turn}
+use Rattle.md_kept.specs.Messages.{come, gone, turning}
 
 abbrev pub one : Bool → ℕ
 one b = cond b 1 0

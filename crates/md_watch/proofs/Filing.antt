@@ -5,10 +5,10 @@ use Rattle.std.proofs.lemmas.Bool.Decides.{Decides-eqb, Decides-like}
 use Rattle.md_dirs.specs.declared.paths.Path.{Path}
 use Rattle.md_law.specs.Messages.{is_message}
 use Rattle.md_monitor.specs.Files.{is_some_and, is_cur, is_cur_message, comes_to}
-use Rattle.md_watch.specs.declared.files.FileKept.{FileKept}
-use Rattle.md_watch.specs.Changes.{Turn}
-use Rattle.md_watch.specs.Files.{Follows, was_cur_in, was_seen_in, times_of, times_in, shown, hidden, come, gone}
-use Rattle.md_watch.proofs.Keys.{same-tests}
+use Rattle.md_kept.specs.declared.files.FileKept.{FileKept}
+use Rattle.md_kept.specs.Changes.{Turn}
+use Rattle.md_kept.specs.Files.{Follows, was_cur_in, was_seen_in, times_of, times_in, shown, hidden, come, gone}
+use Rattle.md_kept.proofs.Keys.{same-tests}
 use Rattle.md_watch.proofs.Counting.{one}
 
 pub same-number : (a b : ℕ) → (a == b) ≡ (b == a)

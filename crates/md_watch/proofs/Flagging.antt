@@ -21,7 +21,7 @@ use Rattle.md_monitor.proofs.Recounting.{recount}
 use Rattle.md_monitor.proofs.Seeing.{some-where}
 use Rattle.md_watch.specs.declared.flagged.Flagged.{Flagged}
 use Rattle.md_watch.specs.declared.spells.Spell.{Spell}
-use Rattle.md_watch.specs.Changes.{Turn}
+use Rattle.md_kept.specs.Changes.{Turn}
 use Rattle.md_watch.specs.Flagged.{times, count_by as count_kept, spell_by, count_in, is_in, spell_in, Follows, Puts, flagged_times, AreFlagged, PassesFlags}
 use Rattle.md_watch.specs.Spells.{ever_by, Passes, IsTimely}
 use Rattle.md_watch.proofs.Counting.{one}

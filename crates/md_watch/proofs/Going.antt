@@ -11,12 +11,12 @@ use Rattle.md_monitor.proofs.Changing.{led}
 use Rattle.md_monitor.proofs.Recounting.{recount}
 use Rattle.md_watch.specs.Stored.{HasFiles}
 use Rattle.md_watch.proofs.Stored.{has-call}
-use Rattle.md_watch.specs.declared.files.FileKept.{FileKept as Kept}
+use Rattle.md_kept.specs.declared.files.FileKept.{FileKept as Kept}
 use Rattle.md_watch.specs.declared.memory.Heard.{Heard}
 use Rattle.md_watch.specs.declared.memory.Memory.{Memory}
 use Rattle.md_watch.specs.declared.watch.Watch.{Watch}
-use Rattle.md_watch.specs.Changes.{Turn, turn_by, file_in}
-use Rattle.md_watch.specs.Files.{made_by as made, written, cut, flushed, times_of}
+use Rattle.md_kept.specs.Changes.{Turn, turn_by, file_in}
+use Rattle.md_kept.specs.Files.{made_by as made, written, cut, flushed, times_of}
 use Rattle.md_watch.specs.Memory as memories
 use Rattle.md_watch.specs.Presences.{in_folders}
 use Rattle.md_watch.specs.Watches.{AreFiles, AreMessages, AreDrafts, Keeps, Holds, Touches, Follows, touching}

@@ -15,15 +15,15 @@ use Rattle.md_monitor.specs.Judged.{kept_of}
 use Rattle.md_watch.specs.declared.claims.finding.Past.{Past}
 use Rattle.md_watch.specs.declared.memory.Heard.{Heard}
 use Rattle.md_watch.specs.declared.memory.Memory.{Memory}
-use Rattle.md_watch.specs.declared.messages.Messages.{Messages}
-use Rattle.md_watch.specs.declared.paths.Paths.{Paths}
+use Rattle.md_kept.specs.declared.messages.Messages.{Messages}
+use Rattle.md_kept.specs.declared.paths.Paths.{Paths}
 use Rattle.md_watch.specs.declared.readings.Reading.{Reading}
-use Rattle.md_watch.specs.Changes.{file_in}
+use Rattle.md_kept.specs.Changes.{file_in}
 use Rattle.md_watch.specs.Claims.{AreClaims}
 use Rattle.md_watch.specs.Flagged.{AreFlagged}
 use Rattle.md_watch.specs.Listings.{IsWhole, is_completing, is_unlisted, listing_in}
 use Rattle.md_watch.specs.Memory.{steps_of, Remembers, joining, Reads, Hears}
-use Rattle.md_watch.specs.Messages.{count_in_folder}
+use Rattle.md_kept.specs.Messages.{count_in_folder}
 use Rattle.md_watch.specs.Readings.{TakesIn, TakesPart, reading_in, is_wrong}
 use Rattle.md_watch.specs.Watches.{AreMessages}
 use Rattle.md_watch.proofs.Answering.{given-up, answered-falsely}

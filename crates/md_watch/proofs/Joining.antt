@@ -9,9 +9,9 @@ use Rattle.md_watch.specs.declared.listings.Listing.{Listing}
 use Rattle.md_watch.specs.declared.listings.Listings.{Listings}
 use Rattle.md_watch.specs.declared.readings.Reading.{Reading}
 use Rattle.md_watch.specs.Listings.{place_of, unbroken, listing_in, HasBegunBy, Joins, joining, Completes}
-use Rattle.md_watch.specs.declared.table.Table.{Table}
-use Rattle.md_watch.specs.Tables.{value_at, count_at, is_key, Puts}
-use Rattle.md_watch.proofs.Keys.{key-is}
+use Rattle.md_kept.specs.declared.table.Table.{Table}
+use Rattle.md_kept.specs.Tables.{value_at, count_at, is_key, Puts}
+use Rattle.md_kept.proofs.Keys.{key-is}
 
 same-key : (folder : ℕ) (actor : List ℕ) → is_key (folder, actor) (folder, actor) ≡ true
 same-key folder actor = (key-is (folder, actor) (folder, actor)).1 (refl, refl)

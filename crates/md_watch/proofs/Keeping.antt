@@ -11,16 +11,16 @@ use Rattle.md_law.specs.Messages.{is_message, is_tmp}
 use Rattle.md_monitor.specs.Files.{FileKept, is_some_and, count_where, is_cur_message, comes_to, seen_times}
 use Rattle.md_monitor.specs.Messages.{MessagesKept, PathKept, is_of, is_of_any, path_after, path_named}
 use Rattle.md_watch.specs.Stored.{HasFiles}
-use Rattle.md_watch.specs.declared.files.FileKept.{FileKept as Kept}
-use Rattle.md_watch.specs.declared.messages.Messages.{Messages}
-use Rattle.md_watch.specs.declared.drafts.Drafts.{Drafts}
+use Rattle.md_kept.specs.declared.files.FileKept.{FileKept as Kept}
+use Rattle.md_kept.specs.declared.messages.Messages.{Messages}
+use Rattle.md_kept.specs.declared.drafts.Drafts.{Drafts}
 use Rattle.md_watch.specs.declared.watch.Watch.{Watch}
-use Rattle.md_watch.specs.Changes.{Turn, file_in, after_turn, with_taken, with_named}
-use Rattle.md_watch.specs.Files as files
-use Rattle.md_watch.specs.Messages as messages
-use Rattle.md_watch.specs.Drafts as drafts
+use Rattle.md_kept.specs.Changes.{Turn, file_in, after_turn, with_taken, with_named}
+use Rattle.md_kept.specs.Files as files
+use Rattle.md_kept.specs.Messages as messages
+use Rattle.md_kept.specs.Drafts as drafts
 use Rattle.md_watch.specs.Watches.{AreFiles, AreMessages, AreDrafts, Keeps, Follows}
-use Rattle.md_watch.proofs.Keys.{draft-is}
+use Rattle.md_kept.proofs.Keys.{draft-is}
 use Rattle.md_watch.proofs.Counting.{one, turning-count, turning-some}
 use Rattle.md_watch.proofs.Filing.{turned-same, turned-cur, turned-seen, turned-times}
 use Rattle.md_watch.proofs.Touching.{within-some}

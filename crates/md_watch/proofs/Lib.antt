@@ -1,11 +1,8 @@
-pub mod Keys
-pub mod Directories
 pub mod Parts
 pub mod Afters
 pub mod Stored
 pub mod Turning
 pub mod Counting
-pub mod Leaving
 pub mod Filing
 pub mod Touching
 pub mod Keeping

@@ -17,11 +17,11 @@ use Rattle.md_monitor.specs.Files.{is_some_and, is_cur}
 use Rattle.md_watch.specs.declared.flagged.Shown.{Shown}
 use Rattle.md_watch.specs.declared.flagged.Flagged.{Flagged}
 use Rattle.md_watch.specs.declared.spells.Spell.{Spell}
-use Rattle.md_watch.specs.declared.table.Table.{Table}
+use Rattle.md_kept.specs.declared.table.Table.{Table}
 use Rattle.md_watch.specs.Flagged.{shows, times, mark_of, count_of, spell_of, set_at, count_by, spell_by, more_at, less_at, Changes, Lends, Comes, Goes, Puts as PutsPath}
 use Rattle.md_watch.specs.Spells.{since_of, ended_of, spell_at, Passes, Notes}
-use Rattle.md_watch.specs.Tables.{count_at, value_at, is_key, Puts}
-use Rattle.md_watch.proofs.Keys.{key-is, key-same, same-tests}
+use Rattle.md_kept.specs.Tables.{count_at, value_at, is_key, Puts}
+use Rattle.md_kept.proofs.Keys.{key-is, key-same, same-tests}
 use Rattle.md_watch.proofs.Spelling.{passes-none}
 
 -- ---- spells

@@ -28,13 +28,13 @@ use Rattle.md_monitor.specs.Found as files
 use Rattle.md_monitor.proofs.Changing.{led, with_file-is}
 use Rattle.md_watch.specs.Stored.{HasFiles}
 use Rattle.md_watch.specs.declared.watch.Watch.{Watch}
-use Rattle.md_watch.specs.Changes.{message_of}
-use Rattle.md_watch.specs.Files.{is_maker_in, is_seen_in, stamp_in}
-use Rattle.md_watch.specs.Messages.{count_in_folder, count_anywhere, count_as_file, was_in_folder, was_in_folder_as}
-use Rattle.md_watch.specs.Drafts.{path_in}
+use Rattle.md_kept.specs.Changes.{message_of}
+use Rattle.md_kept.specs.Files.{is_maker_in, is_seen_in, stamp_in}
+use Rattle.md_kept.specs.Messages.{count_in_folder, count_anywhere, count_as_file, was_in_folder, was_in_folder_as}
+use Rattle.md_kept.specs.Drafts.{path_in}
 use Rattle.md_watch.specs.Found as found
 use Rattle.md_watch.specs.Watches.{AreFiles, AreMessages, AreDrafts}
-use Rattle.md_watch.proofs.Keys.{same-tests}
+use Rattle.md_kept.proofs.Keys.{same-tests}
 use Rattle.md_watch.proofs.Counting.{in-and-beside}
 use Rattle.md_watch.proofs.Turning.{turn}
 

@@ -13,15 +13,15 @@ use Rattle.md_law.specs.Messages.{is_message}
 use Rattle.md_law.specs.Readings.{Looker}
 use Rattle.md_monitor.specs.Readings.{is_name_of}
 use Rattle.md_dirs.specs.Index.{directory_number}
-use Rattle.md_watch.specs.declared.directory.Directory.{Directory}
-use Rattle.md_watch.specs.declared.paths.Paths.{Paths}
+use Rattle.md_kept.specs.declared.directory.Directory.{Directory}
+use Rattle.md_kept.specs.declared.paths.Paths.{Paths}
 use Rattle.md_watch.specs.declared.readings.Reading.{Reading}
 use Rattle.md_watch.specs.declared.readings.Readings.{Readings}
 use Rattle.md_watch.specs.declared.spells.Spells.{Spells}
-use Rattle.md_watch.specs.Directories.{directory_in}
+use Rattle.md_kept.specs.Directories.{directory_in}
 use Rattle.md_watch.specs.Readings.{Adds, IsTakenIn, TakesIn, TakesPart, begun_of, has_shown, is_named, lacks, reading_in, shows_other}
-use Rattle.md_watch.specs.Tables.{Puts, value_at, is_key}
-use Rattle.md_watch.proofs.Keys.{key-is}
+use Rattle.md_kept.specs.Tables.{Puts, value_at, is_key}
+use Rattle.md_kept.proofs.Keys.{key-is}
 
 -- ---- names that are added one by one
 

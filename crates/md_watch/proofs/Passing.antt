@@ -18,17 +18,17 @@ use Rattle.md_monitor.specs.Messages.{MessagesKept, is_of, is_there, paths_of}
 use Rattle.md_monitor.proofs.Changing.{led}
 use Rattle.md_monitor.proofs.Recounting.{recount}
 use Rattle.md_monitor.proofs.Seeing.{some-where}
-use Rattle.md_watch.specs.declared.messages.Messages.{Messages}
+use Rattle.md_kept.specs.declared.messages.Messages.{Messages}
 use Rattle.md_watch.specs.declared.presences.Presences.{Presences}
 use Rattle.md_watch.specs.declared.spells.Spell.{Spell}
 use Rattle.md_watch.specs.declared.spells.Spells.{Spells}
-use Rattle.md_watch.specs.Changes.{Turn, message_of}
-use Rattle.md_watch.specs.Messages.{count_in_folder}
+use Rattle.md_kept.specs.Changes.{Turn, message_of}
+use Rattle.md_kept.specs.Messages.{count_in_folder}
 use Rattle.md_watch.specs.Presences.{ArePresences, PassesAll, KeepsNone, is_in_folder, in_folders, NotesPath, NotesUnique, NotesMessage, Follows}
 use Rattle.md_watch.specs.Spells.{Passes, IsTimely, Notes, spell_at}
 use Rattle.md_watch.specs.Watches.{AreMessages}
 use Rattle.md_watch.proofs.Counting.{one}
-use Rattle.md_watch.proofs.Keys.{key-is, path-is, spot-is}
+use Rattle.md_kept.proofs.Keys.{key-is, path-is, spot-is}
 use Rattle.md_watch.proofs.Spelling.{timely-none, timely-next, passes-none}
 use Rattle.md_watch.proofs.Turning.{turn, stays}
 

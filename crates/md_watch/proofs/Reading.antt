@@ -30,8 +30,8 @@ use Rattle.md_watch.specs.declared.spells.Spell.{Spell}
 use Rattle.md_watch.specs.Presences.{ArePresences, PassesAll}
 use Rattle.md_watch.specs.Readings.{IsReadingKept, AreReadings, HoldsReadings, TakesIn, TakesPart, IsTakenIn, Leaves, begun_of, has_shown, has_shown_message, reading_in, name_spell, message_spell, is_list}
 use Rattle.md_watch.specs.Spells.{IsTimely, Passes, always_by, ever_by}
-use Rattle.md_watch.specs.Tables.{is_key}
-use Rattle.md_watch.proofs.Keys.{path-is, spot-is}
+use Rattle.md_kept.specs.Tables.{is_key}
+use Rattle.md_kept.proofs.Keys.{path-is, spot-is}
 use Rattle.md_watch.proofs.Parts.{and-true, itself}
 use Rattle.md_watch.proofs.Passing.{passes-still}
 use Rattle.md_watch.proofs.Spelling.{timely-next, always-here, always-next, ever-here, ever-next}

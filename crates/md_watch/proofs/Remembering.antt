@@ -20,13 +20,13 @@ use Rattle.md_watch.specs.declared.listings.Listings.{Listings}
 use Rattle.md_watch.specs.declared.memory.Heard.{Heard}
 use Rattle.md_watch.specs.declared.memory.Memory.{Memory}
 use Rattle.md_watch.specs.declared.memory.Read.{Read}
-use Rattle.md_watch.specs.declared.messages.Messages.{Messages}
-use Rattle.md_watch.specs.declared.paths.Paths.{Paths}
+use Rattle.md_kept.specs.declared.messages.Messages.{Messages}
+use Rattle.md_kept.specs.declared.paths.Paths.{Paths}
 use Rattle.md_watch.specs.declared.presences.InFolders.{InFolders}
 use Rattle.md_watch.specs.declared.presences.Presences.{Presences}
 use Rattle.md_watch.specs.declared.readings.Reading.{Reading}
 use Rattle.md_watch.specs.declared.readings.Readings.{Readings}
-use Rattle.md_watch.specs.Changes.{Turn}
+use Rattle.md_kept.specs.Changes.{Turn}
 use Rattle.md_watch.specs.Claims as claims
 use Rattle.md_watch.specs.Claims.{AreClaims, actor_in}
 use Rattle.md_watch.specs.Flagged as flagged
@@ -36,7 +36,7 @@ use Rattle.md_watch.specs.Memory.{steps_of, Begins, Remembers, Recalls, Puts, St
 use Rattle.md_watch.specs.Presences as presences
 use Rattle.md_watch.specs.Presences.{ArePresences, PassesAll, in_folders}
 use Rattle.md_watch.specs.Readings.{AreReadings, TakesIn, TakesPart, reading_in, is_list}
-use Rattle.md_watch.specs.Tables.{value_at}
+use Rattle.md_kept.specs.Tables.{value_at}
 use Rattle.md_watch.specs.Watches.{AreMessages}
 use Rattle.md_watch.proofs.Answering.{claims-begin, claims-step}
 use Rattle.md_watch.proofs.Counting.{one}

@@ -15,7 +15,7 @@ use Rattle.md_law.specs.History.{ask_at, ask_between}
 use Rattle.md_law.specs.Readings.{Looker}
 use Rattle.md_monitor.specs.Judged.{is_wrong_call}
 use Rattle.md_monitor.specs.Readings.{ReadingKept}
-use Rattle.md_watch.specs.Replies.{answer_at, answer_between, is_wrong_answer, is_wrong}
+use Rattle.md_kept.specs.Replies.{answer_at, answer_between, is_wrong_answer, is_wrong}
 use Rattle.md_watch.proofs.Hearing.{IsMisread}
 
 -- by whether the path is there, and whether its folder is

@@ -20,8 +20,8 @@ use Rattle.md_monitor.specs.Files.{is_some_and, is_ok, is_fault, is_write, made_
 use Rattle.md_watch.specs.Stored.{HasFiles}
 use Rattle.md_watch.proofs.Afters.{at-files, between-files}
 use Rattle.md_watch.proofs.Stored.{unlinked-file, between-file, written-stamp, written-other, made-stamp, made-other}
-use Rattle.md_watch.specs.declared.files.FileKept.{FileKept}
-use Rattle.md_watch.specs.Files.{Adds, changing, made_by as made, written, cut, flushed, maker_of, maker_in, is_unflushed_in, is_cut_in, stamp_of, stamp_in}
+use Rattle.md_kept.specs.declared.files.FileKept.{FileKept}
+use Rattle.md_kept.specs.Files.{Adds, changing, made_by as made, written, cut, flushed, maker_of, maker_in, is_unflushed_in, is_cut_in, stamp_of, stamp_in}
 use Rattle.md_watch.specs.Watches.{touching}
 use Rattle.md_watch.proofs.Filing.{same-number}
 

@@ -13,8 +13,8 @@ use Rattle.md_law.specs.History.{after_call}
 use Rattle.md_monitor.specs.Changes.{Change, no_change, change_of, naming_change, turned_by, with_file, is_file}
 use Rattle.md_monitor.proofs.Changing.{Leads, led}
 use Rattle.md_monitor.proofs.Tests.{file-is}
-use Rattle.md_watch.specs.Changes.{Turn, still, naming_by, turn_by, after_turn, with_taken, with_named}
-use Rattle.md_watch.proofs.Keys.{path-is}
+use Rattle.md_kept.specs.Changes.{Turn, still, naming_by, turn_by, after_turn, with_taken, with_named}
+use Rattle.md_kept.proofs.Keys.{path-is}
 
 -- a change of the monitor's, as a turn
 abbrev pub turn : State → Change → Turn

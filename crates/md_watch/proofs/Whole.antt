@@ -15,13 +15,13 @@ use Rattle.md_log.specs.declared.line.Reply.TheVariants as reply
 use Rattle.md_law.specs.Readings.{Looker}
 use Rattle.md_monitor.specs.Messages.{is_there}
 use Rattle.md_monitor.specs.Readings.{ReadingKept, is_name_of}
-use Rattle.md_watch.specs.declared.directory.Directory.{Directory}
+use Rattle.md_kept.specs.declared.directory.Directory.{Directory}
 use Rattle.md_watch.specs.declared.listings.Present.{Present}
-use Rattle.md_watch.specs.declared.paths.Paths.{Paths}
+use Rattle.md_kept.specs.declared.paths.Paths.{Paths}
 use Rattle.md_watch.specs.declared.presences.Presences.{Presences}
 use Rattle.md_watch.specs.declared.readings.Reading.{Reading}
-use Rattle.md_watch.specs.Changes.{file_in}
-use Rattle.md_watch.specs.Directories.{names_by, file_by, names_in, directory_in}
+use Rattle.md_kept.specs.Changes.{file_in}
+use Rattle.md_kept.specs.Directories.{names_by, file_by, names_in, directory_in}
 use Rattle.md_watch.specs.Listings.{IsWhole, is_completing, AreNames, IsPresent}
 use Rattle.md_watch.specs.Readings.{IsReadingKept, TakesIn, Leaves}
 use Rattle.md_watch.specs.Spells.{always_by, spell_at}

@@ -18,15 +18,15 @@ use Rattle.md_monitor.specs.Files.{count_where}
 use Rattle.md_monitor.specs.Readings.{ReadingKept, is_place, is_among, is_wrong_reading, shows_wrongly, is_lacked}
 use Rattle.md_monitor.proofs.Parts.{place-is}
 use Rattle.md_monitor.proofs.Seeing.{some-where}
-use Rattle.md_watch.specs.declared.directory.Directory.{Directory}
-use Rattle.md_watch.specs.declared.paths.Paths.{Paths}
+use Rattle.md_kept.specs.declared.directory.Directory.{Directory}
+use Rattle.md_kept.specs.declared.paths.Paths.{Paths}
 use Rattle.md_watch.specs.declared.presences.Presences.{Presences}
 use Rattle.md_watch.specs.declared.readings.Reading.{Reading}
-use Rattle.md_watch.specs.Changes.{file_in}
-use Rattle.md_watch.specs.Directories.{directory_in, file_by, names_by, names_in}
+use Rattle.md_kept.specs.Changes.{file_in}
+use Rattle.md_kept.specs.Directories.{directory_in, file_by, names_by, names_in}
 use Rattle.md_watch.specs.Readings.{IsReadingKept, begun_of, has_shown, has_then, is_wrong, lacks, name_spell, shows_other}
 use Rattle.md_watch.specs.Spells.{always_by, ever_by}
-use Rattle.md_watch.proofs.Keys.{same-tests}
+use Rattle.md_kept.proofs.Keys.{same-tests}
 
 itself-is : (b : Bool) → Decides b (b ≡ true)
 itself-is b = (λ t. t, λ t. t)

@@ -28,11 +28,11 @@ use Rattle.md_watch.specs.declared.flagged.Flagged.{Flagged}
 use Rattle.md_watch.specs.declared.presences.InFolders.{InFolders}
 use Rattle.md_watch.specs.declared.presences.Presences.{Presences}
 use Rattle.md_watch.specs.declared.spells.Spell.{Spell}
-use Rattle.md_watch.specs.Changes.{Turn}
+use Rattle.md_kept.specs.Changes.{Turn}
 use Rattle.md_watch.specs.Flagged.{is_in, spell_in}
-use Rattle.md_watch.specs.Messages.{count_in_folder}
+use Rattle.md_kept.specs.Messages.{count_in_folder}
 use Rattle.md_watch.specs.Spells.{always_by, ever_by, spell_at}
-use Rattle.md_watch.specs.Tables.{value_at, is_key}
+use Rattle.md_kept.specs.Tables.{value_at, is_key}
 
 -- ---- what is kept of an actor and a message
 

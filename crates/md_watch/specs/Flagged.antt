@@ -16,9 +16,9 @@ use Rattle.md_monitor.specs.Answers.{is_flagged, is_same_set}
 use Rattle.md_watch.specs.declared.flagged.Shown.{Shown}
 use Rattle.md_watch.specs.declared.flagged.Flagged.{Flagged}
 use Rattle.md_watch.specs.declared.spells.Spell.{Spell}
-use Rattle.md_watch.specs.Changes.{Turn}
+use Rattle.md_kept.specs.Changes.{Turn}
 use Rattle.md_watch.specs.Spells.{spell_at, Passes, IsTimely}
-use Rattle.md_watch.specs.Tables.{count_at, is_key}
+use Rattle.md_kept.specs.Tables.{count_at, is_key}
 
 -- ---- what paths show
 

@@ -18,11 +18,11 @@ use Rattle.md_watch.specs.declared.broken.Broken.{Broken}
 use Rattle.md_watch.specs.declared.broken.LawBefore.{LawBefore}
 use Rattle.md_watch.specs.declared.broken.OwedBefore.{OwedBefore}
 use Rattle.md_watch.specs.declared.memory.Heard.{Heard}
-use Rattle.md_watch.specs.Changes.{Turn, file_in, message_of}
-use Rattle.md_watch.specs.Files.{is_maker_in, is_unflushed_in, is_cut_in, was_cur_in, was_seen_in, is_seen_in, stamp_in}
-use Rattle.md_watch.specs.Messages.{count_in_folder, count_anywhere, count_as_file, was_in_folder, was_in_folder_as, was_anywhere, was_as_file}
-use Rattle.md_watch.specs.Replies.{is_wrong}
-use Rattle.md_watch.specs.Drafts.{path_in}
+use Rattle.md_kept.specs.Changes.{Turn, file_in, message_of}
+use Rattle.md_kept.specs.Files.{is_maker_in, is_unflushed_in, is_cut_in, was_cur_in, was_seen_in, is_seen_in, stamp_in}
+use Rattle.md_kept.specs.Messages.{count_in_folder, count_anywhere, count_as_file, was_in_folder, was_in_folder_as, was_anywhere, was_as_file}
+use Rattle.md_kept.specs.Replies.{is_wrong}
+use Rattle.md_kept.specs.Drafts.{path_in}
 
 -- the file to which a call writes, or may have written a part
 abbrev pub written_by : (Path → Option ℕ) → Call → Option ℕ

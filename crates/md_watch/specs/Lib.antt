@@ -1,17 +1,9 @@
 pub mod Stored
-pub mod Tables
 pub mod Spells
-pub mod Sets
-pub mod Directories
 pub mod Readings
-pub mod Changes
-pub mod Files
-pub mod Messages
-pub mod Drafts
 pub mod Claims
 pub mod Flagged
 pub mod Clauses
-pub mod Replies
 pub mod Found
 pub mod Watches
 pub mod Presences

@@ -23,7 +23,7 @@ use Rattle.md_watch.specs.declared.presences.Presences.{Presences}
 use Rattle.md_watch.specs.declared.readings.Reading.{Reading}
 use Rattle.md_watch.specs.declared.spells.Spell.{Spell}
 use Rattle.md_watch.specs.Spells.{always_by, spell_at}
-use Rattle.md_watch.specs.Tables.{value_at, count_at, is_key, Puts}
+use Rattle.md_kept.specs.Tables.{value_at, count_at, is_key, Puts}
 
 -- ---- what is kept of a listing
 

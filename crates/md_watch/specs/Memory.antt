@@ -21,21 +21,21 @@ use Rattle.md_watch.specs.declared.memory.Heard.{Heard}
 use Rattle.md_watch.specs.declared.memory.Memory.{Memory}
 use Rattle.md_watch.specs.declared.memory.Read.{Read}
 use Rattle.md_watch.specs.declared.memory.Told.{Told}
-use Rattle.md_watch.specs.declared.messages.Messages.{Messages}
-use Rattle.md_watch.specs.declared.paths.Paths.{Paths}
+use Rattle.md_kept.specs.declared.messages.Messages.{Messages}
+use Rattle.md_kept.specs.declared.paths.Paths.{Paths}
 use Rattle.md_watch.specs.declared.presences.InFolders.{InFolders}
 use Rattle.md_watch.specs.declared.readings.Reading.{Reading}
-use Rattle.md_watch.specs.Changes.{Turn}
+use Rattle.md_kept.specs.Changes.{Turn}
 use Rattle.md_watch.specs.Claims as claims
 use Rattle.md_watch.specs.Claims.{AreClaims, actor_in}
-use Rattle.md_watch.specs.Directories.{names_in}
+use Rattle.md_kept.specs.Directories.{names_in}
 use Rattle.md_watch.specs.Flagged as flagged
 use Rattle.md_watch.specs.Flagged.{AreFlagged}
 use Rattle.md_watch.specs.Listings.{AreListings, Breaks, Completes, is_unlisted, listing_in}
 use Rattle.md_watch.specs.Presences as presences
 use Rattle.md_watch.specs.Presences.{ArePresences}
 use Rattle.md_watch.specs.Readings.{AreReadings, TakesPart, reading_in, is_wrong}
-use Rattle.md_watch.specs.Tables.{value_at}
+use Rattle.md_kept.specs.Tables.{value_at}
 
 -- ---- what is remembered is so
 

@@ -5,12 +5,12 @@ use Rattle.md_dirs.specs.State.{State, file_at}
 use Rattle.md_dirs.specs.declared.paths.Path.{Path}
 use Rattle.md_monitor.specs.Files.{is_some_and}
 use Rattle.md_monitor.specs.Messages.{is_there}
-use Rattle.md_watch.specs.declared.messages.Messages.{Messages}
+use Rattle.md_kept.specs.declared.messages.Messages.{Messages}
 use Rattle.md_watch.specs.declared.presences.InFolders.{InFolders}
 use Rattle.md_watch.specs.declared.presences.Presences.{Presences}
 use Rattle.md_watch.specs.declared.spells.Spells.{Spells}
-use Rattle.md_watch.specs.Changes.{Turn, message_of}
-use Rattle.md_watch.specs.Messages.{count_in_folder}
+use Rattle.md_kept.specs.Changes.{Turn, message_of}
+use Rattle.md_kept.specs.Messages.{count_in_folder}
 use Rattle.md_watch.specs.Spells.{IsTimely, Passes, Notes, spell_at}
 
 -- ---- what is kept, by the directories

@@ -16,17 +16,17 @@ use Rattle.md_law.specs.Messages.{is_tmp}
 use Rattle.md_law.specs.Readings.{Looker}
 use Rattle.md_monitor.specs.Messages.{is_there}
 use Rattle.md_monitor.specs.Readings.{ReadingKept, readings_kept, has_name, is_name_of}
-use Rattle.md_watch.specs.declared.directory.Directory.{Directory}
-use Rattle.md_watch.specs.declared.paths.Paths.{Paths}
+use Rattle.md_kept.specs.declared.directory.Directory.{Directory}
+use Rattle.md_kept.specs.declared.paths.Paths.{Paths}
 use Rattle.md_watch.specs.declared.presences.Presences.{Presences}
 use Rattle.md_watch.specs.declared.readings.Part.{Part}
 use Rattle.md_watch.specs.declared.readings.Reading.{Reading}
 use Rattle.md_watch.specs.declared.readings.Readings.{Readings}
 use Rattle.md_watch.specs.declared.spells.Spell.{Spell}
 use Rattle.md_watch.specs.declared.spells.Spells.{Spells}
-use Rattle.md_watch.specs.Directories.{file_by, names_by, directory_in}
+use Rattle.md_kept.specs.Directories.{file_by, names_by, directory_in}
 use Rattle.md_watch.specs.Spells.{always_by, ever_by, spell_at}
-use Rattle.md_watch.specs.Tables.{value_at, is_key}
+use Rattle.md_kept.specs.Tables.{value_at, is_key}
 
 -- ---- an open reading, where there is one
 

@@ -3,7 +3,7 @@ use Rattle.std.specs.Prelude.{ℕ, ◌≡◌, ◌+◌, ◌<◌, ◌≤◌, ◌&&
 use Rattle.std.specs.List.{list_any, list_all}
 use Rattle.md_watch.specs.declared.spells.Spell.{Spell}
 use Rattle.md_watch.specs.declared.spells.Spells.{Spells}
-use Rattle.md_watch.specs.Tables.{value_at, is_key}
+use Rattle.md_kept.specs.Tables.{value_at, is_key}
 
 -- ---- what is kept of a thing
 

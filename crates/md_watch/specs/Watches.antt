@@ -18,16 +18,16 @@ use Rattle.md_monitor.specs.Messages.{MessagesKept, messages_kept, paths_of, pat
 use Rattle.md_watch.specs.Stored.{HasFiles}
 use Rattle.md_log.specs.declared.error.LineFault.{LineFault}
 use Rattle.md_log.specs.declared.error.LineFault.TheVariants.{SamePath, NoSuchPath}
-use Rattle.md_watch.specs.declared.files.FileKept.{FileKept as Kept}
-use Rattle.md_watch.specs.declared.messages.Messages.{Messages}
-use Rattle.md_watch.specs.declared.drafts.Drafts.{Drafts}
+use Rattle.md_kept.specs.declared.files.FileKept.{FileKept as Kept}
+use Rattle.md_kept.specs.declared.messages.Messages.{Messages}
+use Rattle.md_kept.specs.declared.drafts.Drafts.{Drafts}
 use Rattle.md_watch.specs.declared.broken.Broken.{Broken}
 use Rattle.md_watch.specs.declared.watch.Watch.{Watch}
 use Rattle.md_watch.specs.Clauses.{breaks}
-use Rattle.md_watch.specs.Changes.{Turn, file_in, after_turn}
-use Rattle.md_watch.specs.Files as files
-use Rattle.md_watch.specs.Messages as messages
-use Rattle.md_watch.specs.Drafts as drafts
+use Rattle.md_kept.specs.Changes.{Turn, file_in, after_turn}
+use Rattle.md_kept.specs.Files as files
+use Rattle.md_kept.specs.Messages as messages
+use Rattle.md_kept.specs.Drafts as drafts
 use Rattle.md_watch.specs.Memory.{Recalls}
 
 -- ---- what tables hold, by the directories and what the monitor keeps

@@ -1,19 +1,18 @@
 //! What is kept of what actors told of messages, and did about them.
 ghost use Rattle.std.specs.Prelude.{◌≡◌, ℕ, List, None, OnOk};
-ghost use Rattle.md_watch.specs.Changes.{turn_of};
+ghost use Rattle.md_kept.specs.Changes.{turn_of};
 ghost use Rattle.md_watch.specs.Claims.{Steps, actor_in, did_by, done_of, is_left_of};
 
 mod actor;
 mod deeds;
 mod finding;
 
-use crate::change::Change;
 use crate::presences::InFolders;
-use crate::table::Table;
 use actor::Actor;
 use deeds::{Done, nothing};
 pub(crate) use deeds::{Acts, NO_ACTS};
 pub(crate) use finding::Past;
+use md_kept::{Change, Table};
 use md_log::{Call, Step};
 use std::alloc::{AllocError, Global};
 

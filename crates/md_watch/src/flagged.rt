@@ -1,17 +1,16 @@
 //! When messages showed flags in cur.
 ghost use Rattle.std.specs.Prelude.{◌≡◌, ℕ, List, Some, None, nat_eq, nat_lt, OnOk};
 ghost use Rattle.std.specs.Option.{option_map};
-ghost use Rattle.md_watch.specs.Changes.{turn_of};
-ghost use Rattle.md_watch.specs.Files.{lent_as};
+ghost use Rattle.md_kept.specs.Changes.{turn_of};
+ghost use Rattle.md_kept.specs.Files.{lent_as};
 ghost use Rattle.md_watch.specs.Flagged.{Changes, Comes, Follows, Goes, Lends, Puts, count_by, count_in, count_of, is_in, less_at, lent_mark, mark_of, more_at, spell_by, spell_in, spell_of};
 ghost use Rattle.md_watch.specs.Spells.{ever_by, spell_at};
-ghost use Rattle.md_watch.specs.Tables.{count_at};
+ghost use Rattle.md_kept.specs.Tables.{count_at};
 
-use crate::change::{Change, Named, is_cur};
 use crate::spells::Spells;
-use crate::table::Table;
 use indexmap::IndexMap;
 use md_dirs::Path;
+use md_kept::{Change, Named, Table, is_cur};
 use md_name::{Flags, split};
 use std::alloc::{AllocError, Global};
 

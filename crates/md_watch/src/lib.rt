@@ -5,22 +5,14 @@
 #![tactic(auto)]
 
 mod broken;
-mod change;
 mod claims;
-mod directory;
-mod drafts;
-mod files;
 mod flagged;
 mod listings;
 mod marks;
 mod memory;
-mod messages;
-mod paths;
 mod presences;
 mod readings;
-mod sets;
 mod spells;
-mod table;
 mod watch;
 
 pub use broken::Broken;

@@ -4,15 +4,14 @@ ghost use Rattle.std.specs.List.{list_any};
 ghost use Rattle.std.specs.Option.{option_copied};
 ghost use Rattle.md_watch.specs.Listings.{Breaks, Completes, Joins, listing_in, place_of, is_completed_by, is_shown, was_always, is_left_out, is_lacked, is_unlisted, always_during};
 ghost use Rattle.md_watch.specs.Spells.{spell_at};
-ghost use Rattle.md_watch.specs.Tables.{Puts, count_at, value_at};
+ghost use Rattle.md_kept.specs.Tables.{Puts, count_at, value_at};
 
-use crate::paths::Paths;
 use crate::presences::Presences;
 use crate::readings::{Part, Reading};
 use crate::spells::Spells;
-use crate::table::Table;
 use indexmap::IndexSet;
 use md_dirs::{Bytes, NameKey, Place};
+use md_kept::{Paths, Table};
 use md_name::{is_message, unique_part};
 use std::alloc::{AllocError, Global};
 

@@ -3,14 +3,12 @@
 //! Entries are what a watch is told, numbered from 0 in their order: each file and each further name at the beginning, and then each step.
 //! Nothing is proved of them but that they are safe.
 
-use crate::change::{Change, Named, is_cur, is_message, message_of};
 use crate::claims::{Acts, NO_ACTS};
-use crate::files::Files;
-use crate::messages::Messages;
-use crate::paths::{Paths, number_of};
 use crate::presences::Presences;
-use crate::table::Table;
 use md_dirs::Path;
+use md_kept::{
+    Change, Files, Messages, Named, Paths, Table, is_cur, is_message, message_of, number_of,
+};
 use md_log::{Call, Deed, Reply, Step};
 use std::alloc::{AllocError, Global};
 

@@ -1,19 +1,17 @@
 //! What is remembered of the moments so far: when things were there, and what actors read, listed, told and did.
 ghost use Rattle.std.specs.Prelude.{◌≡◌, OnOk, IfOk};
 ghost use Rattle.md_dirs.specs.State.{bare};
-ghost use Rattle.md_watch.specs.Changes.{turn_of};
+ghost use Rattle.md_kept.specs.Changes.{turn_of};
 ghost use Rattle.md_watch.specs.Memory.{Begins, Puts, Tells, Reads, ReadsPart, Lists, Hears, Follows};
 ghost use Rattle.md_watch.specs.Readings.{looker_of};
 
-use crate::change::Change;
 use crate::claims::{Acts, Claims, NO_ACTS, Past};
 use crate::flagged::Flagged;
 use crate::listings::{Listings, Present};
-use crate::messages::Messages;
-use crate::paths::Paths;
 use crate::presences::{InFolders, Presences};
 use crate::readings::{Found, Part, Reading, Readings};
 use md_dirs::{Bytes, Path, Place};
+use md_kept::{Change, Messages, Paths};
 use md_log::{Call, Step};
 use std::alloc::{AllocError, Global};
 

@@ -1,13 +1,11 @@
 //! When names were in directories, and messages in folders.
 ghost use Rattle.std.specs.Prelude.{◌≡◌, OnOk, is_some, true, false};
-ghost use Rattle.md_watch.specs.Changes.{turn_of};
-ghost use Rattle.md_watch.specs.Files.{lent_as};
+ghost use Rattle.md_kept.specs.Changes.{turn_of};
+ghost use Rattle.md_kept.specs.Files.{lent_as};
 ghost use Rattle.md_watch.specs.Presences.{KeepsNone, is_in_folder, in_folders, NotesPath, NotesMessage, Follows};
 
-use crate::change::{Change, Named, message_of};
-use crate::messages::Messages;
-use crate::paths::number_of;
 use crate::spells::Spells;
+use md_kept::{Change, Messages, Named, message_of, number_of};
 use std::alloc::{AllocError, Global};
 
 /// Whether the messages of a change's paths are in the folders of these paths.

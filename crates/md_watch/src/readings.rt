@@ -5,15 +5,13 @@ ghost use Rattle.std.specs.Str.{bytes_eq};
 ghost use Rattle.indexmap.specs.IndexSet.{contains};
 ghost use Rattle.md_dirs.specs.Index.{directory_number};
 ghost use Rattle.md_law.specs.Readings.{Looker};
-ghost use Rattle.md_watch.specs.Tables.{Puts};
+ghost use Rattle.md_kept.specs.Tables.{Puts};
 ghost use Rattle.md_watch.specs.Readings.{Adds, TakesIn, TakesPart, has_then, is_wrong, lacks, looker_of, message_named, reading_in, shows_other};
 
-use crate::directory::Directory;
-use crate::paths::{Paths, number_of};
 use crate::spells::Spells;
-use crate::table::Table;
 use indexmap::IndexSet;
 use md_dirs::{Bytes, NameKey, Place};
+use md_kept::{Directory, Paths, Table, number_of};
 use md_log::{Names, Reply};
 use md_name::{is_message, unique_part};
 use std::alloc::{AllocError, Global};

@@ -4,7 +4,7 @@ ghost use Rattle.std.specs.List.{list_any};
 ghost use Rattle.md_watch.specs.LookUps.{last_of};
 ghost use Rattle.md_watch.specs.Spells.{Notes, always_by, ended_of, ever_by, since_of, spell_at, was_through};
 
-use crate::table::Table;
+use md_kept::Table;
 use std::alloc::{AllocError, Global};
 
 /// Since which moment a thing is there, where it is, and the times at which it was there before, each from its first moment to its last.

@@ -3,7 +3,7 @@ ghost use Rattle.std.specs.Prelude.{◌≡◌, ◌≢◌, OnOk, IfOk, IfErr};
 ghost use Rattle.md_dirs.specs.State.{bare};
 ghost use Rattle.md_log.specs.declared.error.LineFault.TheVariants.{NoMemory};
 ghost use Rattle.md_law.specs.History.{History, Moment, opening, next};
-ghost use Rattle.md_watch.specs.Changes.{turn_of, adding};
+ghost use Rattle.md_kept.specs.Changes.{turn_of, adding};
 ghost use Rattle.md_watch.specs.Found.{before_of, law_before, owed_before, after_of};
 ghost use Rattle.md_watch.specs.Watches.{Holds, with_folder, PutsFile, PutsName, IsPathRefused, IsNameRefused, Finds, Touches, Follows};
 
@@ -11,21 +11,16 @@ mod earlier;
 mod finding;
 mod law;
 mod look_ups;
-mod replies;
 
 use crate::broken::{Before, Broken, LawBefore, OwedBefore};
-use crate::change::Change;
-use crate::drafts::Drafts;
-use crate::files::Files;
 use crate::marks::{Marks, There};
 use crate::memory::{Heard, Memory};
-use crate::messages::Messages;
-use crate::paths::Paths;
 use crate::presences::in_folders;
 use finding::is_from_new;
 use law::{empties_trash, turns};
 pub use look_ups::{OpenReading, Presence};
 use md_dirs::Path;
+use md_kept::{Change, Drafts, Files, Messages, Paths};
 use md_log::{Call, Deed, LineFault, Reply, Step};
 use std::alloc::{AllocError, Global};
 
@@ -158,7 +153,7 @@ impl Watch {
         let actor = step.actor.as_slice();
         let written = self.written(&step.call);
         LawBefore {
-            not_a_directory: self.is_wrong(&step.call),
+            not_a_directory: self.paths.is_wrong(self.folders, &step.call),
             overwritten: turns(change),
             seen_before_whole: self.shows_too_early(&step.call, written, change.named),
             mixed: self.is_mixed(actor, written),

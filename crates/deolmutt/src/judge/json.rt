@@ -2,7 +2,7 @@
 
 use crate::judge::shown::Shown;
 use base64::engine::general_purpose::STANDARD;
-use serde_json::json;
+use serde_json::{Value, json};
 use std::alloc::{AllocError, Global};
 
 /// An object with the keys `actor`, `before`, `call`, `clause`, `grade`, `line` and `why`, and a line feed. Words that aren't UTF-8 are in base64
@@ -12,9 +12,15 @@ pub(crate) fn push_json(
     out: &mut Vec<u8>,
     shown: &Shown<'_>,
 ) -> Result<(), AllocError> {
+    let object = object_of(alloc, shown)?;
+    out.extend_from_slice(&object.to_vec(alloc)?)?;
+    out.extend_from_slice(b"\n")
+}
+
+fn object_of(alloc: Global, shown: &Shown<'_>) -> Result<Value, AllocError> {
     let actor_key = key_for(shown.actor, "actor", "actor_base64");
     let call_key = key_for(shown.call, "call", "call_base64");
-    let object = json!(in alloc; {
+    json!(in alloc; {
         actor_key: text_of(alloc, shown.actor)?,
         "before": shown.before,
         call_key: text_of(alloc, shown.call)?,
@@ -22,9 +28,7 @@ pub(crate) fn push_json(
         "grade": shown.grade.name(),
         "line": shown.line,
         "why": shown.why
-    })?;
-    out.extend_from_slice(&object.to_vec(alloc)?)?;
-    out.extend_from_slice(b"\n")
+    })
 }
 
 fn key_for<'a>(words: &[u8], key: &'a str, base64_key: &'a str) -> &'a str {

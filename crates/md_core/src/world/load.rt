@@ -1,17 +1,17 @@
 //! Worlds at their beginning.
 ghost use Rattle.std.specs.Prelude.{◌≡◌, ◌⊎◌, None, Some, IfOk, IfErr, OnOk};
-ghost use Rattle.md_core.specs.Loading.{load_refusal};
+ghost use Rattle.md_used.specs.Loading.{load_refusal};
 ghost use Rattle.md_core.specs.Runs.{new_run};
 ghost use Rattle.md_core.specs.Interleaving.{Interleaves};
 ghost use Rattle.md_core.specs.Tracing.{trace_of};
 
-use crate::used::Used;
 use crate::world::World;
 use crate::world::log::Log;
 use crate::world::looking::look;
 use crate::world::looking::quick::quick_look;
 use md_dirs::Dirs;
 use md_jobs::{CoreError, Snapshot};
+use md_used::Used;
 use std::alloc::Global;
 
 /// Directories that were not loaded, and why.

@@ -1,29 +1,23 @@
 //! A look at all names of directories, before a world begins with them.
-ghost use Rattle.std.specs.Prelude.{◌≡◌, [], ◌||◌, ◌+◌, max, None, IfOk, IfErr, OnOk, MatchResult};
+ghost use Rattle.std.specs.Prelude.{◌≡◌, [], ◌+◌, None, IfOk, IfErr, OnOk, MatchResult};
 ghost use Rattle.std.specs.List.{list_any};
 ghost use Rattle.std.specs.FinMap as finmap;
 ghost use Rattle.md_dirs.specs.Path.{place_index};
-ghost use Rattle.md_core.specs.Loading.{load_refusal, is_bad_name};
-ghost use Rattle.md_core.specs.Looking.{IsLookOf, IsFault, entries_before, fault_after, message_fault, is_of, is_message_of, is_tmp_of, somewhere};
+ghost use Rattle.md_used.specs.Loading.{load_refusal};
+ghost use Rattle.md_core.specs.Looking.{IsLookOf, entries_before};
 ghost use Rattle.md_core.specs.Runs.{first_clock};
 ghost use Rattle.md_core.specs.Submitting.{uses};
-ghost use Rattle.md_core.specs.Used.{is_among};
+ghost use Rattle.md_used.specs.Seen.{IsFault};
+ghost use Rattle.md_used.specs.Used.{is_among};
 
 pub(crate) mod names;
 pub(crate) mod quick;
 
-use crate::used::{NameSet, UsedNames};
 use crate::world::looking::names::count_all;
-use md_dirs::{Dirs, Place, RowRef};
+use md_dirs::{Dirs, Place};
 use md_jobs::CoreError;
-use md_name::{holds_separator, is_message};
+use md_used::{Seen, UsedNames};
 use std::alloc::{AllocError, Global};
-
-/// The longest file name of the usual systems, in bytes.
-const MOST_NAME_BYTES: usize = 255;
-
-/// The longest unique part, in bytes.
-const MOST_UNIQUE_BYTES: usize = 200;
 
 /// What a look at all names of directories gives: the names that are used up, and the greatest stamp in seconds.
 #[derive(Drop)]
@@ -32,75 +26,12 @@ pub(crate) struct Looked {
     pub(crate) clock: u64,
 }
 
-// What was seen so far: the unique names of messages, the names in tmp, and the greatest stamp.
-#[derive(Drop)]
-struct Seen {
-    messages: NameSet,
-    tmp: NameSet,
-    clock: u64,
-}
-
-impl Seen {
-    // Nothing was seen, and there is room for all names of directories.
-    fn for_names<D: Dirs>(alloc: Global, dirs: &D) -> Result<Seen, AllocError>
-        ensures { IfOk result (λ seen. (seen.messages ≡ []) × (seen.tmp ≡ []) × (seen.clock ≡ 0)) }
-    {
-        let (messages, tmp) = count_all(dirs);
-        let seed = dirs.hash_seed();
-        Ok(Seen {
-            messages: NameSet::with_room(alloc, seed, messages)?,
-            tmp: NameSet::with_room(alloc, seed, tmp)?,
-            clock: 0,
-        })
-    }
-
-    // Looks at one more name, and refuses it where it has a fault. Of the two that call it, one does so at each name of a world that begins.
-    #[inline(always)]
-    fn add(&mut self, place: Place, row: &RowRef<'_>) -> Result<(), CoreError>
-        ensures fault { let fault = fault_after self.old.messages (somewhere place row.now) in MatchResult result (λ _. fault ≡ None) (IsFault fault) }
-        ensures messages { OnOk result ((u : _) →
-            is_among u self.new.messages ≡ (is_message_of u (somewhere place row.now) || is_among u self.old.messages)) }
-        ensures tmp { OnOk result ((u : _) → is_among u self.new.tmp ≡ (is_tmp_of u (somewhere place row.now) || is_among u self.old.tmp)) }
-        ensures clock { OnOk result (self.new.clock ≡ max self.old.clock row.now.stamp) }
-    {
-        if is_bad(row.name()) {
-            return Err(CoreError::BadName);
-        }
-        match place {
-            Place::Tmp => {
-                self.tmp.insert(row.name())?;
-            }
-            Place::New | Place::Cur => self.add_message(row)?,
-        }
-        self.clock = self.clock.max(row.stamp());
-        Ok(())
-    }
-
-    // Adds the unique name of a message, where the name is a message's.
-    fn add_message(&mut self, row: &RowRef<'_>) -> Result<(), CoreError>
-        ensures fault { let fault = message_fault self.old.messages row.now.name in MatchResult result (λ _. fault ≡ None) (IsFault fault) }
-        ensures messages { OnOk result ((u : _) → is_among u self.new.messages ≡ (is_of u row.now.name || is_among u self.old.messages)) }
-        ensures same { (self.new.tmp ≡ self.old.tmp) × (self.new.clock ≡ self.old.clock) }
-    {
-        let unique = row.unique();
-        if !is_message(row.name(), unique) {
-            return Ok(());
-        }
-        if unique.len() > MOST_UNIQUE_BYTES {
-            return Err(CoreError::LongUnique);
-        }
-        if !self.messages.insert(unique)? {
-            return Err(CoreError::DuplicateUnique);
-        }
-        Ok(())
-    }
-}
-
-// Whether no file has the name.
-fn is_bad(name: &[u8]) -> bool
-    ensures { result ≡ is_bad_name name.now }
+// Nothing was seen, and there is room for all names of directories.
+fn nothing_seen<D: Dirs>(alloc: Global, dirs: &D) -> Result<Seen, AllocError>
+    ensures { IfOk result (λ seen. (seen.messages ≡ []) × (seen.tmp ≡ []) × (seen.clock ≡ 0)) }
 {
-    name.is_empty() || name.len() > MOST_NAME_BYTES || holds_separator(name)
+    let (messages, tmp) = count_all(dirs);
+    Seen::with_room(alloc, dirs.hash_seed(), messages, tmp)
 }
 
 // Looks at all names of a directory, some at a time, as it lends them: so one whose order isn't made is sorted once.
@@ -136,7 +67,7 @@ fn look_in_order<D: Dirs>(alloc: Global, dirs: &D) -> Result<Seen, CoreError>
         (IsLookOf (D.device dirs.now).state (finmap.entries (D.device dirs.now).state.names))
         (IsFault (load_refusal (D.device dirs.now).state)) }
 {
-    let mut seen = Seen::for_names(alloc, dirs)?;
+    let mut seen = nothing_seen(alloc, dirs)?;
     for folder in 0..dirs.folders() {
         look_in(alloc, dirs, folder, Place::Tmp, &mut seen)?;
         look_in(alloc, dirs, folder, Place::New, &mut seen)?;
@@ -168,7 +99,7 @@ fn look_through<D: Dirs>(
 fn look_unordered<D: Dirs>(alloc: Global, dirs: &D) -> Result<Seen, CoreError>
     ensures { IfOk result (IsLookOf (D.device dirs.now).state (finmap.entries (D.device dirs.now).state.names)) }
 {
-    let mut seen = Seen::for_names(alloc, dirs)?;
+    let mut seen = nothing_seen(alloc, dirs)?;
     for folder in 0..dirs.folders() {
         look_through(alloc, dirs, folder, Place::Tmp, &mut seen)?;
         look_through(alloc, dirs, folder, Place::New, &mut seen)?;

@@ -6,13 +6,14 @@ ghost use Rattle.std.specs.FinMap as finmap;
 ghost use Rattle.md_dirs.specs.State.{IsSound};
 ghost use Rattle.md_core.specs.Alone.{entry_if, is_in_place};
 ghost use Rattle.md_core.specs.Gathering.{Covers, holds};
-ghost use Rattle.md_core.specs.Looking.{is_of, is_tmp_of};
-ghost use Rattle.md_core.specs.Mailbox.{Entry, mailbox_of, is_tmp, HasOnePath};
+ghost use Rattle.md_used.specs.Seen.{is_of, is_tmp_of};
+ghost use Rattle.md_core.specs.Mailbox.{Entry, mailbox_of, HasOnePath};
+ghost use Rattle.md_used.specs.Paths.{is_tmp};
 ghost use Rattle.md_core.specs.Submitting.{uses};
 
-use crate::used::Used;
 use md_dirs::{Dirs, Place};
 use md_name::split;
+use md_used::Used;
 
 /// The bytes of the message of a unique name, lent. It takes no memory and makes no directory call: it looks once in new and once in cur
 /// of each folder, up to that of the message.

@@ -6,12 +6,12 @@ ghost use Rattle.md_core.specs.Settling.{first_unanswered, settle_error, settled
 ghost use Rattle.md_core.specs.Tracing.{trace_of};
 
 use crate::jobs::job::Job;
-use crate::used::Used;
 use crate::world::World;
 use crate::world::log::Log;
 use crate::world::looking::names::kept_at_settle;
 use md_dirs::Dirs;
 use md_jobs::{JobId, Snapshot};
+use md_used::Used;
 use thiserror::Error;
 
 /// Why a world does not settle.

@@ -5,18 +5,18 @@ ghost use Rattle.std.specs.Str.{bytes_eq};
 ghost use Rattle.md_core.specs.Mailbox.{HasOnePath};
 ghost use Rattle.md_core.specs.Submitting.{submit_refusal};
 ghost use Rattle.md_core.specs.Gathering.{Covers, GrowsFrom, HasName, KeepsMade, KeepsUsed, holds};
-ghost use Rattle.md_core.specs.Used.{is_among};
+ghost use Rattle.md_used.specs.Used.{is_among};
 ghost use Rattle.md_core.specs.Interleaving.{Interleaves};
 ghost use Rattle.md_core.specs.Tracing.{trace_of};
 
 use crate::jobs::job::Job;
-use crate::used::{Used, UsedNames};
 use crate::world::World;
 use crate::world::log::make_room;
 use crate::world::looking::names::{names_in, use_tmp};
 use crate::world::reading::holds_name;
 use md_dirs::Dirs;
 use md_jobs::{Call, CoreError, JobId};
+use md_used::{Used, UsedNames};
 use std::alloc::{AllocError, Global};
 
 /// A call that was not submitted, and why.

@@ -2,7 +2,7 @@
 ghost use Rattle.std.specs.Prelude.{◌≡◌, ◌<◌, ◌++◌, IfOk, IfErr, OnOk};
 ghost use Rattle.md_core.specs.Mailbox.{mailbox_of};
 ghost use Rattle.md_core.specs.Runs.{dirs_of};
-ghost use Rattle.md_view.specs.Readings.{reading_refusal};
+ghost use Rattle.md_listing.specs.Readings.{reading_refusal};
 ghost use Rattle.md_script.specs.Indexing.{bytes_in, indexed_text, listing_in};
 
 use crate::summary::push_summary;

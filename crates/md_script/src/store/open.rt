@@ -31,7 +31,7 @@ impl<D: Storage> Model for OpenStore<D> {
     ghost use Rattle.std.specs.Coded.{codes};
     ghost use Rattle.md_dirs.specs.State.{state_code};
     ghost use Rattle.md_name.specs.contracts.flags.Flags as flags;
-    ghost use Rattle.md_view.specs.Law.{HasBegun};
+    ghost use Rattle.md_listing.specs.Law.{HasBegun};
     ghost use Rattle.md_script.specs.Held.{first_by};
     ghost use Rattle.md_script.specs.Sessions.{ScriptStore};
 

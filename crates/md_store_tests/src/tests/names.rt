@@ -1,6 +1,6 @@
 // The names of a store, kept in both ways: worked changes, each way in which a change doesn't fit, and many changes.
 ghost use Rattle.std.specs.Prelude.{◌≡◌, IfOk};
-ghost use Rattle.md_view.specs.Readings.{reading_of};
+ghost use Rattle.md_listing.specs.Readings.{reading_of};
 
 use super::views::{are, cut, path_of, reads, refuses, world_of};
 use md_core::{Change, World};

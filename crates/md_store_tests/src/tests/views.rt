@@ -1,5 +1,5 @@
 // Worlds of a test, and worked listings of theirs. The bytes of each file are its name.
-ghost use Rattle.md_view.specs.Readings.{IsInOrder};
+ghost use Rattle.md_listing.specs.Readings.{IsInOrder};
 
 use md_core::World;
 use md_dirs::{Dirs, Path, Place, PlainDirs};

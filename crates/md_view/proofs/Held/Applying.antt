@@ -15,15 +15,15 @@ use Rattle.md_name.specs.Names.{unique_of, is_message_name}
 use Rattle.md_dirs.specs.Path.{place_index}
 use Rattle.md_dirs.specs.declared.paths.Place.{Place}
 use Rattle.lists.proofs.Maps.{by_key, at_put, beside_put, at_drop, beside_drop}
-use Rattle.md_core.specs.Mailbox.{is_tmp}
+use Rattle.md_used.specs.Paths.{is_tmp}
 use Rattle.md_core.specs.History.{Listed, Names, IsThere, size_in, names_after_change}
 use Rattle.md_jobs.specs.declared.effect.Change.TheVariants as change
-use Rattle.md_view.specs.declared.entry.Entry.{Entry}
-use Rattle.md_view.specs.Readings.{as_entry, is_at}
+use Rattle.md_listing.specs.declared.entry.Entry.{Entry}
+use Rattle.md_listing.specs.Readings.{as_entry, is_at}
 use Rattle.md_view.specs.Named.{Named, IsMessage, AreMessages, is_listed, has_name, is_there, is_free, fits, after_change}
 use Rattle.md_view.specs.Held.{FolderLists, list_of, listed_in, AreHeld, entry_with, has_unique, DiffersIn, ExistsElsewhere}
-use Rattle.md_view.proofs.Readings.{entry_at}
-use Rattle.md_view.proofs.Rows.{same_place, and-both, and-first, and-second, if-some}
+use Rattle.md_listing.proofs.Readings.{entry_at}
+use Rattle.md_listing.proofs.Rows.{same_place, and-both, and-first, and-second, if-some}
 use Rattle.md_view.proofs.Held.Holding.{shown_at, AreLists, held-lists, lists-held, taken, found-in}
 use Rattle.md_view.proofs.Held.Changing.{is_spot, but, but-same, set-lists, added, removed, renamed, replaced}
 

@@ -12,13 +12,13 @@ use Rattle.lists.proofs.Maps.{by_key, at_put, beside_put, at_drop, beside_drop}
 use Rattle.md_dirs.proofs.Sound.{get-set_same, get-set_other}
 use Rattle.md_core.specs.Mailbox.{name_cmp}
 use Rattle.md_core.specs.History.{Listed, Names}
-use Rattle.md_view.specs.declared.entry.Entry.{Entry}
-use Rattle.md_view.specs.Readings.{as_entry, IsInOrder}
+use Rattle.md_listing.specs.declared.entry.Entry.{Entry}
+use Rattle.md_listing.specs.Readings.{as_entry, IsInOrder}
 use Rattle.md_view.specs.Named.{is_there}
 use Rattle.md_view.specs.Held.{FolderLists, list_of, listed_in, entry_with, DiffersIn}
-use Rattle.md_view.proofs.Keyed.{tie-itself, tie-same}
-use Rattle.md_view.proofs.Readings.{entry_at}
-use Rattle.md_view.proofs.Rows.{same_place, and-true, and-false, and-first, and-second}
+use Rattle.md_listing.proofs.Keyed.{tie-itself, tie-same}
+use Rattle.md_listing.proofs.Readings.{entry_at}
+use Rattle.md_listing.proofs.Rows.{same_place, and-true, and-false, and-first, and-second}
 use Rattle.md_view.proofs.Held.Placing.{apart}
 use Rattle.md_view.proofs.Held.Holding.{shown_at, AreLists}
 

@@ -13,7 +13,7 @@ use Rattle.md_dirs.specs.Path.{place_index}
 use Rattle.md_dirs.specs.declared.paths.Place.{Place}
 use Rattle.md_dirs.specs.declared.paths.Place.TheVariants.{Tmp, New, Cur}
 use Rattle.lists.proofs.Maps.{at_drop}
-use Rattle.md_core.specs.Mailbox.{is_tmp}
+use Rattle.md_used.specs.Paths.{is_tmp}
 use Rattle.md_core.specs.History.{Listed, Names, IsThere, IsNowhere, WasNowhere, IsAllowed, names_after, names_after_change}
 use Rattle.md_jobs.specs.declared.answer.Answer.{Answer}
 use Rattle.md_jobs.specs.declared.answer.Answer.TheVariants as answer
@@ -21,7 +21,7 @@ use Rattle.md_jobs.specs.declared.effect.Change.{Change}
 use Rattle.md_jobs.specs.declared.effect.Change.TheVariants as change
 use Rattle.md_jobs.specs.declared.effect.Effect.{Effect}
 use Rattle.md_view.specs.Named.{Named, IsMessage, AreMessages, is_listed, has_name, is_there, is_free, fits, after_change}
-use Rattle.md_view.proofs.Rows.{and-both}
+use Rattle.md_listing.proofs.Rows.{and-both}
 
 not_tmp : (place : Place) → place ≢ Tmp → is_tmp place ≡ false
 not_tmp Tmp is = absurd (is refl)

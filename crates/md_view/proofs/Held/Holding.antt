@@ -10,14 +10,15 @@ use Rattle.std.proofs.lemmas.Map.Lookups.{exact_bytes}
 use Rattle.md_dirs.specs.Path.{place_index}
 use Rattle.md_dirs.specs.declared.paths.Place.{Place}
 use Rattle.md_dirs.specs.declared.paths.Place.TheVariants.{Tmp, New, Cur}
-use Rattle.md_core.specs.Mailbox.{name_cmp, is_tmp}
+use Rattle.md_core.specs.Mailbox.{name_cmp}
+use Rattle.md_used.specs.Paths.{is_tmp}
 use Rattle.md_core.specs.History.{Listed, Names}
-use Rattle.md_view.specs.declared.entry.Entry.{Entry}
-use Rattle.md_view.specs.Readings.{as_entry, reading_of, IsInOrder}
+use Rattle.md_listing.specs.declared.entry.Entry.{Entry}
+use Rattle.md_listing.specs.Readings.{as_entry, reading_of, IsInOrder}
 use Rattle.md_view.specs.Named.{Named, AreMessages}
 use Rattle.md_view.specs.Held.{FolderLists, list_of, listed_in, by_folder, listed_from, held_names, AreHeld, HoldNames, entry_with, has_unique}
-use Rattle.md_view.proofs.Keyed.{IsSorted, lookup-append, sorted-values, in-order, ordered}
-use Rattle.md_view.proofs.Readings.{entry_at, reading-sorted, lookup-reading}
+use Rattle.md_listing.proofs.Keyed.{IsSorted, lookup-append, sorted-values, in-order, ordered}
+use Rattle.md_listing.proofs.Readings.{entry_at, reading-sorted, lookup-reading}
 
 -- what names show of a unique name in a directory
 abbrev pub shown_at : Names → ℕ → Place → List ℕ → Option Entry

@@ -9,15 +9,15 @@ use Rattle.md_dirs.specs.Path.{place_index}
 use Rattle.md_dirs.specs.State.{State, IsSound}
 use Rattle.md_dirs.specs.declared.paths.Place.{Place}
 use Rattle.md_dirs.specs.declared.paths.Place.TheVariants.{Tmp, New, Cur}
-use Rattle.md_core.specs.Mailbox.{is_tmp}
+use Rattle.md_used.specs.Paths.{is_tmp}
 use Rattle.md_core.specs.History.{Listed}
-use Rattle.md_view.specs.declared.entry.Entry.{Entry}
-use Rattle.md_view.specs.Readings.{as_entry, is_at, reading_of}
+use Rattle.md_listing.specs.declared.entry.Entry.{Entry}
+use Rattle.md_listing.specs.Readings.{as_entry, is_at, reading_of}
 use Rattle.md_view.specs.Named.{Named, named_of, AreMessages}
 use Rattle.md_view.specs.Held.{FolderLists, list_of, AreHeld}
-use Rattle.md_view.proofs.Paths.{AreOfPaths}
-use Rattle.md_view.proofs.Readings.{entry_at}
-use Rattle.md_view.proofs.Rows.{and-first, and-second}
+use Rattle.md_listing.proofs.Paths.{AreOfPaths}
+use Rattle.md_listing.proofs.Readings.{entry_at}
+use Rattle.md_listing.proofs.Rows.{and-first, and-second}
 use Rattle.md_view.proofs.Held.Holding.{shown_at, reading-is}
 
 -- each name of sound directories is a message's

@@ -15,10 +15,10 @@ use Rattle.std.proofs.lemmas.Option.{slice_get-get_or, slice_get_past}
 use Rattle.lists.proofs.Maps.{find-other}
 use Rattle.md_dirs.specs.declared.paths.Place.TheVariants.{New}
 use Rattle.md_core.specs.Mailbox.{name_cmp}
-use Rattle.md_view.specs.declared.entry.Entry.{Entry}
-use Rattle.md_view.specs.Readings.{with_unique, IsInOrder}
+use Rattle.md_listing.specs.declared.entry.Entry.{Entry}
+use Rattle.md_listing.specs.Readings.{with_unique, IsInOrder}
 use Rattle.md_view.specs.Held.{entry_with, renamed, HasAt, IsGapFor, DiffersAt}
-use Rattle.md_view.proofs.Keyed.{IsBelow, IsSorted, first, second, less, turned, tie-same, in-order, ordered}
+use Rattle.md_listing.proofs.Keyed.{IsBelow, IsSorted, first, second, less, turned, tie-same, in-order, ordered}
 
 -- two names that aren't one don't tie
 pub apart : (u v : List ℕ) → u ≢ v → eq_by_cmp name_cmp u v ≡ false

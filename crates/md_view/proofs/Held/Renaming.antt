@@ -8,11 +8,11 @@ use Rattle.md_dirs.specs.declared.paths.Place.{Place}
 use Rattle.md_core.specs.History.{Listed, names_after_change, size_in}
 use Rattle.md_jobs.specs.declared.effect.Change.{Change}
 use Rattle.md_jobs.specs.declared.effect.Change.TheVariants as change
-use Rattle.md_view.specs.declared.entry.Entry.{Entry}
-use Rattle.md_view.specs.Readings.{as_entry}
+use Rattle.md_listing.specs.declared.entry.Entry.{Entry}
+use Rattle.md_listing.specs.Readings.{as_entry}
 use Rattle.md_view.specs.Named.{Named, is_there, fits, after_change}
 use Rattle.md_view.specs.Held.{FolderLists, list_of, AreHeld, entry_with, renamed, DiffersIn}
-use Rattle.md_view.proofs.Rows.{and-first, and-second}
+use Rattle.md_listing.proofs.Rows.{and-first, and-second}
 use Rattle.md_view.proofs.Held.Holding.{shown_at, held-lists, found-in}
 use Rattle.md_view.proofs.Held.Changing.{but-same, set-lists}
 use Rattle.md_view.proofs.Held.Fitting.{rename-fits}

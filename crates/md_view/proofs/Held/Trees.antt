@@ -12,15 +12,15 @@ use Rattle.std.specs.FinMap.Entries.{find, is_sorted, below_all, put, by_order, 
 use Rattle.std.proofs.lemmas.Cmp.{nat_list_cmp_total}
 use Rattle.std.proofs.lemmas.Map.Lookups.{exact_bytes}
 use Rattle.md_core.specs.Mailbox.{name_cmp}
-use Rattle.md_view.specs.declared.entry.Entry.{Entry}
+use Rattle.md_listing.specs.declared.entry.Entry.{Entry}
 use Rattle.md_view.specs.declared.names.tree.Leaf.{Leaf}
-use Rattle.md_view.specs.Readings.{with_unique, IsInOrder}
+use Rattle.md_listing.specs.Readings.{with_unique, IsInOrder}
 use Rattle.md_view.specs.Held.{entry_with, renamed, DiffersAt, name_of, named, entry_at, entries_in, kept_name, renamed_leaf}
 use Rattle.std.specs.Prelude.{nat_eq, unwrap_or}
 use Rattle.std.proofs.lemmas.Slice.Eq.{bytes_eq-Decides}
 use Rattle.std.specs.Option.{option_map}
 use Rattle.std.specs.Cmp.Lexicographic.{pointwise}
-use Rattle.md_view.proofs.Keyed.{first, second, ordered, tie-itself, tie-same, values-keyed}
+use Rattle.md_listing.proofs.Keyed.{first, second, ordered, tie-itself, tie-same, values-keyed}
 use Rattle.md_view.proofs.Held.Placing.{differs-not, others, all-stay, put-shows, gone-shows}
 
 -- by what is kept of a whole name it is found again

@@ -5,12 +5,12 @@ ghost use Rattle.md_jobs.specs.declared.effect.Change.TheVariants.{Add, Rename, 
 ghost use Rattle.md_view.specs.Named.{after_change, fits as fits_names};
 ghost use Rattle.md_view.specs.Held.{entry_with, listed_in, held_names, AreHeld, HoldNames};
 
-use crate::entry::EntryRef;
 use crate::names::entry_list::EntryList;
 use crate::names::fits::{fits_remove, fits_rename, may_take};
 use crate::names::folder::FolderNames;
 use md_core::Change;
 use md_dirs::Place;
+use md_listing::EntryRef;
 use md_name::{split, unique_part};
 use std::alloc::{AllocError, Global};
 

@@ -1,11 +1,11 @@
 // What keeps the messages of a directory in order.
 ghost use Rattle.std.specs.Prelude.{◌≡◌, List, None, Some, IfOk, OnOk, OnErr, unwrap_or};
 ghost use Rattle.std.specs.Option.{option_map};
-ghost use Rattle.md_view.specs.Readings.{IsInOrder};
+ghost use Rattle.md_listing.specs.Readings.{IsInOrder};
 ghost use Rattle.md_view.specs.Held.{entry_with, renamed, DiffersAt};
-ghost use Rattle.md_view.specs.declared.entry.Entry.{Entry};
+ghost use Rattle.md_listing.specs.declared.entry.Entry.{Entry};
 
-use crate::entry::EntryRef;
+use md_listing::EntryRef;
 use std::alloc::{AllocError, Global};
 
 /// Entries in order of unique name, none twice.

@@ -2,21 +2,20 @@
 ghost use Rattle.std.specs.Prelude.{◌≡◌, ◌≢◌, ◌↔◌, None, Some, false, IsTrue, IsSome, IfOk, IfErr, OnOk, OnErr, unwrap_or};
 ghost use Rattle.std.specs.Option.{option_map};
 ghost use Rattle.md_core.specs.History.{names_of};
-ghost use Rattle.md_core.specs.Mailbox.{mailbox_of, is_tmp};
+ghost use Rattle.md_core.specs.Mailbox.{mailbox_of};
+ghost use Rattle.md_used.specs.Paths.{is_tmp};
 ghost use Rattle.md_core.specs.Runs.{dirs_of};
 ghost use Rattle.md_view.specs.Named.{named_of};
 ghost use Rattle.md_view.specs.Held.{list_of, entry_with, has_unique, renamed, DiffersIn, AreHeld, FolderLists};
-ghost use Rattle.md_view.specs.Readings.{reading_of, reading_refusal, IsInOrder};
+ghost use Rattle.md_listing.specs.Readings.{reading_of, reading_refusal, IsInOrder};
 ghost use Rattle.md_dirs.specs.declared.paths.Place.{Place};
 ghost use Rattle.md_dirs.specs.declared.paths.Place.TheVariants.{New, Cur};
-ghost use Rattle.md_view.specs.declared.error.ViewError.TheVariants.{NoMemory};
+ghost use Rattle.md_listing.specs.declared.error.ViewError.TheVariants.{NoMemory};
 
-use crate::entry::{Entry, EntryRef};
-use crate::error::ViewError;
 use crate::names::entry_list::EntryList;
-use crate::read::lent_reading;
 use md_core::World;
 use md_dirs::{Dirs, Place};
+use md_listing::{Entry, EntryRef, ViewError, lent_reading};
 use std::alloc::{AllocError, Global};
 use std::marker::Model;
 

@@ -1,10 +1,10 @@
 //! Entries in order of unique name in one vector: where one is, by halving, and how one comes and goes.
 ghost use Rattle.std.specs.Prelude.{IfOk, IfErr};
-ghost use Rattle.md_view.specs.Readings.{IsInOrder};
+ghost use Rattle.md_listing.specs.Readings.{IsInOrder};
 ghost use Rattle.md_view.specs.Held.{HasAt, IsGapFor};
 
-use crate::entry::{Entry, EntryRef, copied, lend};
 use crate::names::entry_list::EntryList;
+use md_listing::{Entry, EntryRef, copied, lend};
 use md_name::Bytes;
 use std::alloc::{AllocError, Global};
 

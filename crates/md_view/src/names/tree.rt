@@ -1,11 +1,11 @@
 // Entries in order of unique name in a tree.
 ghost use Rattle.std.specs.Prelude.{◌≡◌, None, IsTrue, IfOk, OnOk, OnErr, List};
 ghost use Rattle.md_view.specs.Held.{entry_with, named, name_of, kept_name, renamed_leaf, entries_in};
-ghost use Rattle.md_view.specs.declared.entry.Entry.{Entry};
+ghost use Rattle.md_listing.specs.declared.entry.Entry.{Entry};
 
-use crate::entry::EntryRef;
 use crate::names::entry_list::EntryList;
 use md_dirs::Place;
+use md_listing::EntryRef;
 use md_name::Bytes;
 use std::alloc::{AllocError, Global};
 use std::collections::BTreeMap;

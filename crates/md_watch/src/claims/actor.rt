@@ -3,15 +3,14 @@ ghost use Rattle.std.specs.Prelude.{◌≡◌, None, OnOk, Some};
 ghost use Rattle.md_monitor.specs.Files.{is_ok};
 ghost use Rattle.md_monitor.specs.Answers.{is_unlink};
 ghost use Rattle.md_watch.specs.Claims.{Acts, Answers, Begins, Does, IsNew, Looks, act_at, act_by, change_by, did_in, did_of, done_of, is_left_by, look_in};
-ghost use Rattle.md_watch.specs.Changes.{turn_of};
-ghost use Rattle.md_watch.specs.Files.{lent_as};
-ghost use Rattle.md_watch.specs.Tables.{Puts};
+ghost use Rattle.md_kept.specs.Changes.{turn_of};
+ghost use Rattle.md_kept.specs.Files.{lent_as};
+ghost use Rattle.md_kept.specs.Tables.{Puts};
 
 use super::deeds::{Deeds, Done, nothing};
-use crate::change::{Change, Named, is_tmp, message_of};
 use crate::presences::InFolders;
-use crate::table::Table;
 use md_dirs::{Bytes, Path};
+use md_kept::{Change, Named, Table, is_tmp, message_of};
 use md_log::{Call, Deed, Reply};
 use std::alloc::{AllocError, Global};
 

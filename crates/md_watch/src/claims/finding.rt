@@ -9,8 +9,8 @@ ghost use Rattle.md_watch.specs.Claims.{done_of, is_false_in, is_given_up_in, is
 use super::Claims;
 use super::deeds::Done;
 use crate::flagged::Flagged;
-use crate::messages::Messages;
 use crate::presences::Presences;
+use md_kept::Messages;
 use md_log::{Call, Said, Step};
 use md_name::Flags;
 use md_name::laws::only_letters;

@@ -3,10 +3,9 @@
 //! It is looked up where a clause is broken, after the step. Nothing is proved of it but that it is safe.
 
 use super::Watch;
-use crate::change::message_of;
 use crate::marks::FileMarks;
-use crate::paths::number_of;
 use md_dirs::{Path, Place};
+use md_kept::{message_of, number_of};
 use md_log::{Call, Clause, Deed, Reply, Said, Step};
 
 impl Watch {

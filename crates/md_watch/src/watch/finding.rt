@@ -2,12 +2,12 @@
 ghost use Rattle.std.specs.Prelude.{◌≡◌};
 ghost use Rattle.std.specs.Option.{option_map};
 ghost use Rattle.md_monitor.specs.Found.{is_from_new};
-ghost use Rattle.md_watch.specs.Changes.{turn_of, file_in};
-ghost use Rattle.md_watch.specs.Files.{lent_as};
+ghost use Rattle.md_kept.specs.Changes.{turn_of, file_in};
+ghost use Rattle.md_kept.specs.Files.{lent_as};
 ghost use Rattle.md_watch.specs.Found.{written_by, makes, adds, is_early, is_mixed, is_anothers, is_rewritten, is_moved_back, is_used_twice, is_made_again, is_late, is_second, is_elsewhere, is_hidden};
 
 use super::{LONG, Watch};
-use crate::change::{Change, Named, is_message, is_new, is_tmp, message_of};
+use md_kept::{Change, Named, is_message, is_new, is_tmp, message_of};
 use md_log::{Call, Deed, Reply, Step};
 
 impl Watch {

@@ -1,12 +1,12 @@
 //! What a step is found to break of the law beside what is owed, by what is kept.
 ghost use Rattle.std.specs.Prelude.{◌≡◌, is_some};
 ghost use Rattle.md_monitor.specs.Found.{makes_message};
-ghost use Rattle.md_watch.specs.Changes.{turn_of};
-ghost use Rattle.md_watch.specs.Files.{lent_as};
+ghost use Rattle.md_kept.specs.Changes.{turn_of};
+ghost use Rattle.md_kept.specs.Files.{lent_as};
 ghost use Rattle.md_watch.specs.Found.{empties_trash, shows_too_early, is_in_sight, shows_cut, shows_trashed, shows_unflushed, is_back, is_gone};
 
 use super::Watch;
-use crate::change::{Change, Named, is_cur, is_message, message_of};
+use md_kept::{Change, Named, is_cur, is_message, message_of};
 use md_log::{Call, Deed, Reply};
 use md_name::split;
 

@@ -8,7 +8,7 @@ ghost use Rattle.md_dirs.specs.Index.{directory_number};
 ghost use Rattle.md_dirs.specs.Path.{path_of};
 ghost use Rattle.md_dirs.specs.State.{file_at};
 ghost use Rattle.md_law.specs.History.{History, at};
-ghost use Rattle.md_watch.specs.Changes.{file_in};
+ghost use Rattle.md_kept.specs.Changes.{file_in};
 ghost use Rattle.md_watch.specs.LookUps.{presence_by, file_of};
 ghost use Rattle.md_watch.specs.Memory.{steps_of};
 ghost use Rattle.md_watch.specs.Readings.{reading_in};
@@ -16,9 +16,9 @@ ghost use Rattle.md_watch.specs.Spells.{spell_at};
 ghost use Rattle.md_watch.specs.Watches.{Holds};
 
 use super::Watch;
-use crate::paths::number_of;
 use crate::readings::Reading;
 use md_dirs::{NameKey, Place};
+use md_kept::number_of;
 
 /// What is so of a path: its file, and since which moment it is there; or the moment at which it was there last, if it ever was. Moments
 /// are numbered from 0: the step of a number goes from the moment of that number to the next.

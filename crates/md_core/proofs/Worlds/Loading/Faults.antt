@@ -4,7 +4,7 @@ use Rattle.std.proofs.lemmas.List.Folds.{list_any-append}
 use Rattle.std.proofs.lemmas.List.Sums.{fold-append}
 use Rattle.md_core.proofs.Values.{State, file_by, CoreError, Path, unique_of, is_message, stamp_of, is_among, option_or, list_any, bytes_eq, Seen, is_same_message, is_bad_name, is_long_unique, fault_of, first_fault, IsLookOf, fault_after, is_message_of, is_tmp_of}
 use Rattle.md_jobs.specs.declared.error.CoreError.TheVariants as core
-use Rattle.md_core.proofs.Worlds.UsedLemmas.{bytes_eq-sym}
+use Rattle.md_used.proofs.Among.{bytes_eq-sym}
 
 -- ---- faults in turn
 

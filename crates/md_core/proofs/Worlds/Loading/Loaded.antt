@@ -9,7 +9,7 @@ use Rattle.md_name.specs.Names.{is_colon, begins_with_dot, unique_of, is_message
 use Rattle.md_jobs.specs.declared.error.CoreError.TheVariants as core
 use Rattle.md_core.proofs.Induction.Good.{IsUnused}
 use Rattle.lists.proofs.Members.{Has, get-has}
-use Rattle.md_core.proofs.Worlds.UsedLemmas.{bytes_eq-sym}
+use Rattle.md_used.proofs.Among.{bytes_eq-sym}
 
 -- ---- no entry has a fault
 

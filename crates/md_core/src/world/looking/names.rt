@@ -5,13 +5,14 @@ ghost use Rattle.md_dirs.specs.Path.{path_of, place_index};
 ghost use Rattle.md_dirs.specs.State.{file_at};
 ghost use Rattle.md_dirs.specs.declared.paths.Place.TheVariants.{Tmp as PlaceTmp};
 ghost use Rattle.md_core.specs.Gathering.{AreOf, StillUsed};
-ghost use Rattle.md_core.specs.Looking.{entries_before, somewhere};
+ghost use Rattle.md_core.specs.Looking.{entries_before};
+ghost use Rattle.md_used.specs.Seen.{somewhere};
 ghost use Rattle.md_core.specs.Submitting.{uses};
-ghost use Rattle.md_core.specs.Used.{is_among};
+ghost use Rattle.md_used.specs.Used.{is_among};
 
-use crate::used::{NameSet, UsedNames};
 use md_dirs::{Dirs, Place, RowRef};
 use md_name::is_message;
+use md_used::{NameSet, UsedNames};
 use std::alloc::{AllocError, Global};
 
 /// So few names that it costs little to gather them anew.

@@ -4,14 +4,15 @@ ghost use Rattle.md_dirs.specs.Path.{place_index};
 ghost use Rattle.md_dirs.specs.Rows.{rows_of, row_named};
 ghost use Rattle.md_dirs.specs.declared.paths.Place.{Place};
 ghost use Rattle.md_name.specs.Names.{unique_of, is_message_name};
-ghost use Rattle.md_core.specs.Loading.{load_refusal};
-ghost use Rattle.md_core.specs.Looking.{entries_before, somewhere};
+ghost use Rattle.md_used.specs.Loading.{load_refusal};
+ghost use Rattle.md_core.specs.Looking.{entries_before};
+ghost use Rattle.md_used.specs.Seen.{somewhere};
 ghost use Rattle.md_core.specs.Quick.{IsQuickLook, AreBare, AreFree, AreSingle, has_fault};
 ghost use Rattle.md_core.specs.Runs.{first_clock};
 
-use crate::world::looking::{MOST_UNIQUE_BYTES, is_bad};
 use md_dirs::{Dirs, Place, RowRef};
 use md_name::is_message;
+use md_used::{MOST_UNIQUE_BYTES, is_bad};
 use std::alloc::Global;
 
 // The only folder that has a name in new or in cur, or the first where none has. None where two have.

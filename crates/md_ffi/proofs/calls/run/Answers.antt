@@ -1,9 +1,9 @@
 use Rattle.std.proofs.Common.{arith, ◌<◌, ◌+◌, ◌-◌, inl, inr, List, length, take, refl, sym, ap, subst, ◌∙◌}
 use Rattle.std.proofs.lemmas.List.{take_more_set, drop-set-lt}
-use Rattle.md_ffi.specs.Numbers.{refusal_number}
+use Rattle.md_driven.specs.Numbers.{refusal_number}
 use Rattle.md_ffi.specs.Records.{recorded, Answered}
-use Rattle.md_ffi.specs.declared.shown.AnswerShown.{AnswerShown}
-use Rattle.md_ffi.proofs.Listed.{ends_alike_after}
+use Rattle.md_driven.specs.declared.shown.AnswerShown.{AnswerShown}
+use Rattle.md_driven.proofs.Laid.{ends_alike_after}
 use Rattle.md_ffi.proofs.Records.{answered-more, empty, not-empty}
 use Rattle.md_ffi.proofs.calls.run.Goals as goal
 

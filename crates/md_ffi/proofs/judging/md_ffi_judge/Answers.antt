@@ -1,7 +1,7 @@
 use Rattle.std.proofs.Common.{rules, ◌≡◌, ◌≢◌, inl, Ok, Err, refl, sym, ap, subst, ◌∙◌, List, ℕ}
 use Rattle.md_log.specs.declared.error.LineFault.TheVariants.{NoMemory}
 use Rattle.md_ffi.specs.Judging.{findings_bytes}
-use Rattle.md_ffi.specs.Laying.{Lays}
+use Rattle.md_driven.specs.Laying.{Lays}
 use Rattle.md_ffi.proofs.judging.md_ffi_judge.Goals as goal
 
 pub returns-in-Ok-packed : goal.returns-in-Ok-packed

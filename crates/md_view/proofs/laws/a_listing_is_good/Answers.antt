@@ -1,4 +1,4 @@
-use Rattle.md_view.proofs.LawHolds.{good-run}
+use Rattle.md_listing.proofs.LawHolds.{good-run}
 use Rattle.md_view.proofs.laws.a_listing_is_good.Goals as goal
 
 pub returns : goal.returns

@@ -2,7 +2,7 @@ use Rattle.std.proofs.Common.{inl, inr, sym, subst}
 use Rattle.md_core.specs.Runs.{Run}
 use Rattle.md_core.specs.Stepping.{IsRun}
 use Rattle.md_core.specs.Tracing.{KeepsStates}
-use Rattle.md_view.proofs.Waiting.{goes_on}
+use Rattle.md_listing.proofs.Waiting.{goes_on}
 use Rattle.md_view.proofs.laws.a_listing_may_wait.Goals as goal
 
 pub returns : goal.returns

@@ -1,7 +1,7 @@
 use Rattle.md_core.specs.History.{names_of}
 use Rattle.md_core.specs.Mailbox.{mailbox_of}
 use Rattle.md_core.specs.Runs.{dirs_of}
-use Rattle.md_view.proofs.LawHolds.{good-history}
+use Rattle.md_listing.proofs.LawHolds.{good-history}
 use Rattle.md_view.proofs.laws.a_listing_of_histories_is_good.Goals as goal
 
 pub returns : goal.returns

@@ -1,7 +1,7 @@
 use Rattle.std.proofs.Common.{List, sym, subst}
 use Rattle.md_dirs.specs.declared.paths.Place.TheVariants.{New}
-use Rattle.md_view.specs.declared.entry.Entry.{Entry}
-use Rattle.md_view.specs.Readings.{IsInOrder}
+use Rattle.md_listing.specs.declared.entry.Entry.{Entry}
+use Rattle.md_listing.specs.Readings.{IsInOrder}
 use Rattle.md_store.specs.Listing.{named_after}
 use Rattle.md_store.proofs.Good.{reading-in_order}
 use Rattle.md_store.proofs.store.Store.first.Goals as goal

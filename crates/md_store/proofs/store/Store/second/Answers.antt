@@ -2,8 +2,8 @@ use Rattle.std.proofs.Common.{ℕ, ◌≡◌, List, subst, IfOk}
 use mathlib.Core.List.{IsPrefix}
 use Rattle.md_jobs.specs.declared.effect.Effect.{Effect}
 use Rattle.md_dirs.specs.declared.paths.Place.TheVariants.{Cur}
-use Rattle.md_view.specs.declared.entry.Entry.{Entry}
-use Rattle.md_view.specs.Readings.{join_of}
+use Rattle.md_listing.specs.declared.entry.Entry.{Entry}
+use Rattle.md_listing.specs.Readings.{join_of}
 use Rattle.md_store.specs.Listing.{read_at}
 use Rattle.md_store.proofs.Good.{finishes, begins-first}
 use Rattle.md_store.proofs.store.Store.second.Goals as goal

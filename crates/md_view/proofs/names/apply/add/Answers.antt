@@ -5,10 +5,10 @@ use Rattle.std.proofs.lemmas.Option.{slice_get_read}
 use Rattle.md_name.specs.Names.{unique_of, info_of, is_message_name}
 use Rattle.md_name.specs.declared.info.Info.{Info}
 use Rattle.md_jobs.specs.declared.effect.Change.TheVariants.{Add}
-use Rattle.md_view.specs.declared.entry.Entry.{Entry}
+use Rattle.md_listing.specs.declared.entry.Entry.{Entry}
 use Rattle.md_view.specs.Named.{Named, after_change, is_listed}
 use Rattle.md_view.specs.Held.{FolderLists, list_of, entry_with, DiffersIn, ExistsElsewhere, AreHeld, held_names}
-use Rattle.md_view.proofs.Rows.{if-some}
+use Rattle.md_listing.proofs.Rows.{if-some}
 use Rattle.md_view.proofs.Held.Applying.{no-parts, within-listed, add-other, add-beside, add-new}
 use Rattle.md_view.proofs.names.apply.add.Goals as goal
 

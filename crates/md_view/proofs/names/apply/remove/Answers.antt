@@ -3,7 +3,7 @@ use Rattle.std.proofs.lemmas.Option.{slice_get_read}
 use Rattle.md_jobs.specs.declared.effect.Change.TheVariants.{Remove}
 use Rattle.md_view.specs.Named.{fits}
 use Rattle.md_view.specs.Held.{FolderLists, DiffersIn, held_names}
-use Rattle.md_view.proofs.Rows.{and-first}
+use Rattle.md_listing.proofs.Rows.{and-first}
 use Rattle.md_view.proofs.Held.Applying.{within-listed, remove-held}
 use Rattle.md_view.proofs.names.apply.remove.Goals as goal
 

@@ -4,7 +4,7 @@ use Rattle.std.proofs.lemmas.Slice.Eq.{bytes_eq-Decides}
 use Rattle.md_name.specs.Names.{unique_of, info_of, is_message_name}
 use Rattle.md_name.specs.declared.info.Info.{Info}
 use Rattle.md_view.specs.Held.{held_names, has_unique}
-use Rattle.md_view.proofs.Rows.{if-some}
+use Rattle.md_listing.proofs.Rows.{if-some}
 use Rattle.md_view.proofs.Held.Applying.{free-same, free-beside}
 use Rattle.md_view.proofs.names.fits.is_free_after.Goals as goal
 

@@ -7,7 +7,7 @@ use Rattle.std.proofs.lemmas.Option.{slice_get_read}
 use Rattle.md_name.specs.Names.{unique_of, info_of, is_message_name}
 use Rattle.md_name.specs.declared.info.Info.{Info}
 use Rattle.md_view.specs.Held.{FolderLists, held_names, entry_with, list_of}
-use Rattle.md_view.proofs.Rows.{if-some}
+use Rattle.md_listing.proofs.Rows.{if-some}
 use Rattle.md_view.proofs.Held.Applying.{there-past, there-other, there-none, there-found, no-parts}
 use Rattle.md_view.proofs.names.fits.is_there.Goals as goal
 

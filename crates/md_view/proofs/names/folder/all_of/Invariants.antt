@@ -4,7 +4,7 @@ use Rattle.md_core.specs.Mailbox.{mailbox_of}
 use Rattle.md_core.specs.Runs.{dirs_of}
 use Rattle.md_dirs.specs.declared.paths.Place.TheVariants.{New, Cur}
 use Rattle.md_view.specs.Held.{FolderLists}
-use Rattle.md_view.specs.Readings.{reading_of}
+use Rattle.md_listing.specs.Readings.{reading_of}
 use Rattle.md_view.proofs.names.folder.all_of.Given as goal
 
 abbrev pub invariant-loop-folder : goal.invariant-loop-folder

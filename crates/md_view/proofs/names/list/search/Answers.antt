@@ -1,7 +1,7 @@
 use Rattle.std.proofs.Common.{rules}
 use Rattle.std.proofs.lemmas.Fn.{always_returns_same}
 use Rattle.md_core.specs.Mailbox.{name_cmp}
-use Rattle.md_view.specs.declared.entry.Entry.{Entry}
+use Rattle.md_listing.specs.declared.entry.Entry.{Entry}
 use Rattle.md_view.proofs.Held.Placing.{searched}
 use Rattle.md_view.proofs.names.list.search.Goals as goal
 

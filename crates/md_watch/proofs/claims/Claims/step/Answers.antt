@@ -1,8 +1,8 @@
 use Rattle.std.proofs.Common.{ℕ, List, Some, None, subst, sym, ap, ◌∙◌}
 use Rattle.md_watch.specs.Claims.{ActsAs, Acts, IsNew, actor_in}
-use Rattle.md_watch.specs.Changes.{turn_of}
-use Rattle.md_watch.specs.Tables.{Puts}
-use Rattle.md_watch.proofs.Keys.{then}
+use Rattle.md_kept.specs.Changes.{turn_of}
+use Rattle.md_kept.specs.Tables.{Puts}
+use Rattle.md_kept.proofs.Keys.{then}
 use Rattle.md_watch.proofs.Claiming.{acts-first, acts-again, steps}
 use Rattle.md_watch.proofs.claims.Claims.step.Goals as goal
 use Rattle.md_watch.proofs.claims.Claims.step.Goals.{in-None, in-Some}

@@ -1,5 +1,5 @@
 use Rattle.std.proofs.Common.{sym, subst}
-use Rattle.md_watch.specs.Files.{lent_as}
+use Rattle.md_kept.specs.Files.{lent_as}
 use Rattle.md_watch.specs.Flagged.{Comes}
 use Rattle.md_watch.specs.declared.flagged.Flagged.{Flagged}
 use Rattle.md_watch.proofs.Marking.{came}

@@ -1,4 +1,4 @@
-use Rattle.md_watch.proofs.Keys.{then}
+use Rattle.md_kept.proofs.Keys.{then}
 use Rattle.md_watch.proofs.flagged.Flagged.follow.Goals as goal
 
 pub returns : goal.returns

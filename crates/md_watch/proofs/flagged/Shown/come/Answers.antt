@@ -1,8 +1,8 @@
 use Rattle.std.proofs.Common.{◌+◌, Some, nat_lt, refl, sym, ap, subst, true, ◌∙◌}
 use Rattle.md_watch.specs.declared.flagged.Shown.{Shown}
 use Rattle.md_watch.specs.Spells.{Notes}
-use Rattle.md_watch.specs.Tables.{count_at}
-use Rattle.md_watch.proofs.Keys.{then}
+use Rattle.md_kept.specs.Tables.{count_at}
+use Rattle.md_kept.proofs.Keys.{then}
 use Rattle.md_watch.proofs.Marking.{own-count, changed-at, more-than-one, one-more}
 use Rattle.md_watch.proofs.flagged.Shown.come.Goals as goal
 

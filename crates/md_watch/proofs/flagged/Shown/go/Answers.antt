@@ -1,8 +1,8 @@
 use Rattle.std.proofs.Common.{◌-◌, nat_lt, option_map, subst}
 use Rattle.md_watch.specs.declared.flagged.Shown.{Shown}
 use Rattle.md_watch.specs.Spells.{Notes}
-use Rattle.md_watch.specs.Tables.{count_at, value_at}
-use Rattle.md_watch.proofs.Keys.{then}
+use Rattle.md_kept.specs.Tables.{count_at, value_at}
+use Rattle.md_kept.proofs.Keys.{then}
 use Rattle.md_watch.proofs.Marking.{changed-at, one-less}
 use Rattle.md_watch.proofs.flagged.Shown.go.Goals as goal
 

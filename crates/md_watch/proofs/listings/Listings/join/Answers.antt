@@ -1,10 +1,10 @@
 use Rattle.std.proofs.Common.{ℕ, ◌≡◌, Some, None, sym, ap, subst, ◌∙◌}
 use Rattle.md_watch.specs.declared.listings.Listing.{Listing}
 use Rattle.md_watch.specs.declared.listings.Listings.{Listings}
-use Rattle.md_watch.specs.declared.table.Table.{Table}
+use Rattle.md_kept.specs.declared.table.Table.{Table}
 use Rattle.md_watch.specs.Listings.{Joins, joining, place_of}
-use Rattle.md_watch.specs.Tables.{value_at, count_at}
-use Rattle.md_watch.proofs.Keys.{then}
+use Rattle.md_kept.specs.Tables.{value_at, count_at}
+use Rattle.md_kept.proofs.Keys.{then}
 use Rattle.md_watch.proofs.Joining.{completes, is-over, joins-as, joins-out, same-side, unbroken-is}
 use Rattle.md_watch.proofs.listings.Listings.join.Goals as goal
 use Rattle.md_watch.proofs.listings.Listings.join.Goals.{in-None+in_ok-listing-in-None, in-Some+else-listing-of_cur+in_ok-listing-in-Some}

@@ -1,10 +1,10 @@
 use Rattle.std.proofs.Common.{refl, sym, ap, subst, ◌∙◌}
 use Rattle.std.specs.Prelude.{is_some}
-use Rattle.md_watch.specs.Changes.{Turn, adding}
+use Rattle.md_kept.specs.Changes.{Turn, adding}
 use Rattle.md_watch.specs.Watches.{Follows}
 use Rattle.md_watch.specs.declared.watch.Watch.{Watch}
 use Rattle.md_watch.proofs.Beginning.{put-file, there-at}
-use Rattle.md_watch.proofs.Keys.{none-of}
+use Rattle.md_kept.proofs.Keys.{none-of}
 use Rattle.md_watch.proofs.watch.Watch.put_file.Goals as goal
 
 pub returns-clause-begins : goal.returns-clause-begins

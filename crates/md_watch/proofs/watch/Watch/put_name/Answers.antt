@@ -1,9 +1,9 @@
 use Rattle.std.proofs.Common.{inl, inr, refl, sym, ap, subst, ◌∙◌}
 use Rattle.std.specs.Prelude.{is_some}
-use Rattle.md_watch.specs.Changes.{Turn, turn_of}
+use Rattle.md_kept.specs.Changes.{Turn, turn_of}
 use Rattle.md_watch.specs.Watches.{Follows}
 use Rattle.md_watch.proofs.Beginning.{put-name, there-at}
-use Rattle.md_watch.proofs.Keys.{none-of, none-but}
+use Rattle.md_kept.proofs.Keys.{none-of, none-but}
 use Rattle.md_watch.proofs.watch.Watch.put_name.Goals as goal
 
 pub returns-clause-begins : goal.returns-clause-begins

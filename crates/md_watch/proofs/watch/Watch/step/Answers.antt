@@ -2,7 +2,7 @@ use Rattle.std.proofs.Common.{◌≡◌, ap, subst, ◌∙◌, length}
 use Rattle.md_law.specs.History.{History, next}
 use Rattle.md_watch.specs.declared.presences.InFolders.{InFolders}
 use Rattle.md_watch.specs.declared.watch.Watch.{Watch}
-use Rattle.md_watch.specs.Changes.{Turn, turn_of, turn_by, file_in}
+use Rattle.md_kept.specs.Changes.{Turn, turn_of, turn_by, file_in}
 use Rattle.md_watch.specs.Found.{before_of, after_of}
 use Rattle.md_watch.specs.Memory as memories
 use Rattle.md_watch.specs.Presences.{in_folders}

@@ -1,5 +1,5 @@
 use Rattle.std.proofs.Common.{◌==◌, sym, refl}
-use Rattle.md_view.specs.Law.{HasBegun}
+use Rattle.md_listing.specs.Law.{HasBegun}
 use Rattle.md_script.proofs.Kept.{found, begun-others, not-kept, second-read}
 use Rattle.md_script.proofs.store.open.OpenStore.second.Goals as goal
 

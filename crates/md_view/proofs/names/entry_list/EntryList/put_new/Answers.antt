@@ -1,6 +1,6 @@
 use Rattle.std.proofs.Common.{◌≡◌, Option, Some, None, true, is_some, sym, ◌∙◌, ap}
 use Rattle.std.specs.Option.{unwrap_or}
-use Rattle.md_view.specs.declared.entry.Entry.{Entry}
+use Rattle.md_listing.specs.declared.entry.Entry.{Entry}
 use Rattle.md_view.specs.Held.{entry_with}
 use Rattle.md_view.proofs.Held.Placing.{differs-not}
 use Rattle.md_view.proofs.names.entry_list.EntryList.put_new.Goals as goal

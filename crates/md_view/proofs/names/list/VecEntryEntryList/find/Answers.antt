@@ -1,6 +1,6 @@
 use Rattle.std.proofs.Common.{◌≡◌, List, Some, None, ap, sym, subst, ◌∙◌}
 use Rattle.std.proofs.lemmas.Option.{get_or_from_slice_get}
-use Rattle.md_view.specs.declared.entry.Entry.{Entry}
+use Rattle.md_listing.specs.declared.entry.Entry.{Entry}
 use Rattle.md_view.specs.Held.{entry_with, HasAt}
 use Rattle.md_view.proofs.Held.Placing.{has-found, found-none}
 use Rattle.md_view.proofs.names.list.VecEntryEntryList.find.Goals as goal

@@ -1,6 +1,6 @@
 use Rattle.std.proofs.Common.{ℕ, List, Some, slice_set, refl, ap, sym, subst, ◌∙◌}
 use Rattle.std.specs.Prelude.{insert}
-use Rattle.md_view.specs.declared.entry.Entry.{Entry}
+use Rattle.md_listing.specs.declared.entry.Entry.{Entry}
 use Rattle.md_view.specs.Held.{HasAt, IsGapFor, DiffersAt}
 use Rattle.md_view.proofs.Held.Placing.{set-there, put-there}
 use Rattle.md_view.proofs.names.list.VecEntryEntryList.put.Goals as goal

@@ -3,7 +3,7 @@ use Rattle.std.specs.Prelude.{nat_eq}
 use Rattle.std.specs.Option.{option_map}
 use Rattle.std.specs.Cmp.Lexicographic.{pointwise}
 use Rattle.std.proofs.lemmas.Option.{get_or_from_slice_get}
-use Rattle.md_view.specs.declared.entry.Entry.{Entry}
+use Rattle.md_listing.specs.declared.entry.Entry.{Entry}
 use Rattle.md_view.specs.Held.{entry_with, renamed, HasAt, DiffersAt}
 use Rattle.md_view.proofs.Held.Placing.{differs-not, found-none, rename-there, rename-other}
 use Rattle.md_view.proofs.names.list.VecEntryEntryList.rename.Goals as goal

@@ -1,5 +1,5 @@
 use Rattle.std.proofs.Common.{◌≡◌, List, None, sym, subst}
-use Rattle.md_view.specs.declared.entry.Entry.{Entry}
+use Rattle.md_listing.specs.declared.entry.Entry.{Entry}
 use Rattle.md_view.specs.Held.{entry_with, HasAt, DiffersAt}
 use Rattle.md_view.proofs.Held.Placing.{differs-not, found-none, take-there}
 use Rattle.md_view.proofs.names.list.VecEntryEntryList.take.Goals as goal

@@ -4,7 +4,7 @@ use Rattle.std.proofs.lemmas.List.Elements.{recursion_from_All}
 use Rattle.md_core.specs.Mailbox.{name_cmp}
 use Rattle.md_view.specs.declared.names.tree.Leaf.{Leaf}
 use Rattle.md_view.specs.Held.{entry_with, entries_in}
-use Rattle.md_view.proofs.Keyed.{less, ordered}
+use Rattle.md_listing.proofs.Keyed.{less, ordered}
 use Rattle.md_view.proofs.Held.Trees.{behind-none}
 use Rattle.md_view.proofs.names.tree.EntryTree.is_behind.Goals as goal
 

@@ -1,5 +1,5 @@
 use Rattle.std.proofs.Common.{◌≡◌, ◌++◌, List, [], ◌∷◌, length, refl, sym, ap, ◌∙◌, arith}
-use Rattle.md_view.specs.declared.entry.Entry.{Entry}
+use Rattle.md_listing.specs.declared.entry.Entry.{Entry}
 use Rattle.md_view.specs.Held.{entry_with}
 use Rattle.md_view.proofs.Held.Trees.{same-found}
 use Rattle.md_view.proofs.names.tree.EntryTreeEntryList.of.Goals as goal

@@ -1,6 +1,6 @@
 use Rattle.std.proofs.Common.{ℕ, ◌≡◌, ◌++◌, List, length}
-use Rattle.md_view.specs.declared.entry.Entry.{Entry}
-use Rattle.md_view.specs.Readings.{IsInOrder}
+use Rattle.md_listing.specs.declared.entry.Entry.{Entry}
+use Rattle.md_listing.specs.Readings.{IsInOrder}
 use Rattle.md_view.specs.Held.{entry_with}
 use Rattle.md_view.proofs.names.tree.EntryTreeEntryList.of.Given as goal
 

@@ -1,6 +1,6 @@
 use Rattle.std.proofs.Common.{List, Some, sym, subst, ◌∙◌}
-use Rattle.md_view.specs.declared.entry.Entry.{Entry}
-use Rattle.md_view.specs.Readings.{IsInOrder}
+use Rattle.md_listing.specs.declared.entry.Entry.{Entry}
+use Rattle.md_listing.specs.Readings.{IsInOrder}
 use Rattle.md_view.specs.Held.{DiffersAt, named, entries_in}
 use Rattle.md_view.proofs.Held.Trees.{inserted}
 use Rattle.md_view.proofs.names.tree.EntryTreeEntryList.put.Goals as goal

@@ -3,9 +3,9 @@ use Rattle.std.specs.Prelude.{unwrap_or}
 use Rattle.std.specs.Map.{lookup, set_value}
 use Rattle.std.specs.Option.{option_copied_mut}
 use Rattle.md_view.specs.declared.names.tree.EntryTree.TheInside.{Inside as EntryTree}
-use Rattle.md_view.specs.declared.entry.Entry.{Entry}
+use Rattle.md_listing.specs.declared.entry.Entry.{Entry}
 use Rattle.md_view.specs.declared.names.tree.Leaf.{Leaf}
-use Rattle.md_view.specs.Readings.{IsInOrder}
+use Rattle.md_listing.specs.Readings.{IsInOrder}
 use Rattle.md_view.specs.Held.{entry_with, DiffersAt, named, entries_in}
 use Rattle.md_view.proofs.Held.Trees.{is_key, inserted-new, put-back, inserted-there}
 use Rattle.md_view.proofs.names.tree.EntryTreeEntryList.put_new.Goals as goal

@@ -4,8 +4,8 @@ use Rattle.std.specs.Map.{set_value}
 use Rattle.std.specs.Prelude.{OnOk, OnErr}
 use Rattle.std.specs.Option.{option_map, option_copied_mut}
 use Rattle.md_view.specs.declared.names.tree.EntryTree.TheInside.{Inside as EntryTree}
-use Rattle.md_view.specs.declared.entry.Entry.{Entry}
-use Rattle.md_view.specs.Readings.{IsInOrder}
+use Rattle.md_listing.specs.declared.entry.Entry.{Entry}
+use Rattle.md_listing.specs.Readings.{IsInOrder}
 use Rattle.md_view.specs.Held.{entry_with, renamed, DiffersAt, entries_in}
 use Rattle.md_view.proofs.Held.Trees.{is_key, kept, renames, renames-none}
 use Rattle.md_view.proofs.names.tree.EntryTreeEntryList.rename.Goals as goal

@@ -1,7 +1,7 @@
 use Rattle.std.proofs.Common.{sym, subst, ◌∙◌}
 use Rattle.md_watch.specs.Claims.{Does, change_by}
-use Rattle.md_watch.specs.Files.{lent_as}
-use Rattle.md_watch.proofs.Keys.{then}
+use Rattle.md_kept.specs.Files.{lent_as}
+use Rattle.md_kept.proofs.Keys.{then}
 use Rattle.md_watch.proofs.Claiming.{changes}
 use Rattle.md_watch.proofs.claims.actor.Actor.change.Goals as goal
 

@@ -1,5 +1,5 @@
-use Rattle.md_watch.specs.Changes.{turn_of}
-use Rattle.md_watch.proofs.Keys.{then}
+use Rattle.md_kept.specs.Changes.{turn_of}
+use Rattle.md_kept.proofs.Keys.{then}
 use Rattle.md_watch.proofs.Claiming.{whole}
 use Rattle.md_watch.proofs.claims.actor.Actor.step.Goals as goal
 

@@ -1,0 +1,8 @@
+pub mod Tables
+pub mod Sets
+pub mod Directories
+pub mod Changes
+pub mod Files
+pub mod Messages
+pub mod Drafts
+pub mod Replies

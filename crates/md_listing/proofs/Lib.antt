@@ -1,0 +1,15 @@
+pub mod Keyed
+pub mod Merged
+pub mod Parts
+pub mod Readings
+pub mod MadeOf
+pub mod Paths
+pub mod Rows
+pub mod Gathering
+pub mod Distinct
+pub mod Ordered
+pub mod Moments
+pub mod LawHolds
+pub mod Made
+pub mod Owning
+pub mod Waiting

@@ -1,0 +1,4 @@
+pub mod Loading
+pub mod Paths
+pub mod Seen
+pub mod Used

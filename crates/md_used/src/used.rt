@@ -1,0 +1,186 @@
+//! The names that are used up, looked up by their hash.
+ghost use Rattle.std.specs.Prelude.{◌≡◌, ◌||◌, ◌++◌, [], not, OnOk, OnErr, IfOk};
+ghost use Rattle.std.specs.Str.{bytes_eq};
+ghost use Rattle.md_used.specs.Used.{is_among, may_be_among};
+
+use md_dirs::{HashSeed, NameKey};
+use std::alloc::{AllocError, Global};
+use std::collections::HashSet;
+use std::marker::Model;
+
+/// Names, each once.
+#[derive(Drop)]
+pub struct NameSet {
+    alloc: Global,
+    names: HashSet<NameKey<'static>, HashSeed, Global>,
+}
+
+impl Model for NameSet {
+    ghost use Rattle.std.specs.Prelude.{List, ℕ};
+
+    ghost Value = { List (List ℕ) };
+
+    ghost view = { λ s. s.names.keys };
+}
+
+impl NameSet {
+    /// No name. It takes no memory.
+    pub fn empty(alloc: Global, seed: HashSeed) -> NameSet
+        ensures { result ≡ [] }
+    {
+        NameSet {
+            alloc,
+            names: HashSet::with_hasher(alloc, seed),
+        }
+    }
+
+    /// No name, and room for so many, which are hashed by a seed.
+    pub fn with_room(alloc: Global, seed: HashSeed, count: usize) -> Result<NameSet, AllocError>
+        ensures { IfOk result (λ names. names ≡ []) }
+    {
+        Ok(NameSet {
+            alloc,
+            names: HashSet::with_capacity_and_hasher(alloc, count, seed)?,
+        })
+    }
+
+    /// How many names these are.
+    pub fn len(&self) -> usize {
+        self.names.len()
+    }
+
+    /// Whether a name is among these. Where there is none, the name is not hashed.
+    pub fn contains(&self, name: &[u8]) -> bool
+        ensures { result ≡ is_among name.now self.now }
+    {
+        if self.names.is_empty() {
+            return false;
+        }
+        let key = NameKey::lent(name);
+        self.names.contains(&key)
+    }
+
+    /// Adds a name, and answers whether it is new. After a refusal nothing has changed.
+    pub fn insert(&mut self, name: &[u8]) -> Result<bool, AllocError>
+        ensures new { IfOk result (λ is_new. is_new ≡ not (is_among name.now self.old)) }
+        ensures ok { OnOk result ((u : _) → is_among u self.new ≡ (bytes_eq name.now u || is_among u self.old)) }
+        ensures err { OnErr result (self.new ≡ self.old) }
+    {
+        let key = NameKey::copied(self.alloc, name)?;
+        Ok(self.names.insert(key)?)
+    }
+}
+
+/// What a world keeps of the names that are used up: those of `since`, and those of `were` that its directories hold.
+#[derive(Drop)]
+pub struct Used {
+    /// The names that calls make, or may take away, since the world began or settled.
+    pub since: NameSet,
+    /// Once a call made a name, all that the directories may hold. A settle keeps these as they are, so some may have left since.
+    pub were: Option<UsedNames>,
+}
+
+impl Used {
+    /// What a world keeps that begins, with the names of its directories if they were gathered.
+    pub fn beginning(alloc: Global, seed: HashSeed, were: Option<UsedNames>) -> Used
+        ensures { (result.since ≡ []) × (result.were ≡ were) }
+    {
+        Used {
+            since: NameSet::empty(alloc, seed),
+            were,
+        }
+    }
+
+    /// Whether directories may hold a name: if not, no look at them is needed.
+    pub fn may_be_held(&self, name: &[u8]) -> bool
+        ensures { result ≡ may_be_among name.now self.now.were }
+    {
+        match &self.were {
+            Some(names) => names.contains(name),
+            None => true,
+        }
+    }
+}
+
+/// Names that were gathered: those of messages and of deliveries, and beside them those of files in tmp, as a file in tmp may have the
+/// name of a message.
+#[derive(Drop)]
+pub struct UsedNames {
+    messages: NameSet,
+    tmp: NameSet,
+    // How many more may come or go before it is asked again how many of them may have left.
+    spare: usize,
+}
+
+impl Model for UsedNames {
+    ghost use Rattle.std.specs.Prelude.{List, ℕ, ◌++◌};
+
+    ghost Value = { List (List ℕ) };
+
+    ghost view = { λ u. u.messages ++ u.tmp };
+}
+
+impl UsedNames {
+    /// The names of messages and of files in tmp.
+    pub fn of(messages: NameSet, tmp: NameSet) -> UsedNames
+        ensures { result ≡ messages ++ tmp }
+    {
+        UsedNames {
+            messages,
+            tmp,
+            spare: 0,
+        }
+    }
+
+    /// No name, and room for so many, which are hashed by a seed.
+    pub fn with_room(alloc: Global, seed: HashSeed, count: usize) -> Result<UsedNames, AllocError>
+        ensures { IfOk result (λ used. used ≡ []) }
+    {
+        Ok(UsedNames {
+            messages: NameSet::with_room(alloc, seed, count)?,
+            tmp: NameSet::with_room(alloc, seed, 0)?,
+            spare: 0,
+        })
+    }
+
+    /// How many names these are.
+    pub fn len(&self) -> usize {
+        self.messages.len().saturating_add(self.tmp.len())
+    }
+
+    /// Whether so many more may come or go; if so, it counts them.
+    pub fn spares(&mut self, changes: usize) -> bool
+        ensures { self.new ≡ self.old }
+    {
+        match self.spare.checked_sub(changes) {
+            Some(spare) => {
+                self.spare = spare;
+                true
+            }
+            None => false,
+        }
+    }
+
+    /// The same names, of which so many may come or go from now on.
+    pub fn with_spare(self, spare: usize) -> UsedNames
+        ensures { result ≡ self }
+    {
+        UsedNames { spare, ..self }
+    }
+
+    /// Whether a name is used.
+    pub fn contains(&self, name: &[u8]) -> bool
+        ensures { result ≡ is_among name.now self.now }
+    {
+        self.messages.contains(name) || self.tmp.contains(name)
+    }
+
+    /// Uses a name. After a refusal nothing has changed.
+    pub fn insert(&mut self, name: &[u8]) -> Result<(), AllocError>
+        ensures ok { OnOk result ((u : _) → is_among u self.new ≡ (bytes_eq name.now u || is_among u self.old)) }
+        ensures err { OnErr result (self.new ≡ self.old) }
+    {
+        self.messages.insert(name)?;
+        Ok(())
+    }
+}
