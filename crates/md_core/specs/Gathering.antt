@@ -36,32 +36,20 @@ may_change s call u = makes u call || may_take s call u
 abbrev pub is_used_before : State → Used → List ℕ → Bool
 is_used_before s used u = is_among u used.since || holds s u
 
--- gathered names, if any are, have all that the directories use. They may have others, which left the directories before a settle
-abbrev pub Covers : State → Option (List (List ℕ)) → Type 0
-Covers s None = Unit {0}
-Covers s (Some names) = (u : List ℕ) → holds s u ≡ true → is_among u names ≡ true
+-- gathered names, if any are, have all that the directories use and that are not among those since. They may have others, which left the
+-- directories before a settle
+abbrev pub CoversBy : State → List (List ℕ) → Option (List (List ℕ)) → Type 0
+CoversBy s since None = Unit {0}
+CoversBy s since (Some names) = (u : List ℕ) → holds s u ≡ true → (is_among u since || is_among u names) ≡ true
 
--- names that were gathered stay so, and may be more; where none were, those of the directories may have been
-abbrev pub GrowsFrom : State → Option (List (List ℕ)) → Option (List (List ℕ)) → Type 0
-GrowsFrom s None new = Covers s new
-GrowsFrom s (Some old) None = ⊥
-GrowsFrom s (Some old) (Some new) = (u : List ℕ) → is_among u old ≡ true → is_among u new ≡ true
-
--- names were gathered, and have this one
-abbrev pub HasName : List ℕ → Option (List (List ℕ)) → Type 0
-HasName u None = ⊥
-HasName u (Some names) = is_among u names ≡ true
-
--- the name that a call makes is among those gathered; where none are, it makes none
-abbrev pub HasMade : Call → Option (List (List ℕ)) → Type 0
-HasMade call None = (u : List ℕ) → makes u call ≡ false
-HasMade call (Some names) = (u : List ℕ) → makes u call ≡ true → is_among u names ≡ true
+-- what is kept of names has all that the directories use, if any were gathered
+abbrev pub Covers : State → Used → Type 0
+Covers s used = CoversBy s used.since used.were
 
 -- What is kept from the submit of a call on: the names since are those before it and those that it may change.
 pub record KeepsMade (s : State) (call : Call) (before after : Used) : Type 0 where
   pub since : (u : List ℕ) → is_among u after.since ≡ (may_change s call u || is_among u before.since)
-  pub were : GrowsFrom s before.were after.were
-  pub made : HasMade call after.were
+  pub covers : Covers s after
 
 -- names since may be more, but the same are used up: the others are in the directories
 pub record StillUsed (s : State) (old new : List (List ℕ)) : Type 0 where
@@ -71,4 +59,4 @@ pub record StillUsed (s : State) (old new : List (List ℕ)) : Type 0 where
 -- What is kept after a submit that was refused: the same names are used up.
 pub record KeepsUsed (s : State) (before after : Used) : Type 0 where
   pub since : StillUsed s before.since after.since
-  pub were : GrowsFrom s before.were after.were
+  pub covers : Covers s after

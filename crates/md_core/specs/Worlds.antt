@@ -10,7 +10,7 @@ use Rattle.md_core.specs.Machine.{Machine, Occurrence, job_at}
 use Rattle.md_core.specs.Standing.{JobView, standings}
 use Rattle.md_core.specs.Runs.{Run, machine_of, dirs_of, jobs_of, failures_of, calls_made_of, and_events, step_refusal, IsRefusal}
 use Rattle.md_core.specs.Submitting.{is_used}
-use Rattle.md_core.specs.Gathering.{Covers, HasMade, is_used_before, may_change}
+use Rattle.md_core.specs.Gathering.{Covers, is_used_before, may_change}
 use Rattle.md_used.specs.Used.{is_among}
 use Rattle.md_used.specs.declared.used.Used.{Used}
 use Rattle.md_core.specs.Stepping.{IsRun}
@@ -42,14 +42,13 @@ run_of first began jobs events marks = record {
 abbrev pub machine_by : Device → ℕ → List JobView → List Effect → Machine
 machine_by now clock jobs effects = record { dirs = now.state; clock = clock; jobs = standings jobs; effects = effects }
 
--- The names that a world keeps are those since it began that a call makes or may take away, and those that were gathered: with all that the
--- directories use, and each that a call makes. A name is used up where it is among the former, or the directories use it.
+-- The names that a world keeps are those since it began that a call makes or may take away, and those that were gathered: together with all
+-- that the directories use. A name is used up where it is among the former, or the directories use it.
 pub record AreUsed (r : Run) (used : Used) : Type 0 where
   pub changed : (i : ℕ) (call : Call) → slice_get r.calls i ≡ Some call → (u : List ℕ) → may_change (dirs_of r) call u ≡ true →
       is_among u used.since ≡ true
   pub same : (u : List ℕ) → is_used_before (dirs_of r) used u ≡ is_used r u
-  pub made : (i : ℕ) (call : Call) → slice_get r.calls i ≡ Some call → HasMade call used.were
-  pub covers : Covers (dirs_of r) used.were
+  pub covers : Covers (dirs_of r) used
 
 -- The directories, clock, jobs and effects that a world keeps are those of its run. Its directories failed as often since the
 -- beginning as the run has marks, as many calls of them were made as the run has events, and its used names are those of the run.

@@ -33,3 +33,18 @@ among-put old new n false u is same = ap (is_among u) same ∙ there old n u (by
     by : (b : Bool) → false ≡ not b → b ≡ true
     by true h = refl
     by false h = cc
+
+-- the names that a permutation of them has
+pub among-moved : (old new : List (List ℕ)) → IsPermutation old new → (u : List ℕ) → is_among u new ≡ is_among u old
+among-moved old new moved u = sym (list_any-IsPermutation (λ x. bytes_eq x u) old new moved)
+
+-- a name is put that comes off the front of others
+pub among-next : (old new rest : List (List ℕ)) (n : List ℕ) (all : Bool) (u : List ℕ) → is_among u new ≡ (bytes_eq n u || is_among u old) →
+    (is_among u old || is_among u (n ∷ rest)) ≡ all → (is_among u new || is_among u rest) ≡ all
+among-next old new rest n all u put is = ap (λ b. b || is_among u rest) put ∙ by (bytes_eq n u) (is_among u old) (is_among u rest) ∙ is
+  where
+    by : (a b c : Bool) → ((a || b) || c) ≡ (b || (a || c))
+    by true true c = refl
+    by true false c = refl
+    by false true c = refl
+    by false false c = refl

@@ -1,12 +1,13 @@
 //! The names that are used up, looked up by their hash.
-ghost use Rattle.std.specs.Prelude.{◌≡◌, ◌||◌, ◌++◌, [], not, OnOk, OnErr, IfOk};
+ghost use Rattle.std.specs.Prelude.{◌≡◌, ◌||◌, ◌++◌, [], length, not, OnOk, OnErr, IfOk, IfSome, Some};
 ghost use Rattle.std.specs.Str.{bytes_eq};
-ghost use Rattle.md_used.specs.Used.{is_among, may_be_among};
+ghost use Rattle.md_used.specs.Used.{AreKept, IsAllOf, is_among, may_be_among};
 
 use md_dirs::{HashSeed, NameKey};
 use std::alloc::{AllocError, Global};
 use std::collections::HashSet;
 use std::marker::Model;
+use std::mem::replace;
 
 /// Names, each once.
 #[derive(Drop)]
@@ -45,7 +46,9 @@ impl NameSet {
     }
 
     /// How many names these are.
-    pub fn len(&self) -> usize {
+    pub fn len(&self) -> usize
+        ensures { result ≡ length self.now }
+    {
         self.names.len()
     }
 
@@ -69,6 +72,39 @@ impl NameSet {
         let key = NameKey::copied(self.alloc, name)?;
         Ok(self.names.insert(key)?)
     }
+
+    /// Makes room for so many names more, so that the table doesn't grow as they come one by one.
+    pub fn reserve(&mut self, count: usize) -> Result<(), AllocError>
+        ensures { (u : _) → is_among u self.new ≡ is_among u self.old }
+    {
+        self.names.reserve(count)
+    }
+
+    // No name, which would be hashed as these are.
+    fn none(&self) -> NameSet
+        ensures { result ≡ [] }
+    {
+        NameSet::empty(self.alloc, *self.names.hasher())
+    }
+
+    // These names, and none is left here.
+    fn take(&mut self) -> NameSet
+        ensures taken { result ≡ self.old }
+        ensures left { self.new ≡ [] }
+    {
+        let none = self.none();
+        replace(self, none)
+    }
+
+    // Adds those names, whose bytes are not copied.
+    fn append(&mut self, more: NameSet) -> Result<(), AllocError>
+        ensures { OnOk result ((u : _) → is_among u self.new ≡ (is_among u self.old || is_among u more)) }
+    {
+        for key in more.names {
+            self.names.insert(key)?;
+        }
+        Ok(())
+    }
 }
 
 /// What a world keeps of the names that are used up: those of `since`, and those of `were` that its directories hold.
@@ -76,7 +112,8 @@ impl NameSet {
 pub struct Used {
     /// The names that calls make, or may take away, since the world began or settled.
     pub since: NameSet,
-    /// Once a call made a name, all that the directories may hold. A settle keeps these as they are, so some may have left since.
+    /// Once a call made a name, all others that the directories may hold. A settle keeps these and those since, so some may have left the
+    /// directories.
     pub were: Option<UsedNames>,
 }
 
@@ -100,6 +137,29 @@ impl Used {
             None => true,
         }
     }
+
+    /// Puts the names of calls before the last settle among those that were gathered. It takes time only at the first call after a settle.
+    /// Where memory runs out nothing is kept of those gathered.
+    pub fn merge(&mut self) -> Result<(), AllocError>
+        ensures since { self.new.since ≡ self.old.since }
+        ensures were { AreKept self.old.were self.new.were }
+    {
+        let Some(names) = &mut self.were else {
+            return Ok(());
+        };
+        let merged = names.merge();
+        if merged.is_err() {
+            self.were = None;
+        }
+        merged
+    }
+
+    /// The names that were gathered, if any were, and those since.
+    pub fn all(self) -> Option<UsedNames>
+        ensures { IfSome result (IsAllOf self.since self.were) }
+    {
+        self.were?.with_late(self.since)
+    }
 }
 
 /// Names that were gathered: those of messages and of deliveries, and beside them those of files in tmp, as a file in tmp may have the
@@ -108,6 +168,8 @@ impl Used {
 pub struct UsedNames {
     messages: NameSet,
     tmp: NameSet,
+    // Those of the calls before the last settle, until the next call puts them among the others.
+    late: NameSet,
     // How many more may come or go before it is asked again how many of them may have left.
     spare: usize,
 }
@@ -117,7 +179,7 @@ impl Model for UsedNames {
 
     ghost Value = { List (List ℕ) };
 
-    ghost view = { λ u. u.messages ++ u.tmp };
+    ghost view = { λ u. u.messages ++ u.tmp ++ u.late };
 }
 
 impl UsedNames {
@@ -125,9 +187,11 @@ impl UsedNames {
     pub fn of(messages: NameSet, tmp: NameSet) -> UsedNames
         ensures { result ≡ messages ++ tmp }
     {
+        let late = messages.none();
         UsedNames {
             messages,
             tmp,
+            late,
             spare: 0,
         }
     }
@@ -136,16 +200,40 @@ impl UsedNames {
     pub fn with_room(alloc: Global, seed: HashSeed, count: usize) -> Result<UsedNames, AllocError>
         ensures { IfOk result (λ used. used ≡ []) }
     {
-        Ok(UsedNames {
-            messages: NameSet::with_room(alloc, seed, count)?,
-            tmp: NameSet::with_room(alloc, seed, 0)?,
-            spare: 0,
-        })
+        let messages = NameSet::with_room(alloc, seed, count)?;
+        Ok(UsedNames::of(messages, NameSet::empty(alloc, seed)))
+    }
+
+    // The same names and those, which wait until the next call. None where others wait already.
+    fn with_late(self, late: NameSet) -> Option<UsedNames>
+        ensures { IfSome result (IsAllOf late (Some self)) }
+    {
+        if late.len() == 0 {
+            return Some(self);
+        }
+        if self.late.len() > 0 {
+            return None;
+        }
+        Some(UsedNames { late, ..self })
+    }
+
+    // Puts the names that wait among the others.
+    fn merge(&mut self) -> Result<(), AllocError>
+        ensures { OnOk result ((u : _) → is_among u self.new ≡ is_among u self.old) }
+    {
+        if self.late.len() == 0 {
+            return Ok(());
+        }
+        let late = self.late.take();
+        self.messages.append(late)
     }
 
     /// How many names these are.
     pub fn len(&self) -> usize {
-        self.messages.len().saturating_add(self.tmp.len())
+        self.messages
+            .len()
+            .saturating_add(self.tmp.len())
+            .saturating_add(self.late.len())
     }
 
     /// Whether so many more may come or go; if so, it counts them.
@@ -172,7 +260,7 @@ impl UsedNames {
     pub fn contains(&self, name: &[u8]) -> bool
         ensures { result ≡ is_among name.now self.now }
     {
-        self.messages.contains(name) || self.tmp.contains(name)
+        self.messages.contains(name) || self.tmp.contains(name) || self.late.contains(name)
     }
 
     /// Uses a name. After a refusal nothing has changed.

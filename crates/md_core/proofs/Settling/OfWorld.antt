@@ -1,7 +1,8 @@
 -- What a settled world keeps. And which job has no answer, by what a world keeps of its jobs.
-use Rattle.std.proofs.Common.{ℕ, ◌≡◌, ◌+◌, List, [], ◌∷◌, Option, Some, None, Bool, cond, IfSome, not, nat_lt, option_map, position, refl, sym, ap, subst, ◌∙◌}
+use Rattle.std.proofs.Common.{ℕ, ◌≡◌, ◌+◌, List, [], ◌∷◌, Option, Some, None, Bool, ◌||◌, cond, IfSome, not, nat_lt, option_map, position, refl, sym, ap, subst, ◌∙◌}
 use Rattle.std.proofs.lemmas.List.{length-map}
-use Rattle.md_core.proofs.Values.{Effect, Event, Machine, is_working, Run, IsRun, position_or_len, Covers, Device, first_unanswered, settled, JobView, standings, Used, IsWorld, run_of, machine_by}
+use Rattle.md_core.proofs.Values.{Effect, Event, Machine, is_working, Run, IsRun, position_or_len, is_among, CoversBy, Device, first_unanswered, settled, JobView, standings, Used, IsWorld, run_of, machine_by}
+use Rattle.md_used.specs.Used.{IsAllOf}
 use Rattle.md_core.proofs.Worlds.Before.{covered}
 use Rattle.md_core.proofs.Worlds.Submitted.{begun-world}
 use Rattle.md_core.proofs.Settling.EachRun.{is_run-settled}
@@ -32,17 +33,20 @@ module _ (first : Device) (began : ℕ) (jobs : List JobView) (events : List Eve
   begins : IsRun (run_of held clock [] [] [])
   begins = subst (λ (r : Run). IsRun r) (sym settled-is) (is_run-settled run world.run)
 
-  -- with the names that were gathered, or without them
-  pub settled-world : (kept : Used) → kept.since ≡ [] → IfSome kept.were (λ names. used.were ≡ Some names) →
+  -- with all names that are kept, or without them
+  pub settled-world : (kept : Used) → kept.since ≡ [] → IfSome kept.were (IsAllOf used.since used.were) →
       IsWorld (run_of held clock [] [] []) (machine_by held clock [] []) held kept [] []
-  settled-world kept none were = begun-world held begins.sound begins.loaded clock begins.stamped kept (record {
+  settled-world kept none all = begun-world held begins.sound begins.loaded clock begins.stamped kept (record {
     since = none;
-    covers = by kept.were were;
+    covers = by used.were (covered first began jobs events marks held clock effects used world) kept.were all;
   })
     where
-      by : (o : Option (List (List ℕ))) → IfSome o (λ names. used.were ≡ Some names) → Covers held.state o
-      by None is = tt
-      by (Some names) is = subst (Covers held.state) is (covered first began jobs events marks held clock effects used world)
+      by : (were : Option (List (List ℕ))) → CoversBy held.state used.since were → (o : Option (List (List ℕ))) →
+          IfSome o (IsAllOf used.since were) → CoversBy held.state kept.since o
+      by were covers None all = tt
+      by None covers (Some names) all = absurd all
+      by (Some names) covers (Some more) all = λ u is.
+          ap (λ since. is_among u since || is_among u more) none ∙ all u ∙ covers u is
 
   -- the first job without an answer, by the jobs that are held
   pub unanswered-is : (r : Run) → run ≡ r → first_unanswered r ≡ option_map (λ at. at + 1) (position (λ job. is_working job.standing) jobs)

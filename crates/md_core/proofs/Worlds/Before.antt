@@ -1,6 +1,6 @@
 -- What holds of the directories of a world.
-use Rattle.std.proofs.Common.{ℕ, List, Bool, sym, ap, subst}
-use Rattle.md_core.proofs.Values.{State, Effect, Event, Machine, Run, Covers, Device, HasOnePath, JobView, Used, IsWorld, run_of, machine_by}
+use Rattle.std.proofs.Common.{ℕ, List, Bool, sym, subst}
+use Rattle.md_core.proofs.Values.{Effect, Event, Machine, Run, Covers, Device, HasOnePath, JobView, Used, IsWorld, run_of, machine_by}
 use Rattle.md_core.proofs.Induction.Good.{IsGood}
 use Rattle.md_core.proofs.Induction.GoodRuns.{good-machine}
 use Rattle.md_core.proofs.Machines.EachTurn.{each-turn}
@@ -17,6 +17,6 @@ module _ (first : Device) (began : ℕ) (jobs : List JobView) (events : List Eve
   pub one-path : HasOnePath held.state
   one-path = good-kept.one_path
 
-  -- the names that were gathered have all that they use
-  pub covered : Covers held.state used.were
-  covered = subst (λ (m : Machine). Covers m.dirs used.were) (sym world.now) world.names.covers
+  -- the names that are kept have all that they use
+  pub covered : Covers held.state used
+  covered = subst (λ (m : Machine). Covers m.dirs used) (sym world.now) world.names.covers

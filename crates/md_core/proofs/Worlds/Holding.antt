@@ -18,7 +18,7 @@ use Rattle.md_jobs.specs.Tasks.Errand.{Errand as ErrandOf, Stage, Look, Act}
 use Rattle.md_jobs.specs.declared.call.Call.TheVariants as call
 use Rattle.md_jobs.specs.declared.purpose.Purpose.TheVariants.{Seen, Flag, Move, Copy, Expunge}
 use Rattle.md_jobs.specs.declared.step.DirReply.TheVariants as reply
-use Rattle.md_core.proofs.Values.{State, IsSound, file_at, file_by, Path, path_of, Place, Tmp, Cur, Row, Call, DirReply, Moment, is_in, row_of, rows_of, unique_of, flagged, is_message_name, Asked, append, create, link, list, rename, unlink, ask_of, state_by, reply_of, Task, Deliver, Errand, Clean, Delivery, name_used, MakesMessage, turn_of, is_tmp, is_message, HasOnePath, is_among, entries, bytes_eq, list_any, after_append, after_rename, with_path, deed_by, info_in, name_copied, shown, wanted, Cleaning, Purpose, Covers, HasMade, holds, makes, may_change, may_take, uses}
+use Rattle.md_core.proofs.Values.{State, IsSound, file_at, file_by, Path, path_of, Place, Tmp, Cur, Row, Call, DirReply, Moment, is_in, row_of, rows_of, unique_of, flagged, is_message_name, Asked, append, create, link, list, rename, unlink, ask_of, state_by, reply_of, Task, Deliver, Errand, Clean, Delivery, name_used, MakesMessage, turn_of, is_tmp, is_message, HasOnePath, is_among, entries, bytes_eq, list_any, after_append, after_rename, with_path, deed_by, info_in, name_copied, shown, wanted, Cleaning, Purpose, CoversBy, holds, makes, may_change, may_take, uses}
 use Rattle.md_core.proofs.Answers.Files.Asking.{asked_at, asks-fair, creates}
 use Rattle.md_core.proofs.Answers.Files.Tmp.{touches}
 use Rattle.md_core.proofs.Directories.Frames.{makes-delivery, message-key, other_key, tmp-key}
@@ -134,10 +134,6 @@ module _ (s : State) (asked : Call) (clock : ℕ) (v : List ℕ) (may : may_chan
 
 itself : (u : List ℕ) → bytes_eq u u ≡ true
 itself u = (bytes_eq-Decides u u).1 refl
-
-either : (a b : Bool) → (a || b) ≡ true → (a ≡ true) ⊎ (b ≡ true)
-either true b is = inl refl
-either false b is = inr is
 
 made-changes : (s : State) (asked : Call) (u : List ℕ) → MakesMessage asked u → may_change s asked u ≡ true
 made-changes s asked u is = ap (λ b. b || may_take s asked u) (makes-true asked u is)
@@ -281,15 +277,13 @@ module _ (s later : State) (asked : Call) (changes : (u : List ℕ) → Changes 
     | inr may ↦ let kept = marked may in ap (λ b. b || holds later u) kept ∙ sym (ap (λ b. b || holds s u) kept)
   ]
 
-  -- gathered names have all that are used up then
-  pub still-covers : (were : Option (List (List ℕ))) → HasMade asked were → Covers s were → Covers later were
-  still-covers None made covers = tt
-  still-covers (Some names) made covers = λ u is. elim (changes u) [
+  -- the names that are kept have all that are used up then
+  pub still-covers : (since : List (List ℕ)) (were : Option (List (List ℕ))) →
+      ((u : List ℕ) → may_change s asked u ≡ true → is_among u since ≡ true) → CoversBy s since were → CoversBy later since were
+  still-covers since None marked covers = tt
+  still-covers since (Some names) marked covers = λ u is. elim (changes u) [
     | inl same ↦ covers u (sym same ∙ is)
-    | inr may ↦ elim (either (makes u asked) (may_take s asked u) may) [
-      | inl makes ↦ made u makes
-      | inr takes ↦ covers u (take-holds s asked u takes)
-    ]
+    | inr may ↦ ap (λ b. b || is_among u names) (marked u may)
   ]
 
 -- a name that another call may change then, it could before, or the call of the turn could

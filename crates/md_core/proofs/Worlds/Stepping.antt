@@ -149,9 +149,8 @@ module _ (first : Device) (began : ℕ) (jobs : List JobView) (events : List Eve
       same = λ u. ap (λ (s : State). is_among u used.since || holds s u) dirs-later
           ∙ same-used held.state later job.call changes used.since u (marked u)
           ∙ ap (λ (m : Machine). is_among u used.since || holds m.dirs u) world.now ∙ names.same u;
-      made = names.made;
-      covers = subst (λ (s : State). Covers s used.were) (sym dirs-later)
-          (still-covers held.state later job.call changes used.were (names.made place job.call called)
+      covers = subst (λ (s : State). Covers s used) (sym dirs-later)
+          (still-covers held.state later job.call changes used.since used.were marked
           (covered first began jobs events marks held clock effects used world));
     }
       where

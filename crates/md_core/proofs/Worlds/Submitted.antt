@@ -1,9 +1,8 @@
 -- A world with one more job keeps what a world keeps, of the run with one more call. And a world at its beginning.
-use Rattle.std.proofs.Common.{ℕ, ◌≡◌, ◌≤◌, ◌++◌, ◌∙◌, List, [], ◌∷◌, Option, Some, None, Bool, true, false, ◌||◌, refl, sym, ap, subst, slice_get, arith}
+use Rattle.std.proofs.Common.{ℕ, ◌≡◌, ◌≤◌, ◌++◌, ◌∙◌, List, [], ◌∷◌, Some, None, Bool, true, false, ◌||◌, refl, sym, ap, subst, slice_get, arith}
 use Rattle.std.proofs.lemmas.List.{map-append}
-use Rattle.md_core.proofs.Values.{State, IsSound, Effect, Event, Call, Machine, new_job, Run, beginning, machine_of, and_call, first_clock, effects_of, is_among, list_any, Device, JobView, job_of, load_refusal, submit_refusal, makes, is_used, is_used_before, Used, IsWorld, AreUsed, run_of, machine_by, Covers, GrowsFrom, HasMade, KeepsMade, KeepsUsed, holds, may_change, may_take}
+use Rattle.md_core.proofs.Values.{State, IsSound, Effect, Event, Call, Machine, new_job, Run, beginning, machine_of, and_call, first_clock, effects_of, is_among, list_any, Device, JobView, job_of, load_refusal, submit_refusal, makes, is_used, is_used_before, Used, IsWorld, AreUsed, run_of, machine_by, Covers, KeepsMade, KeepsUsed, holds, may_change, may_take}
 use Rattle.md_core.proofs.Lists.Places.{at_end}
-use Rattle.md_core.proofs.Worlds.Before.{covered}
 use Rattle.md_core.proofs.Worlds.Holding.{take-holds}
 use Rattle.md_core.proofs.Runs.Events.{with_job}
 use Rattle.md_core.proofs.Runs.ByEvent.{machine-and_call, run_from-none}
@@ -47,19 +46,6 @@ last_first false true false = refl
 last_first false false true = refl
 last_first false false false = refl
 
--- ---- gathered names that grow
-
-pub grown-covers : (s : State) (old new : Option (List (List ℕ))) → GrowsFrom s old new → Covers s old → Covers s new
-grown-covers s None new grows covers = grows
-grown-covers s (Some names) None grows covers = absurd grows
-grown-covers s (Some names) (Some more) grows covers = λ u is. grows u (covers u is)
-
-grown-made : (s : State) (call : Call) (old new : Option (List (List ℕ))) → GrowsFrom s old new → HasMade call old → HasMade call new
-grown-made s call None None grows made = made
-grown-made s call None (Some names) grows made = λ u is. let none = made u in cc
-grown-made s call (Some names) None grows made = absurd grows
-grown-made s call (Some names) (Some more) grows made = λ u is. grows u (made u is)
-
 module _ (first : Device) (began : ℕ) (jobs : List JobView) (events : List Event) (marks : List Bool) (held : Device) (clock : ℕ) (effects : List Effect)
     (used : Used) (asked : Call) where
   abbrev pub run : Run
@@ -90,9 +76,6 @@ module _ (first : Device) (began : ℕ) (jobs : List JobView) (events : List Eve
     used-now : (u : List ℕ) → is_used_before held.state used u ≡ is_used run u
     used-now u = ap (λ (m : Machine). is_used_before m.dirs used u) world.now ∙ world.names.same u
 
-    covers-now : Covers held.state used.were
-    covers-now = covered first began jobs events marks held clock effects used world
-
     still-used : (kept : Used) → KeepsMade held.state asked used kept → AreUsed (and_call run asked) kept
     still-used kept made = record {
       changed = λ i call at u is.
@@ -105,10 +88,7 @@ module _ (first : Device) (began : ℕ) (jobs : List JobView) (events : List Eve
           ∙ absorbed (makes u asked) (may_take held.state asked u) (is_among u used.since) (holds held.state u) (take-holds held.state asked u)
           ∙ ap (λ b. makes u asked || b) (used-now u)
           ∙ used-submitted u;
-      made = λ i call at. at_end run.calls asked i call at
-          (λ early. grown-made held.state call used.were kept.were made.were (world.names.made i call early))
-          (λ last same. subst (λ (c : Call). HasMade c kept.were) (sym same) made.made);
-      covers = subst (λ (m : Machine). Covers m.dirs kept.were) moved (grown-covers held.state used.were kept.were made.were covers-now);
+      covers = subst (λ (m : Machine). Covers m.dirs kept) moved made.covers;
     }
 
     -- where the submit is refused the world is as it was
@@ -122,8 +102,7 @@ module _ (first : Device) (began : ℕ) (jobs : List JobView) (events : List Eve
       names = record {
         changed = λ i call at u is. same.since.kept u (world.names.changed i call at u is);
         same = λ u. ap (λ (m : Machine). is_used_before m.dirs kept u) (sym world.now) ∙ same.since.same u ∙ used-now u;
-        made = λ i call at. grown-made held.state call used.were kept.were same.were (world.names.made i call at);
-        covers = subst (λ (m : Machine). Covers m.dirs kept.were) world.now (grown-covers held.state used.were kept.were same.were covers-now);
+        covers = subst (λ (m : Machine). Covers m.dirs kept) world.now same.covers;
       };
       as_many = world.as_many;
     }
@@ -150,7 +129,7 @@ module _ (first : Device) (began : ℕ) (jobs : List JobView) (events : List Eve
 -- no name is kept of a run, and those that were gathered have all that the directories use
 pub record IsBare (s : State) (used : Used) : Type 0 where
   pub since : used.since ≡ []
-  pub covers : Covers s used.were
+  pub covers : Covers s used
 
 -- A world at its beginning, over directories that may be loaded, by a clock that none of their stamps is past.
 pub begun-world : (first : Device) → IsSound first.state → load_refusal first.state ≡ None → (clock : ℕ) → first_clock first.state ≤ clock →
@@ -164,8 +143,7 @@ begun-world first sound loaded clock stamped used bare = record {
     changed = λ i call at. cc;
     same = λ u. ap (λ (m : Machine). is_used_before m.dirs used u) now ∙ ap (λ ns. is_among u ns || holds first.state u) bare.since
         ∙ or_none (holds first.state u);
-    made = λ i call at. cc;
-    covers = subst (λ (m : Machine). Covers m.dirs used.were) (sym now) bare.covers;
+    covers = subst (λ (m : Machine). Covers m.dirs used) (sym now) bare.covers;
   };
   as_many = refl;
 }

@@ -10,6 +10,7 @@ ghost use Rattle.md_used.specs.Seen.{is_of, is_tmp_of};
 ghost use Rattle.md_core.specs.Mailbox.{Entry, mailbox_of, HasOnePath};
 ghost use Rattle.md_used.specs.Paths.{is_tmp};
 ghost use Rattle.md_core.specs.Submitting.{uses};
+ghost use Rattle.md_used.specs.Used.{is_among};
 
 use md_dirs::{Dirs, Place};
 use md_name::split;
@@ -80,10 +81,11 @@ pub(crate) fn is_held<D: Dirs>(dirs: &D, name: &[u8]) -> bool
     message_bytes(dirs, name).is_some() || is_in_tmp(dirs, name)
 }
 
-/// Whether directories use a name up. They are looked at only where they may.
+/// Whether directories use a name up, which is not among those since. They are looked at only where they may.
 pub(crate) fn holds_name<D: Dirs>(dirs: &D, used: &Used, name: &[u8]) -> bool
     requires one { HasOnePath (D.device dirs.now).state }
-    requires covers { Covers (D.device dirs.now).state used.now.were }
+    requires covers { Covers (D.device dirs.now).state used.now }
+    requires early { is_among name.now used.now.since ≡ false }
     ensures { result ≡ holds (D.device dirs.now).state name.now }
 {
     used.may_be_held(name) && is_held(dirs, name)

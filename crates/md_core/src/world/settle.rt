@@ -67,7 +67,7 @@ impl<D: Dirs> World<D> {
             used,
             ..
         } = self;
-        let were = kept_at_settle(&dirs, used.were, used.since.len());
+        let were = kept_at_settle(&dirs, used);
         let used = Used::beginning(alloc, dirs.hash_seed(), were);
         Ok(World {
             alloc,

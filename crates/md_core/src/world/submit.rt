@@ -4,7 +4,7 @@ ghost use Rattle.md_core.specs.Runs.{and_call, effects_of, IsRefusal};
 ghost use Rattle.std.specs.Str.{bytes_eq};
 ghost use Rattle.md_core.specs.Mailbox.{HasOnePath};
 ghost use Rattle.md_core.specs.Submitting.{submit_refusal};
-ghost use Rattle.md_core.specs.Gathering.{Covers, GrowsFrom, HasName, KeepsMade, KeepsUsed, holds};
+ghost use Rattle.md_core.specs.Gathering.{Covers, KeepsMade, KeepsUsed, holds};
 ghost use Rattle.md_used.specs.Used.{is_among};
 ghost use Rattle.md_core.specs.Interleaving.{Interleaves};
 ghost use Rattle.md_core.specs.Tracing.{trace_of};
@@ -16,7 +16,7 @@ use crate::world::looking::names::{names_in, use_tmp};
 use crate::world::reading::holds_name;
 use md_dirs::Dirs;
 use md_jobs::{Call, CoreError, JobId};
-use md_used::{Used, UsedNames};
+use md_used::Used;
 use std::alloc::{AllocError, Global};
 
 /// A call that was not submitted, and why.
@@ -26,22 +26,15 @@ pub struct SubmitRefused {
     pub call: Call,
 }
 
-// Adds a name to those that were gathered. All names of the directories are gathered at the first call that makes one.
-fn gather_with<D: Dirs>(
-    alloc: Global,
-    dirs: &D,
-    were: &mut Option<UsedNames>,
-    name: &[u8],
-) -> Result<(), AllocError>
-    ensures grows { GrowsFrom (D.device dirs.now).state were.old were.new }
-    ensures ok { OnOk result (HasName name.now were.new) }
+// Gathers all names of the directories, at the first call that makes one: so later calls need no look in each folder.
+fn gather<D: Dirs>(alloc: Global, dirs: &D, used: &mut Used) -> Result<(), AllocError>
+    requires { Covers (D.device dirs.now).state used.old }
+    ensures since { used.new.since ≡ used.old.since }
+    ensures covers { Covers (D.device dirs.now).state used.new }
 {
-    if let Some(names) = were {
-        return names.insert(name);
+    if used.were.is_none() {
+        used.were = Some(names_in(alloc, dirs)?);
     }
-    let mut names = names_in(alloc, dirs)?;
-    names.insert(name)?;
-    *were = Some(names);
     Ok(())
 }
 
@@ -52,12 +45,12 @@ fn make_name<D: Dirs>(
     used: &mut Used,
     name: &[u8],
 ) -> Result<(), AllocError>
-    ensures grows { GrowsFrom (D.device dirs.now).state used.old.were used.new.were }
-    ensures has { OnOk result (HasName name.now used.new.were) }
+    requires { Covers (D.device dirs.now).state used.old }
+    ensures covers { Covers (D.device dirs.now).state used.new }
     ensures ok { OnOk result ((u : _) → is_among u used.new.since ≡ (bytes_eq name.now u || is_among u used.old.since)) }
     ensures err { OnErr result (used.new.since ≡ used.old.since) }
 {
-    gather_with(alloc, dirs, &mut used.were, name)?;
+    gather(alloc, dirs, used)?;
     used.since.insert(name)?;
     Ok(())
 }
@@ -65,13 +58,13 @@ fn make_name<D: Dirs>(
 // Uses the name of a message that an expunge may take away, if the directories use it.
 fn take_name<D: Dirs>(dirs: &D, used: &mut Used, name: &[u8]) -> Result<(), AllocError>
     requires one { HasOnePath (D.device dirs.now).state }
-    requires covers { Covers (D.device dirs.now).state used.old.were }
+    requires covers { Covers (D.device dirs.now).state used.old }
     ensures were { used.new.were ≡ used.old.were }
     ensures ok { OnOk result ((u : _) → is_among u used.new.since
         ≡ (bytes_eq name.now u && holds (D.device dirs.now).state u || is_among u used.old.since)) }
     ensures err { OnErr result (used.new.since ≡ used.old.since) }
 {
-    if holds_name(dirs, used, name) {
+    if !used.since.contains(name) && holds_name(dirs, used, name) {
         used.since.insert(name)?;
     }
     Ok(())
@@ -85,10 +78,11 @@ fn keep_names<D: Dirs>(
     call: &Call,
 ) -> Result<(), AllocError>
     requires one { HasOnePath (D.device dirs.now).state }
-    requires covers { Covers (D.device dirs.now).state used.old.were }
+    requires covers { Covers (D.device dirs.now).state used.old }
     ensures ok { OnOk result (KeepsMade (D.device dirs.now).state call.now used.old used.new) }
     ensures err { OnErr result (KeepsUsed (D.device dirs.now).state used.old used.new) }
 {
+    used.merge()?;
     match call {
         Call::Deliver { unique, .. } => make_name(alloc, dirs, used, unique.as_slice()),
         Call::Copy { fresh, .. } => make_name(alloc, dirs, used, fresh.as_slice()),
@@ -107,7 +101,7 @@ fn prepare<D: Dirs>(
     call: &Call,
 ) -> Result<(), CoreError>
     requires one { HasOnePath (D.device dirs.now).state }
-    requires covers { Covers (D.device dirs.now).state used.old.were }
+    requires covers { Covers (D.device dirs.now).state used.old }
     ensures jobs { jobs.new.items ≡ jobs.old.items }
     ensures room { OnOk result (vec_len jobs.new < vec_capacity jobs.new) }
     ensures ok { OnOk result (KeepsMade (D.device dirs.now).state call.now used.old used.new) }

@@ -8,11 +8,11 @@ ghost use Rattle.md_core.specs.Gathering.{AreOf, StillUsed};
 ghost use Rattle.md_core.specs.Looking.{entries_before};
 ghost use Rattle.md_used.specs.Seen.{somewhere};
 ghost use Rattle.md_core.specs.Submitting.{uses};
-ghost use Rattle.md_used.specs.Used.{is_among};
+ghost use Rattle.md_used.specs.Used.{IsAllOf, is_among};
 
 use md_dirs::{Dirs, Place, RowRef};
 use md_name::is_message;
-use md_used::{NameSet, UsedNames};
+use md_used::{NameSet, Used, UsedNames};
 use std::alloc::{AllocError, Global};
 
 /// So few names that it costs little to gather them anew.
@@ -62,6 +62,7 @@ pub(crate) fn use_tmp<D: Dirs>(
     ensures err { OnErr result (StillUsed (D.device dirs.now).state names.old names.new) }
 {
     let rows = dirs.rows_unordered(alloc, folder, Place::Tmp)?;
+    names.reserve(rows.len())?;
     for row in 0..rows.len() {
         names.insert(rows[row].name())?;
     }
@@ -81,16 +82,13 @@ pub(super) fn count_all<D: Dirs>(dirs: &D) -> (usize, usize) {
     (messages, tmp)
 }
 
-/// The names that were gathered, if a world that settles after so many changes of names keeps them. It keeps none where more than half of
-/// them may have left: then they are better gathered anew. It looks at no name, and seldom counts those of the directories.
-pub(crate) fn kept_at_settle<D: Dirs>(
-    dirs: &D,
-    names: Option<UsedNames>,
-    changes: usize,
-) -> Option<UsedNames>
-    ensures { IfSome result (λ kept. names ≡ Some kept) }
+/// All names that a world keeps that settles, if some were gathered. It keeps none where more than half of them may have left: then they are
+/// better gathered anew. It looks at no name, and seldom counts those of the directories.
+pub(crate) fn kept_at_settle<D: Dirs>(dirs: &D, used: Used) -> Option<UsedNames>
+    ensures { IfSome result (IsAllOf used.since used.were) }
 {
-    let mut names = names?;
+    let changes = used.since.len();
+    let mut names = used.all()?;
     if names.spares(changes) {
         return Some(names);
     }

@@ -1,4 +1,4 @@
-use Rattle.std.proofs.Common.{◌∙◌, sym, arith}
+use Rattle.std.proofs.Common.{◌∙◌, arith}
 use Rattle.md_core.proofs.Traces.All.{interleaves}
 use Rattle.md_core.proofs.Worlds.Submitted.{begun-world}
 use Rattle.md_core.proofs.world.World.load.Goals as goal
@@ -18,7 +18,7 @@ invariant_of-result-in-Ok g c =
     (begun-world (g.D.Dirs.device c.args.dirs) c.folders-sound.ensures.sound c.in-Ok.ensures.accepted c.in-Ok.looked.clock (omega (arith, c.in-Ok.ensures.clock))
     c.beginning-in-Ok.result (record {
       since = c.beginning-in-Ok.ensures.0;
-      covers = rw c.beginning-in-Ok.ensures.1 (λ u is. c.in-Ok.ensures.used u ∙ is);
+      covers = rw (c.beginning-in-Ok.ensures.0, c.beginning-in-Ok.ensures.1) (λ u is. c.in-Ok.ensures.used u ∙ is);
     }))
 
 pub returns-in-Ok-clause-theorem : goal.returns-in-Ok-clause-theorem

@@ -1,4 +1,4 @@
-use Rattle.std.proofs.Common.{◌≡◌, ◌∙◌, None, ap, sym}
+use Rattle.std.proofs.Common.{◌≡◌, ◌∙◌, None, ap}
 use Rattle.md_core.proofs.Values.{Run, effects_of, submit_refusal, run_of}
 use Rattle.md_core.proofs.Traces.All.{interleaves}
 use Rattle.md_core.proofs.Worlds.Before.{covered, one-path}
