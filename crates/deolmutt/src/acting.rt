@@ -12,9 +12,10 @@ use crate::progress::Progress;
 use crate::session::{Host, Session};
 use crate::status::Status;
 use crate::trouble::{Trouble, trouble_of};
-use md_disk::{Disk, Namer, run_errand};
+use md_disk::{Disk, Namer};
 use md_jobs::{Answer, Purpose};
 use md_name::{Bytes, Flags};
+use md_system::run_errand;
 use std::mem::replace;
 
 /// How often a message is looked for whose name is gone by the time of the act.
@@ -150,11 +151,11 @@ impl<'r, R: Host> Acting<'r, R> {
         };
         if let Some(place) = key.place {
             let name = Bytes::copied(session.alloc, key.name)?;
-            self.disk.hint(0, place, name);
+            self.disk.system.hint(0, place, name);
         }
-        self.disk.only_hints(true);
+        self.disk.system.only_hints(true);
         let answer = self.answer(session, key.unique, 1);
-        self.disk.only_hints(false);
+        self.disk.system.only_hints(false);
         Ok(trouble_of(answer?).is_none())
     }
 
@@ -166,13 +167,13 @@ impl<'r, R: Host> Acting<'r, R> {
     fn run_waiting(&mut self, session: &Session<'_, R>) -> Status {
         let words = replace(&mut self.waiting, Vec::new(session.alloc));
         if words.len() > FEW {
-            let _read = self.disk.read_ahead(session.alloc, 0);
+            let _read = self.disk.system.read_ahead(session.alloc, 0);
         }
         let mut worst = Status::Done;
         for word in &words {
             worst = worst.worse(self.run(session, word.as_slice()));
         }
-        self.disk.outdate();
+        self.disk.system.outdate();
         worst
     }
 
@@ -195,7 +196,7 @@ impl<'r, R: Host> Acting<'r, R> {
                 None => return Ok(()),
                 Some(Trouble::NameTaken) if self.namer.is_some() => {}
                 Some(trouble) => {
-                    return Err(Failure::caused(session.alloc, trouble, self.disk.cause()));
+                    return Err(Failure::caused(session.alloc, trouble, self.disk.system.cause()));
                 }
             }
         }

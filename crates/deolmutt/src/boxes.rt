@@ -3,7 +3,7 @@ use crate::failure::Failure;
 use crate::session::{Host, Session};
 use crate::status::Status;
 use crate::trouble::Trouble;
-use md_disk::{Disk, Folders, has_cur, is_maildir, make_maildir};
+use md_disk::{Calls, Disk, Folders, has_cur, is_maildir, make_maildir};
 use std::io;
 
 /// The maildirs of these paths, each of which must be there, with tmp, new and cur. What is changed in them is flushed.
@@ -16,7 +16,7 @@ pub(crate) fn maildirs<'r, R: Host>(
         must_be_maildir(session, path)?;
         folders.push(String::from_str(session.alloc, path)?)?;
     }
-    Ok(Disk::new(session.host, Folders::new(folders), true))
+    Ok(Disk::over(Calls::new(session.host, Folders::new(folders), true)))
 }
 
 /// The maildir of a path, to which messages are delivered. Its cur must be there. tmp and new, where each delivery makes a name, are left
@@ -29,7 +29,7 @@ pub(crate) fn target<'r, R: Host>(
     must_be(session, path, has_cur(session.alloc, session.host, path))?;
     let mut folders = Vec::new(session.alloc);
     folders.push(String::from_str(session.alloc, path)?)?;
-    Ok(Disk::new(session.host, Folders::new(folders), flushes))
+    Ok(Disk::over(Calls::new(session.host, Folders::new(folders), flushes)))
 }
 
 /// Whether a maildir is there, with tmp, new and cur.

@@ -7,8 +7,9 @@ use crate::row::place_name;
 use crate::session::{Host, Session};
 use crate::status::Status;
 use crate::trouble::Trouble;
-use md_disk::{Disk, Flaw, check_folders};
+use md_disk::{Disk, check_folders};
 use md_jobs::DirReply;
+use md_system::Flaw;
 use std::alloc::{AllocError, Global};
 
 /// Prints a line for each flaw of a maildir, and refuses it where there is one.
@@ -19,7 +20,7 @@ pub(crate) fn checked<R: Host>(session: &Session<'_, R>, maildir: &str) -> Resul
 fn print_flaws<R: Host>(session: &Session<'_, R>, disk: &Disk<'_, R>) -> Result<Status, Failure> {
     let (reply, flaws) = check_folders(session.alloc, disk)?;
     if reply != DirReply::Ok {
-        return Err(Failure::caused(session.alloc, Trouble::Fault, disk.cause()));
+        return Err(Failure::caused(session.alloc, Trouble::Fault, disk.system.cause()));
     }
     if flaws.is_empty() {
         return Ok(Status::Done);

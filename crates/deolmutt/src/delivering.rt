@@ -13,8 +13,9 @@ use crate::session::{Host, Session, trouble_of_name};
 use crate::status::Status;
 use crate::trouble::{Trouble, trouble_of};
 use md_dirs::Bytes;
-use md_disk::{Disk, Namer, deliver};
+use md_disk::{Disk, Namer};
 use md_jobs::Answer;
+use md_system::deliver;
 use std::io::Read;
 
 // Bytes of a message that are written at once.
@@ -80,7 +81,7 @@ impl<'r, R: Host> Sending<'r, R> {
             MailSource::Files(path) => self.send_files(session, path)?,
         };
         self.progress.end(session);
-        if self.disk.is_unflushed() {
+        if self.disk.system.is_unflushed() {
             session.tell(self.folder.as_bytes(), &Failure::from(Trouble::Unflushed));
         }
         Ok(status)
@@ -106,7 +107,7 @@ impl<'r, R: Host> Sending<'r, R> {
     // Why a message was not delivered: where the maildir lacks a directory, that.
     fn failure(&self, session: &Session<'_, R>, trouble: Trouble) -> Failure {
         match must_be_maildir(session, self.folder.as_str()) {
-            Ok(()) => Failure::caused(session.alloc, trouble, self.disk.cause()),
+            Ok(()) => Failure::caused(session.alloc, trouble, self.disk.system.cause()),
             Err(failure) => failure,
         }
     }

@@ -14,8 +14,9 @@ use crate::showing::{listed, read};
 use crate::status::Status;
 use crate::trouble::{Trouble, trouble_of};
 use clap::{ArgMatches, Error};
-use md_disk::{Disk, clean};
+use md_disk::Disk;
 use md_runs::{Advice, complaint, explained, run_named};
+use md_system::clean;
 use std::random::RandomSource;
 use std::sync::Wait;
 use std::thread::Threads;
@@ -129,6 +130,6 @@ fn clean_tmp<R: Host>(session: &Session<'_, R>, disk: &mut Disk<'_, R>) -> Resul
     let answer = clean(session.alloc, disk, 0)?;
     match trouble_of(answer) {
         None => Ok(Status::Done),
-        Some(trouble) => Err(Failure::caused(session.alloc, trouble, disk.cause())),
+        Some(trouble) => Err(Failure::caused(session.alloc, trouble, disk.system.cause())),
     }
 }

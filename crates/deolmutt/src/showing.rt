@@ -35,7 +35,7 @@ pub(crate) fn listed<R: Host>(
     let disk = maildirs(session, &[maildir])?;
     let (reply, all) = list_folder(session.alloc, &disk, 0)?;
     if reply != DirReply::Ok {
-        return Err(Failure::caused(session.alloc, Trouble::Fault, disk.cause()));
+        return Err(Failure::caused(session.alloc, Trouble::Fault, disk.system.cause()));
     }
     let mut page = Vec::new(session.alloc);
     print_all(session, maildir, shape, all.as_slice(), &mut page)?;
@@ -161,9 +161,9 @@ fn copied_out<R: Host>(
     disk: &mut Disk<'_, R>,
     unique: &[u8],
 ) -> Result<(), Failure> {
-    match disk.open_message(session.alloc, 0, unique, TRIES)? {
+    match disk.system.open_message(session.alloc, 0, unique, TRIES)? {
         (_, Some(mut file)) => poured(session, &mut file),
-        _ => Err(Failure::caused(session.alloc, Trouble::Fault, disk.cause())),
+        _ => Err(Failure::caused(session.alloc, Trouble::Fault, disk.system.cause())),
     }
 }
 

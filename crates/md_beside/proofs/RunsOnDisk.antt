@@ -26,7 +26,7 @@ use Rattle.md_core.specs.Tasks.Task.{Task}
 use Rattle.md_core.specs.Tasks.Task as task
 use Rattle.md_core.specs.Trace.{call_at}
 use Rattle.md_core.proofs.Lists.Places.{at_place}
-use Rattle.md_disk.specs.Exchanges.{Exchange, heard_of, IsRun}
+use Rattle.md_system.specs.Exchanges.{Exchange, heard_of, IsRun}
 use Rattle.md_beside.specs.Story.{Story, Step, asked, ours, step_at, state, standing, standing_from, standing_after, is_by, IsTurn}
 use Rattle.md_beside.specs.Beside.{IsStepOf, IsAnswered}
 use Rattle.md_beside.specs.OnDisk.{HasRun, ErrandHasRun, IsRunOf, names_found, steps_taken, ShowsExchange, ShowsRun, IsJobOf}

@@ -1,4 +1,4 @@
--- Runs of jobs on a disk, as the contracts of `md_disk` promise them, and the stories that show one.
+-- Runs of jobs on a disk, as the contracts of `md_system` promise them, and the stories that show one.
 use Rattle.std.specs.Prelude.{ℕ, suc, ◌≡◌, List, [], Option, Some, None, take, drop, length, count_by, slice_get, is_some, if◌then◌else◌}
 use Rattle.std.specs.Option.{option_to_list, option_map}
 use Rattle.md_dirs.specs.Rows.{row_named}
@@ -18,7 +18,7 @@ use Rattle.md_jobs.specs.declared.step.Moment.{Moment}
 use Rattle.md_core.specs.Machine.{working, turn_of}
 use Rattle.md_core.specs.Tasks.Task.{Task}
 use Rattle.md_core.specs.Trace.{call_at}
-use Rattle.md_disk.specs.Exchanges.{Exchange, Ran, Began}
+use Rattle.md_system.specs.Exchanges.{Exchange, Ran, Began}
 use Rattle.md_beside.specs.Story.{Story, Step, ours, asked, step_at, state, standing, is_by, IsTurn}
 use Rattle.md_beside.specs.Beside.{IsStepOf, IsAnswered}
 

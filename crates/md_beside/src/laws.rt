@@ -21,7 +21,7 @@ pub fn jobs_are_lawful()
     ensures { JobsAreLawful }
 {}
 
-/// A run on a disk, as the contracts of `md_disk` promise it, is a job of any story that shows its calls, if each reading is one moment:
+/// A run on a disk, as the contracts of `md_system` promise it, is a job of any story that shows its calls, if each reading is one moment:
 /// each step is a turn of the job's machine, and the job's answer is that of the run.
 pub fn a_run_on_a_disk_is_a_job_of_a_story()
     ensures { RunsAreJobs }

@@ -1,6 +1,1 @@
 pub mod Causes
-pub mod Exchanges
-pub mod Flaws
-pub mod Hints
-pub mod Shown
-pub mod Steps

@@ -1,13 +1,11 @@
 //! Directory calls on a disk.
 use crate::cause::Cause;
 use crate::error::{CallError, unless_refused};
-use crate::hints::Hints;
 use crate::paths::Folders;
 use crate::reading::{find_name, names_once, no_directory, rested_name};
-use crate::system::System;
-use crate::told::Told;
 use md_dirs::{Bytes, Place, Row};
 use md_jobs::{DirReply, PathRef, Purpose, Request};
+use md_system::{Hints, System, Told};
 use std::alloc::{AllocError, Global};
 use std::cell::Cell;
 use std::fs::{Files, Metadata, OpenFile, OpenOptions};
@@ -35,8 +33,9 @@ pub struct Calls<'r, R: Files + Clock> {
 }
 
 impl<'r, R: Files + Clock> Calls<'r, R> {
-    /// Calls on these maildirs, with no file open.
-    pub(crate) fn new(files: &'r R, folders: Folders, sync: bool) -> Self {
+    /// Calls on these maildirs. With `sync` a file is flushed before it is linked, and the directory after the link; a file that can't be
+    /// flushed is not linked, and the reply is a fault.
+    pub fn new(files: &'r R, folders: Folders, sync: bool) -> Self {
         let hints = Hints::new(folders.allocator());
         Calls {
             files,
@@ -50,13 +49,13 @@ impl<'r, R: Files + Clock> Calls<'r, R> {
         }
     }
 
-    /// Whether a directory could not be flushed after a link that was done.
-    pub(crate) fn is_unflushed(&self) -> bool {
+    /// Whether a directory could not be flushed after a link that was done: the message is in new, but may be lost if the machine stops.
+    pub fn is_unflushed(&self) -> bool {
         self.unflushed
     }
 
-    /// Why the last call was refused that was.
-    pub(crate) fn cause(&self) -> Option<Cause> {
+    /// Why the last call that was not done was not: each reply but `Ok` has a cause, and a job that ends with `Fault` ends by its cause.
+    pub fn cause(&self) -> Option<Cause> {
         self.cause.get()
     }
 

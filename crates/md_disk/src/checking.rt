@@ -5,14 +5,10 @@
 use crate::cause::Cause;
 use crate::disk::Disk;
 use crate::error::CallError;
-use crate::flaw::{Flaw, FlawKind};
-use crate::name_flaw::{NAME_FLAWS, has_flaw};
-use crate::rows::is_old;
-use crate::running::LEAST_SECONDS;
-use crate::system::System;
 use md_dirs::{Bytes, Place};
 use md_jobs::{CoreError, DirReply, PathRef};
 use md_name::{split, unique_part};
+use md_system::{Flaw, FlawKind, LEAST_SECONDS, NAME_FLAWS, System, has_flaw, is_old};
 use std::alloc::{AllocError, Global};
 use std::cmp::Ordering;
 use std::fs::Files;
@@ -73,7 +69,7 @@ fn all_shown<R: Files + Clock>(alloc: Global, disk: &Disk<'_, R>) -> Result<Vec<
     let mut all = Vec::new(alloc);
     for folder in 0..disk.system.folders.count() {
         for place in [Place::New, Place::Cur] {
-            for name in disk.rested_names(alloc, folder, place)? {
+            for name in disk.system.rested_names(alloc, folder, place)? {
                 all.push(Shown {
                     folder,
                     place,

@@ -43,8 +43,8 @@ fn listed_now<R: Files + Clock>(
     disk: &Disk<'_, R>,
     folder: u32,
 ) -> Result<Vec<Listed>, CallError> {
-    let news = disk.rested_names(alloc, folder, Place::New)?;
-    let curs = disk.rested_names(alloc, folder, Place::Cur)?;
+    let news = disk.system.rested_names(alloc, folder, Place::New)?;
+    let curs = disk.system.rested_names(alloc, folder, Place::Cur)?;
     Ok(joined(alloc, news, curs)?)
 }
 

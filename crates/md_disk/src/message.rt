@@ -3,15 +3,29 @@ use crate::calls::{Calls, for_reading};
 use crate::cause::Cause;
 use crate::error::CallError;
 use md_dirs::Place;
-use md_jobs::{PathRef, Purpose};
-use std::alloc::Global;
+use md_jobs::{DirReply, PathRef, Purpose};
+use std::alloc::{AllocError, Global};
 use std::fs::Files;
 use std::io::ErrorKind;
 use std::time::Clock;
 
 impl<'r, R: Files + Clock> Calls<'r, R> {
-    /// Opens a message for reading. It is looked for again, up to so many times, where its name was gone when it was opened.
-    pub(crate) fn open_message(
+    /// Opens the message of a unique name for reading. It is looked for in new, and then in cur, and up to `tries` times, at least once,
+    /// where its name was gone when it was opened: after that the reply is a fault. `NotFound` where new and cur rested without it, and
+    /// where one of them is not there. What is no regular file is not opened. Refused only when out of memory.
+    pub fn open_message(
+        &mut self,
+        alloc: Global,
+        folder: u32,
+        unique: &[u8],
+        tries: u64,
+    ) -> Result<(DirReply, Option<R::File>), AllocError> {
+        let opened = self.open_again(alloc, folder, unique, tries);
+        self.reply(opened)
+    }
+
+    // Opens it, and looks for it again, up to so many times, where its name was gone when it was opened.
+    fn open_again(
         &mut self,
         alloc: Global,
         folder: u32,

@@ -1,7 +1,4 @@
 //! The names that a reading of a directory gives.
-ghost use Rattle.std.specs.Prelude.{◌≡◌};
-ghost use Rattle.md_dirs.specs.Rows.{is_named as is_named_by, ends_unique};
-
 use memchr::memchr;
 use std::alloc::{AllocError, Global};
 use std::io;
@@ -63,23 +60,6 @@ fn part(bytes: &[u8], from: usize, until: usize) -> &[u8] {
         &bytes[from..until]
     } else {
         &[]
-    }
-}
-
-/// Whether a name is a unique name, or a unique name, a colon and more.
-pub(crate) fn is_named(name: &[u8], unique: &[u8]) -> bool
-    ensures { result ≡ is_named_by unique.now name.now }
-{
-    name.starts_with(unique) && ends_unique_name(&name[unique.len()..])
-}
-
-// Whether a unique name ends where this begins.
-fn ends_unique_name(rest: &[u8]) -> bool
-    ensures { result ≡ ends_unique rest.now }
-{
-    match rest {
-        [] => true,
-        [first, ..] => *first == b':',
     }
 }
 

@@ -3,13 +3,12 @@
 //! A reading is no one moment: a name that another process changes meanwhile may be shown twice, or not at all. So a name that an errand
 //! acts on is used at once, since one that is gone by then is looked for again. All else is believed only of a reading in which the
 //! directory rested: that a message is not there, that it has two names, that its name is as it should be, and what stands in a listing.
-use crate::acting::acts_on;
 use crate::cause::Cause;
 use crate::error::CallError;
-use crate::found::Found;
-use crate::names::{Names, is_entry, is_named};
+use crate::names::{Names, is_entry};
 use md_dirs::Bytes;
 use md_jobs::Purpose;
+use md_system::{Found, acts_on, is_named};
 use std::alloc::Global;
 use std::fs::Files;
 use std::io;

@@ -1,8 +1,8 @@
 //! What a scene does by jobs, on any system, and what it then finds in a directory.
 use super::{BODY, copied, flags, name_of};
 use md_dirs::{Bytes, Place};
-use md_disk::{Logged, System, clean, deliver, run_errand};
 use md_jobs::{Answer, CoreError, Purpose};
+use md_system::{Logged, System, clean, deliver, run_errand};
 use std::alloc::{AllocError, Global};
 
 /// What an errand is for, by the letters of flags, a folder, and the fresh name of a copy.

@@ -7,8 +7,8 @@ use super::act::{Act, are_done};
 use super::are_right;
 use md_dirs::Place::{Cur, New, Tmp};
 use md_dirs::{FailAt, PlainDirs};
-use md_disk::InMemory;
 use md_jobs::CoreError;
+use md_system::InMemory;
 use std::alloc::Global;
 
 // A file in tmp that is stamped so is 36 hours old at this second.

@@ -9,7 +9,7 @@ use super::act::{Act, are_done};
 use super::are_right;
 use md_dirs::IndexDirs;
 use md_dirs::Place::{Cur, New};
-use md_disk::InMemory;
+use md_system::InMemory;
 
 /// A message goes through all jobs, from empty folders on.
 pub(super) static JOBS: [Act<'static>; 19] = [

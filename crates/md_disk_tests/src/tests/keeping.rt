@@ -34,7 +34,7 @@ fn hint<H: Counted>(
     name: &str,
 ) -> Result<bool, CoreError> {
     let name = copied(alloc, name)?;
-    disk.hint(0, place, name);
+    disk.system.hint(0, place, name);
     Ok(true)
 }
 
@@ -45,10 +45,10 @@ fn is_between(count: u64, least: u64, most: u64) -> bool {
 // Whether it is so.
 fn is_so<H: Counted>(host: &H, disk: &Disk<'_, H>, kept: Kept<'_>) -> bool {
     match kept {
-        Kept::Because(cause) => disk.cause() == Some(cause),
-        Kept::NoCause => disk.cause().is_none(),
+        Kept::Because(cause) => disk.system.cause() == Some(cause),
+        Kept::NoCause => disk.system.cause().is_none(),
         Kept::Read(least, most) => is_between(host.take_readings(), least, most),
-        _ => !disk.is_unflushed(),
+        _ => !disk.system.is_unflushed(),
     }
 }
 
@@ -60,13 +60,13 @@ pub(super) fn is_kept<'h, H: Counted>(
 ) -> Result<bool, CoreError> {
     match kept {
         Kept::Hint(place, name) => hint(stage.alloc, disk, place, name),
-        Kept::Ahead(folder, reply) => Ok(disk.read_ahead(stage.alloc, folder)? == reply),
+        Kept::Ahead(folder, reply) => Ok(disk.system.read_ahead(stage.alloc, folder)? == reply),
         Kept::Outdate => {
-            disk.outdate();
+            disk.system.outdate();
             Ok(true)
         }
         Kept::OnlyHints(only) => {
-            disk.only_hints(only);
+            disk.system.only_hints(only);
             Ok(true)
         }
         _ => Ok(is_so(stage.host, disk, kept)),

@@ -45,7 +45,7 @@ pub(super) fn is_read<R: Files + Clock>(
     disk: &mut Disk<'_, R>,
     unique: &str,
 ) -> Result<bool, CoreError> {
-    match disk.open_message(alloc, 0, name_of(unique), 2)? {
+    match disk.system.open_message(alloc, 0, name_of(unique), 2)? {
         (reply, Some(file)) => Ok(reply == DirReply::Ok && has_body(file)),
         (_, None) => Ok(false),
     }
@@ -58,7 +58,7 @@ pub(super) fn is_unread<R: Files + Clock>(
     unique: &str,
     wanted: DirReply,
 ) -> Result<bool, CoreError> {
-    let (reply, _) = disk.open_message(alloc, 0, name_of(unique), 2)?;
+    let (reply, _) = disk.system.open_message(alloc, 0, name_of(unique), 2)?;
     Ok(reply == wanted)
 }
 
@@ -71,8 +71,8 @@ fn is_told_of<R: Files + Clock>(
     disk: &Disk<'_, R>,
     listed: &Listed,
 ) -> Result<bool, CoreError> {
-    let (reply, about) = disk.about(alloc, 0, listed)?;
-    let (gone, none) = disk.about(alloc, 1, listed)?;
+    let (reply, about) = disk.system.about(alloc, 0, listed)?;
+    let (gone, none) = disk.system.about(alloc, 1, listed)?;
     Ok(
         reply == DirReply::Ok
             && about.is_some_and(is_about)

@@ -2,7 +2,7 @@
 use super::are_right;
 use super::counting::{Counted, Counting};
 use super::step::{Step, are_taken};
-use md_disk::{Disk, Folders, Namer, make_maildir};
+use md_disk::{Calls, Disk, Folders, Namer, make_maildir};
 use md_jobs::CoreError;
 use std::alloc::Global;
 use std::fs::Files;
@@ -56,7 +56,7 @@ fn make_boxes<R: Files + Clock>(
 
 fn plays_in<H: Counted>(stage: &Stage<'_, H>, steps: &[Step<'_>]) -> Result<bool, CoreError> {
     let folders = make_boxes(stage.alloc, stage.host, stage.root)?;
-    let mut disk = Disk::new(stage.host, folders, true);
+    let mut disk = Disk::over(Calls::new(stage.host, folders, true));
     are_taken(stage, &mut disk, steps)
 }
 
