@@ -1,3 +1,3 @@
 pub mod Keys
 pub mod Directories
-pub mod Leaving
+pub mod Coming

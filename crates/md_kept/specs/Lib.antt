@@ -1,5 +1,5 @@
 pub mod Tables
-pub mod Sets
+pub mod Few
 pub mod Directories
 pub mod Changes
 pub mod Files

@@ -39,7 +39,9 @@ impl Directory {
     }
 
     /// The names with the numbers of their files, in the same order.
-    pub fn files(&self) -> Iter<'_, NameKey<'static>, usize> {
+    pub fn files(&self) -> Iter<'_, NameKey<'static>, usize>
+        ensures { result ≡ self.now.files.entries }
+    {
         self.files.iter()
     }
 

@@ -5,11 +5,11 @@
 mod change;
 mod directory;
 mod drafts;
+mod few;
 mod files;
 mod messages;
 mod paths;
 mod replies;
-mod sets;
 mod table;
 
 pub use change::{Change, Named, is_cur, is_message, is_new, is_tmp, message_of};

@@ -1,26 +1,94 @@
 //! What is kept of messages.
-ghost use Rattle.std.specs.Prelude.{◌≡◌, ℕ, List, OnOk};
+ghost use Rattle.std.specs.Prelude.{◌≡◌, ℕ, List, None as Nothing, OnOk};
+ghost use Rattle.std.specs.Option.{option_copied};
 ghost use Rattle.md_kept.specs.Changes.{turn_of};
-ghost use Rattle.md_kept.specs.Messages.{count_in_folder, count_anywhere, count_as_file, was_in_folder, was_in_folder_as, was_anywhere, was_as_file, KeepsNone, Comes, Goes, Follows};
+ghost use Rattle.md_kept.specs.Few.{few_at, IsLeast};
 ghost use Rattle.md_kept.specs.Files.{lent_as};
+ghost use Rattle.md_kept.specs.Messages.{count_in_folder, count_anywhere, count_as_file, was_in_folder, was_in_folder_as, was_anywhere, was_as_file, KeepsNone, ComesTo, GoesFrom, IsIn, in_folder_of, Comes, Goes, Follows};
 
 use crate::change::{Change, Named, message_of};
-use crate::sets::Sets;
+use crate::few::Few;
 use crate::table::Table;
 use std::alloc::{AllocError, Global};
 
-/// Of each message by how many paths it is there, in a folder, in all, and as a file in all; and which files it ever was in a folder. A
-/// message that was once, and is no more, is there 0 times.
+/// Of a message in a folder: by how many paths it is there, and which files it ever was there.
+#[derive(Drop)]
+struct InFolder {
+    times: usize,
+    files: Few<()>,
+}
+
+/// Of a message: by how many paths it is there in all, what is kept of it by folders, and by how many paths each file is it. A message that
+/// was once, and is no more, is there 0 times.
+#[derive(Drop)]
+struct Message {
+    times: usize,
+    folders: Few<InFolder>,
+    files: Few<usize>,
+}
+
+impl Message {
+    fn new() -> Self
+        ensures none { result.times ≡ 0 }
+        ensures folders { (folder : ℕ) → few_at result.folders folder ≡ Nothing }
+        ensures files { (file : ℕ) → few_at result.files file ≡ Nothing }
+    {
+        Message {
+            times: 0,
+            folders: Few::None,
+            files: Few::None,
+        }
+    }
+
+    /// One more path of a folder is the message, as a file.
+    fn come(&mut self, alloc: Global, folder: usize, file: usize) -> Result<(), AllocError>
+        ensures { OnOk result (ComesTo folder file self.old self.new) }
+    {
+        let Some(times) = self.times.checked_add(1) else {
+            return Err(AllocError);
+        };
+        self.times = times;
+        self.files.raise(alloc, file)?;
+        let mut there = self.folders.take(folder).unwrap_or(InFolder {
+            times: 0,
+            files: Few::None,
+        });
+        there.come(alloc, file)?;
+        self.folders.put(alloc, folder, there)
+    }
+
+    /// One path less is.
+    fn go(&mut self, alloc: Global, folder: usize, file: usize) -> Result<(), AllocError>
+        ensures { OnOk result (GoesFrom folder file self.old self.new) }
+    {
+        self.times = self.times.saturating_sub(1);
+        self.files.lower(alloc, file)?;
+        let Some(mut there) = self.folders.take(folder) else {
+            return Ok(());
+        };
+        there.times = there.times.saturating_sub(1);
+        self.folders.put(alloc, folder, there)
+    }
+}
+
+impl InFolder {
+    fn come(&mut self, alloc: Global, file: usize) -> Result<(), AllocError>
+        ensures { OnOk result (IsIn file self.old self.new) }
+    {
+        let Some(times) = self.times.checked_add(1) else {
+            return Err(AllocError);
+        };
+        self.times = times;
+        self.files.put(alloc, file, ())
+    }
+}
+
+/// What is kept of messages.
 #[derive(Drop)]
 pub struct Messages {
-    /// By folders.
-    in_folder: Table<usize>,
-    /// By 0.
-    anywhere: Table<usize>,
-    /// By the numbers of files.
-    as_file: Table<usize>,
-    /// By folders.
-    files: Sets,
+    alloc: Global,
+    /// By 0 and the unique names.
+    all: Table<Message>,
 }
 
 impl Messages {
@@ -28,10 +96,8 @@ impl Messages {
         ensures { KeepsNone result }
     {
         Messages {
-            in_folder: Table::new(alloc),
-            anywhere: Table::new(alloc),
-            as_file: Table::new(alloc),
-            files: Sets::new(alloc),
+            alloc,
+            all: Table::new(alloc),
         }
     }
 
@@ -39,63 +105,85 @@ impl Messages {
     pub fn count_in(&self, folder: u32, unique: &[u8]) -> usize
         ensures { result ≡ count_in_folder self.now folder unique.now }
     {
-        self.in_folder.count(folder as usize, unique)
+        match self.in_folder(folder, unique) {
+            None => 0,
+            Some(there) => there.times,
+        }
     }
 
     /// By how many it is in any folder.
     pub fn count(&self, unique: &[u8]) -> usize
         ensures { result ≡ count_anywhere self.now unique.now }
     {
-        self.anywhere.count(0, unique)
+        match self.all.get(0, unique) {
+            None => 0,
+            Some(message) => message.times,
+        }
     }
 
     /// By how many paths the file is the message, in any folder.
     pub fn count_as(&self, unique: &[u8], file: usize) -> usize
         ensures { result ≡ count_as_file self.now unique.now file }
     {
-        self.as_file.count(file, unique)
+        match self.all.get(0, unique) {
+            None => 0,
+            Some(message) => message.files.get(file).copied().unwrap_or(0),
+        }
     }
 
     /// Whether the message was in the folder.
     pub fn was_in(&self, folder: u32, unique: &[u8]) -> bool
         ensures { result ≡ was_in_folder self.now folder unique.now }
     {
-        self.in_folder.get(folder as usize, unique).is_some()
+        self.in_folder(folder, unique).is_some()
     }
 
     /// Whether it was this file there.
     pub fn was_file_in(&self, folder: u32, unique: &[u8], file: usize) -> bool
         ensures { result ≡ was_in_folder_as self.now folder unique.now file }
     {
-        self.files.has(folder as usize, unique, file)
+        match self.in_folder(folder, unique) {
+            None => false,
+            Some(there) => there.files.get(file).is_some(),
+        }
     }
 
     /// The first file that it was there, by the numbers of files.
-    pub fn first_file_in(&self, folder: u32, unique: &[u8]) -> Option<usize> {
-        self.files.first(folder as usize, unique)
+    pub fn first_file_in(&self, folder: u32, unique: &[u8]) -> Option<usize>
+        ensures { IsLeast (was_in_folder_as self.now folder unique.now) result }
+    {
+        self.in_folder(folder, unique)?.files.first()
     }
 
     /// Whether it was in any folder.
     pub fn was(&self, unique: &[u8]) -> bool
         ensures { result ≡ was_anywhere self.now unique.now }
     {
-        self.anywhere.get(0, unique).is_some()
+        self.all.get(0, unique).is_some()
     }
 
     /// Whether it was this file there.
     pub fn was_file(&self, unique: &[u8], file: usize) -> bool
         ensures { result ≡ was_as_file self.now unique.now file }
     {
-        self.as_file.get(file, unique).is_some()
+        match self.all.get(0, unique) {
+            None => false,
+            Some(message) => message.files.get(file).is_some(),
+        }
+    }
+
+    fn in_folder<'a>(&'a self, folder: u32, unique: &'a [u8]) -> Option<&'a InFolder>
+        ensures { option_copied result ≡ in_folder_of self.now folder unique.now }
+    {
+        self.all.get(0, unique)?.folders.get(folder as usize)
     }
 
     pub fn follow(&mut self, change: &Change<'_>) -> Result<(), AllocError>
         ensures { OnOk result (Follows (turn_of change.now) self.old self.new) }
     {
         self.come(change.named)?;
-        self.go(change.taken);
-        self.go(change.turned);
-        Ok(())
+        self.go(change.taken)?;
+        self.go(change.turned)
     }
 
     fn come(&mut self, named: Option<Named<'_>>) -> Result<(), AllocError>
@@ -107,23 +195,24 @@ impl Messages {
         let Some(unique) = message_of(path) else {
             return Ok(());
         };
-        self.in_folder.raise(path.folder as usize, unique)?;
-        self.anywhere.raise(0, unique)?;
-        self.as_file.raise(file, unique)?;
-        self.files.add(path.folder as usize, unique, file)
+        let mut message = self.all.take(0, unique).unwrap_or(Message::new());
+        message.come(self.alloc, path.folder as usize, file)?;
+        self.all.put(0, unique, message)
     }
 
-    fn go(&mut self, named: Option<Named<'_>>)
-        ensures { Goes (lent_as named.entry) self.old self.new }
+    fn go(&mut self, named: Option<Named<'_>>) -> Result<(), AllocError>
+        ensures { OnOk result (Goes (lent_as named.entry) self.old self.new) }
     {
         let Some((path, file)) = named else {
-            return;
+            return Ok(());
         };
         let Some(unique) = message_of(path) else {
-            return;
+            return Ok(());
         };
-        self.in_folder.lower(path.folder as usize, unique);
-        self.anywhere.lower(0, unique);
-        self.as_file.lower(file, unique);
+        let Some(mut message) = self.all.take(0, unique) else {
+            return Ok(());
+        };
+        message.go(self.alloc, path.folder as usize, file)?;
+        self.all.put(0, unique, message)
     }
 }

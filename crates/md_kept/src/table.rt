@@ -1,6 +1,6 @@
 //! A table by a number and a name.
-ghost use Rattle.std.specs.Prelude.{◌≡◌, ◌+◌, ◌-◌, ℕ, List, Some, None, IfOk, OnOk};
-ghost use Rattle.std.specs.Option.{option_map, option_copied};
+ghost use Rattle.std.specs.Prelude.{◌≡◌, ◌+◌, ℕ, List, Some, None, OnOk};
+ghost use Rattle.std.specs.Option.{option_copied};
 ghost use Rattle.md_kept.specs.Tables.{value_at, count_at, Puts};
 
 use indexmap::IndexMap;
@@ -64,38 +64,21 @@ impl Table<usize> {
         self.get(number, name).copied().unwrap_or(0)
     }
 
-    /// One more; how many there are then.
+    /// One more.
     #[tactic(auto, unfolding(crate::specs::Tables::value_at))]
-    pub fn raise(&mut self, number: usize, name: &[u8]) -> Result<usize, AllocError>
-        ensures count { IfOk result (λ count. count ≡ count_at self.old number name.now + 1) }
-        ensures puts { OnOk result (Puts number name.now (Some (count_at self.old number name.now + 1)) self.old self.new) }
+    pub fn raise(&mut self, number: usize, name: &[u8]) -> Result<(), AllocError>
+        ensures { OnOk result (Puts number name.now (Some (count_at self.old number name.now + 1)) self.old self.new) }
     {
         let key = (number, NameKey::lent(name));
         let Some((at, _, kept)) = self.map.get_full(&key) else {
             self.put(number, name, 1)?;
-            return Ok(1);
+            return Ok(());
         };
         let Some(more) = kept.unwrap_or(0).checked_add(1) else {
             return Err(AllocError);
         };
         let (_, kept) = self.map.pair_mut(at);
         *kept = Some(more);
-        Ok(more)
-    }
-
-    /// One less, where there is any.
-    #[tactic(auto, unfolding(crate::specs::Tables::value_at))]
-    pub fn lower(&mut self, number: usize, name: &[u8])
-        ensures { Puts number name.now (option_map (λ n. n - 1) (value_at self.old number name.now)) self.old self.new }
-    {
-        let key = (number, NameKey::lent(name));
-        let Some((at, _, kept)) = self.map.get_full(&key) else {
-            return;
-        };
-        let Some(count) = *kept else {
-            return;
-        };
-        let (_, kept) = self.map.pair_mut(at);
-        *kept = Some(count.saturating_sub(1));
+        Ok(())
     }
 }

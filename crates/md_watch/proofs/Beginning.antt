@@ -273,13 +273,13 @@ no-files w clock folders paths none ofMessages ofDrafts = record {
     stamp = λ n f is. absurd (cc is);
   };
   messages = record {
-    in_folder = λ f u. ap (λ o. unwrap_or o 0) (ofMessages.in_folder f u) ∙ sym (no-count (λ e. is_of f u e.0));
-    anywhere = λ u. ap (λ o. unwrap_or o 0) (ofMessages.anywhere u) ∙ sym (no-count (λ e. is_of_any u e.0));
-    as_file = λ u n. ap (λ o. unwrap_or o 0) (ofMessages.as_file n u) ∙ sym (no-count (messages.is_as u n));
-    was_there = λ f u. ap is_some (ofMessages.in_folder f u) ∙ ap (nat_lt 0) (sym (no-count (λ e. is_of f u e.0)));
-    was_file = λ f u n. ofMessages.files f u n ∙ ap (nat_lt 0) (sym (no-count (messages.is_in_as f u n)));
-    was_any = λ u. ap is_some (ofMessages.anywhere u) ∙ ap (nat_lt 0) (sym (no-count (λ e. is_of_any u e.0)));
-    was_any_file = λ u n. ap is_some (ofMessages.as_file n u) ∙ ap (nat_lt 0) (sym (no-count (messages.is_as u n)));
+    in_folder = λ f u. ap (λ o. unwrap_or (messages.times_in (messages.folder_by o f)) 0) (ofMessages u) ∙ sym (no-count (λ e. is_of f u e.0));
+    anywhere = λ u. ap (λ o. unwrap_or (messages.times_by o) 0) (ofMessages u) ∙ sym (no-count (λ e. is_of_any u e.0));
+    as_file = λ u n. ap (λ o. unwrap_or (messages.file_by o n) 0) (ofMessages u) ∙ sym (no-count (messages.is_as u n));
+    was_there = λ f u. ap (λ o. is_some (messages.folder_by o f)) (ofMessages u) ∙ ap (nat_lt 0) (sym (no-count (λ e. is_of f u e.0)));
+    was_file = λ f u n. ap (λ o. messages.was_in_as (messages.folder_by o f) n) (ofMessages u) ∙ ap (nat_lt 0) (sym (no-count (messages.is_in_as f u n)));
+    was_any = λ u. ap is_some (ofMessages u) ∙ ap (nat_lt 0) (sym (no-count (λ e. is_of_any u e.0)));
+    was_any_file = λ u n. ap (λ o. is_some (messages.file_by o n)) (ofMessages u) ∙ ap (nat_lt 0) (sym (no-count (messages.is_as u n)));
   };
   drafts = λ p tmp. ofDrafts p.folder p.name ∙ (λ i. record { first = (sym (get-empty path_cmp p)) i; has_other = false })
       ∙ ap (λ b. cond b (record { first = file_at (bare 0) p; has_other = false }) no_path) (sym tmp);

@@ -1,4 +1,5 @@
 -- What a watch keeps follows a turn of paths: of a step, or of a line of the beginning.
+use Rattle.std.specs.Option.{option_map}
 use Rattle.std.proofs.Common.{ℕ, ◌≡◌, ◌+◌, ◌==◌, ◌&&◌, ◌||◌, cond, List, Option, Some, None, IsSome, Bool, true, is_some, slice_get, length, refl, sym, ap, ◌∙◌, arith}
 use Rattle.std.specs.Prelude.{unwrap_or}
 use Rattle.std.specs.Ordering.{eq_by_cmp}
@@ -83,13 +84,22 @@ module _ (t : Turn) (s s' : State) (kept kept' : ℕ → FileKept) (told told' :
       in_folder = λ f u. counted (λ e. is_of f u e.0) _ _ (follows.in_folder f u) (are.in_folder f u);
       anywhere = λ u. counted (λ e. is_of_any u e.0) _ _ (follows.anywhere u) (are.anywhere u);
       as_file = λ u n. counted (messages.is_as u n) _ _ (follows.as_file n u) (are.as_file u n);
-      was_there = λ f u. noted (λ e. is_of f u e.0) _ _ _ (follows.in_folder f u) (are.was_there f u) ∙ sym (leads.was_there f u);
+      was_there = λ f u. sym (mapped (λ k. k.times) (messages.in_folder_of new f u))
+          ∙ noted (λ e. is_of f u e.0) _ _ _ (follows.in_folder f u) (mapped (λ k. k.times) (messages.in_folder_of old f u) ∙ are.was_there f u)
+          ∙ sym (leads.was_there f u);
       was_file = λ f u n. follows.files f u n ∙ ap (λ b. is_some_and t.named (messages.is_in_as f u n) || b) (are.was_file f u n)
           ∙ sym (leads.was_file f u n);
-      was_any = λ u. noted (λ e. is_of_any u e.0) _ _ _ (follows.anywhere u) (are.was_any u) ∙ sym (leads.was_any u);
+      was_any = λ u. sym (mapped (λ k. k.times) (messages.kept_of new u))
+          ∙ noted (λ e. is_of_any u e.0) _ _ _ (follows.anywhere u) (mapped (λ k. k.times) (messages.kept_of old u) ∙ are.was_any u)
+          ∙ sym (leads.was_any u);
       was_any_file = λ u n. noted (messages.is_as u n) _ _ _ (follows.as_file n u) (are.was_any_file u n) ∙ sym (leads.was_any_file u n);
     }
       where
+        -- what is counted is there
+        mapped : {A : Type 0} (count : A → ℕ) (o : Option A) → is_some (option_map count o) ≡ is_some o
+        mapped count None = refl
+        mapped count (Some k) = refl
+
         counted : (test : Path × ℕ → Bool) (o o' : Option ℕ) → o' ≡ messages.turning test t o → unwrap_or o 0 ≡ count_where test s
             → unwrap_or o' 0 ≡ count_where test s'
         counted test o o' turned was = ap (λ v. unwrap_or v 0) turned

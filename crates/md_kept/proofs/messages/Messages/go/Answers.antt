@@ -1,15 +1,20 @@
-use Rattle.std.proofs.Common.{refl, sym, subst}
+use Rattle.std.proofs.Common.{Some, refl, sym, subst}
 use Rattle.md_kept.specs.Files.{lent_as}
 use Rattle.md_kept.specs.Messages.{Goes}
 use Rattle.md_kept.specs.declared.messages.Messages.{Messages}
-use Rattle.md_kept.proofs.Leaving.{went}
+use Rattle.md_kept.proofs.Coming.{went, put-back}
+use Rattle.md_kept.proofs.Keys.{then}
 use Rattle.md_kept.proofs.messages.Messages.go.Goals as goal
 
 pub returns : goal.returns
 returns c =
     let old = c.args.self.now in
-    let new : Messages =
-    record { in_folder = c.lower.new.self; anywhere = c.lower-2.new.self; as_file = c.lower-3.new.self; files = old.files } in
-    subst (λ o. Goes (lent_as o) old new) (sym c.in-Some.is)
-    (went c.in-Some.path.now c.in-Some.file c.in-Some-message_of.unique.now old new c.in-Some-message_of.ensures c.lower.ensures
-    c.lower-2.ensures c.lower-3.ensures refl)
+    let new : Messages = record { alloc = old.alloc; all = c.put.new.self } in
+    let u = c.in-Some-message_of.unique.now in
+    let before = c.in-Some-take.message in
+    let now = c.go.new.self in
+    then c.put.result
+    (λ put. subst (λ o. Goes (lent_as o) old new) (sym c.in-Some.is)
+    (went c.in-Some.path.now c.in-Some.file u old new (Some now) c.in-Some-message_of.ensures
+    (put-back u old new c.take.new.self now c.take.ensures.puts put) before now refl (sym c.in-Some-take.ensures.taken) c.in_ok-go.ensures))
+    c.put.ensures

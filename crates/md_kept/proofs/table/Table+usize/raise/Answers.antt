@@ -3,9 +3,9 @@ use Rattle.md_kept.specs.Tables.{value_at, count_at, held, is_key}
 use Rattle.md_kept.proofs.Keys.{written-at}
 use Rattle.md_kept.proofs.table.Table+usize.raise.Goals as goal
 
-pub returns-clause-puts : goal.returns-clause-puts
+pub returns : goal.returns
 unfolding value_at
-returns-clause-puts c = λ m q.
+returns c = λ m q.
     written-at c.args.self.now.map c.in-Some.at (c.args.number, c.lent.result) c.in-Some.field-0-1.now c.in-Some.kept.now
     (Some c.in-Some-checked_add.more) c.pair_mut-kept.ensures.unique c.in-Some.ensures.key c.in-Some.ensures.entry (m, q)
     ∙ (λ i. cond (is_key (c.args.number, c.lent.ensures i) (m, q)) (more i) (value_at c.args.self.now m q))
