@@ -1,5 +1,5 @@
 -- What is kept of flags is so after a step as it was before, and goes with it.
-use Rattle.std.proofs.Common.{ℕ, ◌≡◌, ◌+◌, ◌-◌, ◌&&◌, cond, not, nat_lt, List, [], ◌∷◌, ◌++◌, Option, Some, None, Bool, true, false, refl, sym, ap, subst, ◌∙◌, arith}
+use Rattle.std.proofs.Common.{ℕ, ◌≡◌, ◌+◌, ◌-◌, ◌≤◌, ◌&&◌, cond, not, nat_lt, slice_get, List, [], ◌∷◌, ◌++◌, Option, Some, None, Bool, true, false, refl, sym, ap, subst, ◌∙◌, arith}
 use Rattle.std.specs.List.{count_by}
 use Rattle.std.proofs.lemmas.Bool.{lt-ltb, ltb-true, le-ltb, ltb-false}
 use Rattle.lists.proofs.Maps as maps
@@ -23,7 +23,7 @@ use Rattle.md_watch.specs.declared.flagged.Flagged.{Flagged}
 use Rattle.md_watch.specs.declared.spells.Spell.{Spell}
 use Rattle.md_kept.specs.Changes.{Turn}
 use Rattle.md_watch.specs.Flagged.{times, count_by as count_kept, spell_by, count_in, is_in, spell_in, Follows, Puts, flagged_times, AreFlagged, PassesFlags}
-use Rattle.md_watch.specs.Spells.{ever_by, Passes, IsTimely}
+use Rattle.md_watch.specs.Spells.{since_of, ended_of, ever_by, Passes, IsSame, IsTimely}
 use Rattle.md_watch.proofs.Counting.{one}
 use Rattle.md_watch.proofs.Letters.{word-shown}
 use Rattle.md_watch.proofs.Marking.{passes-alike}
@@ -188,17 +188,30 @@ module _ (n : ℕ) (s : State) (w : Flagged) (are : AreFlagged n s w) (c : Claim
 
 -- ---- the beginning
 
-timely-of : (n : ℕ) (is : Bool) (o : Option Spell) → o ≡ None → IsTimely n is o
-timely-of n is o none = subst (IsTimely n is) (sym none) (timely-none n is)
+-- a spell of which nothing was noted is of any moment
+timely-of : (n : ℕ) (is : Bool) (o : Option Spell) → IsSame None o → IsTimely n is o
+timely-of n is o none =
+    let timely = timely-none n is in
+    let ended : (k : ℕ) (t : ℕ × ℕ) → slice_get (ended_of o) k ≡ Some t → ⊥ = λ k t at. cc (sym (ap (λ es. slice_get es k) none.ended) ∙ at) in
+    record {
+      begun = λ there. subst (λ k. k ≤ n) (sym none.since) (timely.begun there);
+      apart = λ there k t at. absurd (ended k t at);
+      gone = λ gone k t at. absurd (ended k t at);
+      later = λ j k t u before at next. absurd (ended j t at);
+    }
 
 pub flags-none : (w : Flagged) → ((word folder : ℕ) (unique : List ℕ) → count_kept w word folder unique ≡ 0)
     → ((word folder : ℕ) (unique : List ℕ) → spell_by w word folder unique ≡ None) → AreFlagged 0 (bare 0) w
 flags-none w counts spells = record {
   counts = λ c flags letters. counts (word_of flags) c.folder c.unique
       ∙ sym (ap (count_by (test_of c flags)) (maps.entries-empty path_cmp));
-  timely = λ c flags letters. timely-of 0 _ _ (spells (word_of flags) c.folder c.unique);
-  begun = λ zero. spells;
+  timely = λ c flags letters. timely-of 0 _ _ (none (word_of flags) c.folder c.unique);
+  begun = λ zero. none;
 }
+  where
+    none : (word folder : ℕ) (unique : List ℕ) → IsSame None (spell_by w word folder unique)
+    none word folder unique =
+        let is = spells word folder unique in record { since = ap since_of is; ended = ap ended_of is }
 
 -- a path comes to name a file, which named none
 pub flags-put : (s s' : State) (p : Path) (k : ℕ) (old new : Flagged)
@@ -215,5 +228,8 @@ flags-put s s' p k old new recounts are puts = record {
   begun = λ zero. none;
 }
   where
-    none : (word folder : ℕ) (unique : List ℕ) → spell_by new word folder unique ≡ None
-    none word folder unique = puts.spells word folder unique ∙ are.begun refl word folder unique
+    none : (word folder : ℕ) (unique : List ℕ) → IsSame None (spell_by new word folder unique)
+    none word folder unique =
+        let was = are.begun refl word folder unique in
+        let same = puts.spells word folder unique in
+        record { since = same.since ∙ was.since; ended = same.ended ∙ was.ended }

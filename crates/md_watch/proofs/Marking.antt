@@ -1,9 +1,8 @@
 -- What is kept of flags is changed by a path that comes or goes.
 use Rattle.std.proofs.Common.{ℕ, ◌≡◌, ◌+◌, ◌-◌, ◌==◌, ◌&&◌, cond, not, nat_eq, nat_lt, List, [], ◌∷◌, ◌++◌, Option, Some, None, Bool, true, false, refl, sym, ap, ◌∙◌, arith}
-use Rattle.std.specs.Prelude.{unwrap_or}
 use Rattle.std.specs.Option.{option_map}
 use Rattle.std.specs.Str.{bytes_eq}
-use Rattle.std.proofs.lemmas.Bool.Decides.{Decides-eqb, Decides-like, Decides-ltb}
+use Rattle.std.proofs.lemmas.Bool.Decides.{Decides-eqb}
 use Rattle.std.proofs.lemmas.Option.{some_pair_parts}
 use Rattle.indexmap.specs.IndexMap.{Updates}
 use Rattle.md_dirs.specs.declared.paths.Path.{Path}
@@ -14,14 +13,15 @@ use Rattle.md_name.specs.Names.{unique_of, info_of, flags_of, is_message_name}
 use Rattle.md_name.specs.Words.{word_of}
 use Rattle.md_law.specs.Messages.{is_tmp}
 use Rattle.md_monitor.specs.Files.{is_some_and, is_cur}
+use Rattle.md_watch.specs.declared.flagged.Showing.{Showing}
 use Rattle.md_watch.specs.declared.flagged.Shown.{Shown}
 use Rattle.md_watch.specs.declared.flagged.Flagged.{Flagged}
 use Rattle.md_watch.specs.declared.spells.Spell.{Spell}
 use Rattle.md_kept.specs.declared.table.Table.{Table}
-use Rattle.md_watch.specs.Flagged.{shows, times, mark_of, count_of, spell_of, set_at, count_by, spell_by, more_at, less_at, Changes, Lends, Comes, Goes, Puts as PutsPath}
-use Rattle.md_watch.specs.Spells.{since_of, ended_of, spell_at, Passes, Notes}
-use Rattle.md_kept.specs.Tables.{count_at, value_at, is_key, Puts}
-use Rattle.md_kept.proofs.Keys.{key-is, key-same, same-tests}
+use Rattle.md_watch.specs.Flagged.{shows, times, mark_of, names_of, spell_in_it, showing_of, count_of, spell_of, set_at, count_by, spell_by, IsOf, more_at, less_at, Adds, Changes, Lends, Comes, Goes, Puts as PutsPath}
+use Rattle.md_watch.specs.Spells.{since_of, ended_of, Passes, IsSame}
+use Rattle.md_kept.specs.Tables.{value_at, is_key, Puts}
+use Rattle.md_kept.proofs.Keys.{key-is}
 use Rattle.md_watch.proofs.Spelling.{passes-none}
 
 -- ---- spells
@@ -34,58 +34,81 @@ passes-alike n a a' b b' o o' r r' was is old new passes = record {
       ∙ (λ i. cond ((sym was) i && not ((sym is) i)) (ended_of ((sym old) i) ++ (since_of ((sym old) i), n) ∷ []) (ended_of ((sym old) i)));
 }
 
+-- spells that say the same go on alike
+pub passes-same : (n : ℕ) (a b : Bool) (o o' r : Option Spell) → IsSame o o' → Passes a b n o' r → Passes a b n o r
+passes-same n a b o o' r same passes = record {
+  since = passes.since ∙ (λ i. cond (not a && b) (n + 1) (same.since i));
+  ended = passes.ended ∙ (λ i. cond (a && not b) (same.ended i ++ (same.since i, n) ∷ []) (same.ended i));
+}
+
 -- ---- one count of one set of flags is changed
 
--- one more is more than 1, where there was one
-pub more-than-one : (count old : ℕ) → count ≡ old + 1 → nat_lt 1 count ≡ nat_lt 0 old
-more-than-one count old is = same-tests _ _
-    (Decides-like _ (λ up. omega (arith, up, is)) (λ up. omega (arith, up, is)) (Decides-ltb 1 count)) (Decides-ltb 0 old)
+-- what is kept of one key is taken out and put back
+module _ (folder : ℕ) (unique : List ℕ) (old new : Shown) (mid : Table Showing) (before after : Showing)
+    (is : IsOf (showing_of (Some old) folder unique) before)
+    (taken : Puts folder unique None old.all mid) (put : Puts folder unique (Some after) mid new.all) where
+  abbrev was : ℕ → List ℕ → Option Showing
+  was m q = showing_of (Some old) m q
 
-pub one-more : (old : ℕ) → nat_lt 0 (old + 1) ≡ true
-one-more old = (Decides-ltb 0 (old + 1)).1 (omega arith)
+  now-at : (m : ℕ) (q : List ℕ) (b : Bool) → is_key (folder, unique) (m, q) ≡ b → showing_of (Some new) m q ≡ cond b (Some after) (was m q)
+  now-at m q b key = by b (taken m q ∙ ap (λ c. cond c None (was m q)) key) (put m q ∙ ap (λ c. cond c (Some after) (value_at mid m q)) key)
+    where
+      by : (b : Bool) → value_at mid m q ≡ cond b None (was m q) → value_at new.all m q ≡ cond b (Some after) (value_at mid m q)
+          → value_at new.all m q ≡ cond b (Some after) (was m q)
+      by true out in-again = in-again
+      by false out in-again = in-again ∙ out
 
-pub one-less : (o : Option ℕ) → unwrap_or (option_map (λ n. n - 1) o) 0 ≡ unwrap_or o 0 - 1
-one-less None = refl
-one-less (Some n) = refl
+  here : (m : ℕ) (q : List ℕ) → is_key (folder, unique) (m, q) ≡ true → was folder unique ≡ was m q
+  here m q key = let parts = (key-is (folder, unique) (m, q)).0 key in (λ i. was (parts.0 i) (parts.1 i))
 
-module _ (folder : ℕ) (unique : List ℕ) (value : Option ℕ) (old new : Shown) (puts : Puts folder unique value old.names new.names) where
-  pub own-count : count_at new.names folder unique ≡ unwrap_or value 0
-  own-count = ap (λ o. unwrap_or o 0) (puts folder unique
-      ∙ ap (λ b. cond b value (value_at old.names folder unique)) ((key-same (folder, unique) (folder, unique)).1 refl))
+  counted : (g : ℕ → ℕ) → after.names ≡ g before.names → (m : ℕ) (q : List ℕ)
+      → count_of (Some new) m q ≡ cond (is_key (folder, unique) (m, q)) (g (count_of (Some old) m q)) (count_of (Some old) m q)
+  counted g goes m q = by (is_key (folder, unique) (m, q)) refl
+    where
+      by : (b : Bool) → is_key (folder, unique) (m, q) ≡ b
+          → count_of (Some new) m q ≡ cond (is_key (folder, unique) (m, q)) (g (count_of (Some old) m q)) (count_of (Some old) m q)
+      by true key = ap names_of (now-at m q true key) ∙ goes ∙ ap g (sym is.names ∙ ap names_of (here m q key))
+          ∙ sym (ap (λ c. cond c (g (count_of (Some old) m q)) (count_of (Some old) m q)) key)
+      by false key = ap names_of (now-at m q false key) ∙ sym (ap (λ c. cond c (g (count_of (Some old) m q)) (count_of (Some old) m q)) key)
 
   -- the count of the key goes so, and its spell with it
-  pub changed-at : (n : ℕ) (g : ℕ → ℕ) → unwrap_or value 0 ≡ g (count_at old.names folder unique)
-      → Notes folder unique (nat_lt 0 (count_at old.names folder unique)) (nat_lt 0 (count_at new.names folder unique)) n old.spells new.spells
+  pub changed-at : (n : ℕ) (g : ℕ → ℕ) → after.names ≡ g before.names
+      → Passes (nat_lt 0 before.names) (nat_lt 0 after.names) n (Some before.spell) (Some after.spell)
       → Changes (λ m q count. cond (is_key (folder, unique) (m, q)) (g count) count) n (Some old) (Some new)
-  changed-at n g is notes = record {
-    counts = λ m q. counted m q (is_key (folder, unique) (m, q)) refl;
-    spells = λ m q. passed m q (is_key (folder, unique) (m, q)) refl;
+  changed-at n g goes passes = record {
+    counts = counted g goes;
+    spells = λ m q. by m q (is_key (folder, unique) (m, q)) refl;
   }
     where
-      put : (m : ℕ) (q : List ℕ) (b : Bool) → is_key (folder, unique) (m, q) ≡ b
-          → count_at new.names m q ≡ unwrap_or (cond b value (value_at old.names m q)) 0
-      put m q b here = ap (λ o. unwrap_or o 0) (puts m q ∙ ap (λ c. cond c value (value_at old.names m q)) here)
+      by : (m : ℕ) (q : List ℕ) (b : Bool) → is_key (folder, unique) (m, q) ≡ b → Passes (nat_lt 0 (count_of (Some old) m q))
+          (nat_lt 0 (count_of (Some new) m q)) n (spell_of (Some old) m q) (spell_of (Some new) m q)
+      by m q true key =
+          passes-alike n _ _ _ _ _ _ _ _ (ap (nat_lt 0) (ap names_of (sym (here m q key)) ∙ is.names))
+          (ap (λ o. nat_lt 0 (names_of o)) (now-at m q true key)) (ap spell_in_it (sym (here m q key))) (ap spell_in_it (now-at m q true key))
+          (passes-same n (nat_lt 0 before.names) (nat_lt 0 after.names) (spell_in_it (was folder unique)) (Some before.spell) (Some after.spell)
+          (record { since = sym is.since; ended = sym is.ended }) passes)
+      by m q false key =
+          let there = nat_lt 0 (count_of (Some old) m q) in
+          passes-alike n there there there _ _ _ _ _ refl (ap (λ o. nat_lt 0 (names_of o)) (now-at m q false key)) refl
+          (ap spell_in_it (now-at m q false key)) (passes-none there n (spell_of (Some old) m q))
 
-      counted : (m : ℕ) (q : List ℕ) (b : Bool) → is_key (folder, unique) (m, q) ≡ b → count_at new.names m q
-          ≡ cond (is_key (folder, unique) (m, q)) (g (count_at old.names m q)) (count_at old.names m q)
-      counted m q true here =
-          let parts = (key-is (folder, unique) (m, q)).0 here in
-          put m q true here ∙ is ∙ (λ i. g (count_at old.names (parts.0 i) (parts.1 i)))
-          ∙ sym (ap (λ c. cond c (g (count_at old.names m q)) (count_at old.names m q)) here)
-      counted m q false other =
-          put m q false other ∙ sym (ap (λ c. cond c (g (count_at old.names m q)) (count_at old.names m q)) other)
-
-      passed : (m : ℕ) (q : List ℕ) (b : Bool) → is_key (folder, unique) (m, q) ≡ b → Passes (nat_lt 0 (count_at old.names m q))
-          (nat_lt 0 (count_at new.names m q)) n (spell_at old.spells m q) (spell_at new.spells m q)
-      passed m q true here =
-          let parts = (key-is (folder, unique) (m, q)).0 here in
-          passes-alike n _ _ _ _ _ _ _ _ (sym (λ i. nat_lt 0 (count_at old.names (parts.0 i) (parts.1 i))))
-          (sym (λ i. nat_lt 0 (count_at new.names (parts.0 i) (parts.1 i)))) (sym (λ i. spell_at old.spells (parts.0 i) (parts.1 i)))
-          (sym (λ i. spell_at new.spells (parts.0 i) (parts.1 i))) notes.here
-      passed m q false other =
-          let was = nat_lt 0 (count_at old.names m q) in
-          passes-alike n was was was _ _ _ _ _ refl (ap (nat_lt 0) (put m q false other)) refl (notes.others m q other)
-          (passes-none was n (spell_at old.spells m q))
+  -- at the beginning one more is counted
+  pub added-at : after.names ≡ before.names + 1 → after.spell ≡ before.spell → Adds folder unique (Some old) (Some new)
+  added-at more same = record {
+    counts = counted (λ k. k + 1) more;
+    spells = λ m q. by m q (is_key (folder, unique) (m, q)) refl;
+  }
+    where
+      by : (m : ℕ) (q : List ℕ) (b : Bool) → is_key (folder, unique) (m, q) ≡ b → IsSame (spell_of (Some old) m q) (spell_of (Some new) m q)
+      by m q true key =
+          let at = ap spell_in_it (now-at m q true key) ∙ ap Some same in
+          let there = ap spell_in_it (here m q key) in
+          record {
+            since = ap since_of at ∙ sym is.since ∙ ap since_of there;
+            ended = ap ended_of at ∙ sym is.ended ∙ ap ended_of there;
+          }
+      by m q false key =
+          let at = ap spell_in_it (now-at m q false key) in record { since = ap since_of at; ended = ap ended_of at }
 
 -- ---- what a path shows
 
@@ -123,8 +146,8 @@ shows-mark p u w is word m q = by p.place (is_message_name p.name) (flags_of (in
 module _ (w n : ℕ) (old mid new : Flagged) (lent put : Shown)
     (lends : Lends w lent old mid) (updates : Updates nat_eq mid.sets new.sets w (Some put)) where
   -- it is there after, and the others are as they were
-  abbrev here : (word : ℕ) → nat_eq w word ≡ true → set_at new word ≡ Some put
-  here word same = updates.0 word ∙ ap (λ b. cond b (Some put) (set_at mid word)) same
+  abbrev here-at : (word : ℕ) → nat_eq w word ≡ true → set_at new word ≡ Some put
+  here-at word same = updates.0 word ∙ ap (λ b. cond b (Some put) (set_at mid word)) same
 
   abbrev beside : (word : ℕ) → nat_eq w word ≡ false → set_at new word ≡ set_at old word
   beside word other = updates.0 word ∙ ap (λ b. cond b (Some put) (set_at mid word)) other ∙ lends.others word other
@@ -137,12 +160,12 @@ module _ (w n : ℕ) (old mid new : Flagged) (lent put : Shown)
     where
       by : (b : Bool) → nat_eq w word ≡ b → Changes (f word) n (set_at old word) (set_at new word)
       by true same =
-          let at = here word same in
+          let at = here-at word same in
           let is : w ≡ word = (Decides-eqb w word).0 same in
-          let counts : (m : ℕ) (q : List ℕ) → count_by old word m q ≡ count_of (Some lent) m q =
-          λ m q. ap (λ v. count_by old v m q) (sym is) ∙ sym (lends.counts m q) in
-          let spells : (m : ℕ) (q : List ℕ) → spell_by old word m q ≡ spell_of (Some lent) m q =
-          λ m q. ap (λ v. spell_by old v m q) (sym is) ∙ sym (lends.spells m q) in
+          let showing : (m : ℕ) (q : List ℕ) → showing_of (set_at old word) m q ≡ showing_of (Some lent) m q =
+          λ m q. ap (λ v. showing_of (set_at old v) m q) (sym is) ∙ sym (lends.showing m q) in
+          let counts : (m : ℕ) (q : List ℕ) → count_by old word m q ≡ count_of (Some lent) m q = λ m q. ap names_of (showing m q) in
+          let spells : (m : ℕ) (q : List ℕ) → spell_by old word m q ≡ spell_of (Some lent) m q = λ m q. ap spell_in_it (showing m q) in
           record {
             counts = λ m q. ap (λ o. count_of o m q) at ∙ changes.counts m q ∙ ap (g m q) (sym (counts m q))
                 ∙ sym (same-there word m q (count_by old word m q) same);
@@ -190,40 +213,37 @@ module _ (p : Path) (k : ℕ) (u : List ℕ) (w : ℕ) (mark : mark_of p ≡ Som
 
 -- ---- at the beginning
 
--- one more is counted at a key
-raised : (number : ℕ) (u : List ℕ) (old new : Table ℕ) → Puts number u (Some (count_at old number u + 1)) old new → (m : ℕ) (q : List ℕ)
-    → count_at new m q ≡ cond (is_key (number, u) (m, q)) (count_at old m q + 1) (count_at old m q)
-raised number u old new puts m q = ap (λ o. unwrap_or o 0) (puts m q) ∙ by (is_key (number, u) (m, q)) refl
-  where
-    by : (b : Bool) → is_key (number, u) (m, q) ≡ b
-        → unwrap_or (cond b (Some (count_at old number u + 1)) (value_at old m q)) 0 ≡ cond b (count_at old m q + 1) (count_at old m q)
-    by true is = let both = (key-is (number, u) (m, q)).0 is in (λ i. count_at old (both.0 i) (both.1 i) + 1)
-    by false is = refl
-
 module _ (p : Path) (u : List ℕ) (w : ℕ) (mark : mark_of p ≡ Some (u, w)) (old mid new : Flagged) (lent put : Shown)
     (lends : Lends w lent old mid) (updates : Updates nat_eq mid.sets new.sets w (Some put)) where
-  pub was-put : Puts p.folder u (Some (count_at lent.names p.folder u + 1)) lent.names put.names → put.spells ≡ lent.spells
-      → PutsPath p old new
-  was-put puts same = record {
+  pub was-put : Adds p.folder u (Some lent) (Some put) → PutsPath p old new
+  was-put adds = record {
     counts = λ word m q. counts word m q (nat_eq w word) refl;
     spells = λ word m q. spells word m q (nat_eq w word) refl;
   }
     where
+      lent-is : (word m : ℕ) (q : List ℕ) → nat_eq w word ≡ true → showing_of (Some lent) m q ≡ showing_of (set_at old word) m q
+      lent-is word m q is = lends.showing m q ∙ ap (λ v. showing_of (set_at old v) m q) ((Decides-eqb w word).0 is)
+
       counts : (word m : ℕ) (q : List ℕ) (b : Bool) → nat_eq w word ≡ b
           → count_by new word m q ≡ count_by old word m q + cond (shows word m q p) 1 0
       counts word m q true is =
-          ap (λ o. count_of o m q) (here w 0 old mid new lent put lends updates word is)
-          ∙ raised p.folder u lent.names put.names puts m q
-          ∙ ap (λ (k : ℕ). cond (is_key (p.folder, u) (m, q)) (k + 1) k)
-          (lends.counts m q ∙ ap (λ v. count_by old v m q) ((Decides-eqb w word).0 is))
+          ap (λ o. count_of o m q) (here-at w 0 old mid new lent put lends updates word is) ∙ adds.counts m q
+          ∙ ap (λ (k : ℕ). cond (is_key (p.folder, u) (m, q)) (k + 1) k) (ap names_of (lent-is word m q is))
           ∙ sym (ap (λ k. count_by old word m q + k) (at-word p 0 u w mark word m q is)
           ∙ more (is_key (p.folder, u) (m, q)) (count_by old word m q))
       counts word m q false is =
           ap (λ o. count_of o m q) (beside w 0 old mid new lent put lends updates word is)
           ∙ sym (ap (λ k. count_by old word m q + k) (at-none p 0 u w mark word m q is) ∙ more false (count_by old word m q))
 
-      spells : (word m : ℕ) (q : List ℕ) (b : Bool) → nat_eq w word ≡ b → spell_by new word m q ≡ spell_by old word m q
+      spells : (word m : ℕ) (q : List ℕ) (b : Bool) → nat_eq w word ≡ b → IsSame (spell_by old word m q) (spell_by new word m q)
       spells word m q true is =
-          ap (λ o. spell_of o m q) (here w 0 old mid new lent put lends updates word is)
-          ∙ ap (λ k. spell_at k m q) same ∙ lends.spells m q ∙ ap (λ v. spell_by old v m q) ((Decides-eqb w word).0 is)
-      spells word m q false is = ap (λ o. spell_of o m q) (beside w 0 old mid new lent put lends updates word is)
+          let at = ap (λ o. spell_of o m q) (here-at w 0 old mid new lent put lends updates word is) in
+          let was = ap spell_in_it (lent-is word m q is) in
+          let same = adds.spells m q in
+          record {
+            since = ap since_of at ∙ same.since ∙ ap since_of was;
+            ended = ap ended_of at ∙ same.ended ∙ ap ended_of was;
+          }
+      spells word m q false is =
+          let at = ap (λ o. spell_of o m q) (beside w 0 old mid new lent put lends updates word is) in
+          record { since = ap since_of at; ended = ap ended_of at }

@@ -13,12 +13,13 @@ use Rattle.md_law.specs.Answers.{Claim}
 use Rattle.md_monitor.specs.Files.{is_some_and, is_cur, count_where}
 use Rattle.md_monitor.specs.Messages.{is_of}
 use Rattle.md_monitor.specs.Answers.{is_flagged, is_same_set}
+use Rattle.md_watch.specs.declared.flagged.Showing.{Showing}
 use Rattle.md_watch.specs.declared.flagged.Shown.{Shown}
 use Rattle.md_watch.specs.declared.flagged.Flagged.{Flagged}
 use Rattle.md_watch.specs.declared.spells.Spell.{Spell}
 use Rattle.md_kept.specs.Changes.{Turn}
-use Rattle.md_watch.specs.Spells.{spell_at, Passes, IsTimely}
-use Rattle.md_kept.specs.Tables.{count_at, is_key}
+use Rattle.md_watch.specs.Spells.{since_of, ended_of, Passes, IsSame, IsTimely}
+use Rattle.md_kept.specs.Tables.{value_at, is_key}
 
 -- ---- what paths show
 
@@ -42,14 +43,30 @@ lent_mark e = (e.0.now, e.1)
 
 -- ---- what is kept
 
+-- of one message and one set of flags
+abbrev pub names_of : Option Showing → ℕ
+names_of None = 0
+names_of (Some k) = k.names
+
+abbrev pub spell_in_it : Option Showing → Option Spell
+spell_in_it o = option_map (λ k. k.spell) o
+
+-- What is kept is what a record says, which tells of nothing where nothing is kept.
+pub record IsOf (o : Option Showing) (k : Showing) : Type 0 where
+  pub names : names_of o ≡ k.names
+  pub since : since_of (spell_in_it o) ≡ since_of (Some k.spell)
+  pub ended : ended_of (spell_in_it o) ≡ ended_of (Some k.spell)
+
 -- of one set of flags
+abbrev pub showing_of : Option Shown → ℕ → List ℕ → Option Showing
+showing_of None folder unique = None
+showing_of (Some k) folder unique = value_at k.all folder unique
+
 abbrev pub count_of : Option Shown → ℕ → List ℕ → ℕ
-count_of None folder unique = 0
-count_of (Some k) folder unique = count_at k.names folder unique
+count_of o folder unique = names_of (showing_of o folder unique)
 
 abbrev pub spell_of : Option Shown → ℕ → List ℕ → Option Spell
-spell_of None folder unique = None
-spell_of (Some k) folder unique = spell_at k.spells folder unique
+spell_of o folder unique = spell_in_it (showing_of o folder unique)
 
 -- of the set of a word
 abbrev pub set_at : Flagged → ℕ → Option Shown
@@ -86,10 +103,14 @@ pub record Changes (f : ℕ → List ℕ → ℕ → ℕ) (n : ℕ) (old new : O
   pub spells : (m : ℕ) (q : List ℕ)
       → Passes (nat_lt 0 (count_of old m q)) (nat_lt 0 (count_of new m q)) n (spell_of old m q) (spell_of new m q)
 
+-- At the beginning one more name of the key shows one set of flags; no spell changes.
+pub record Adds (folder : ℕ) (unique : List ℕ) (old new : Option Shown) : Type 0 where
+  pub counts : (m : ℕ) (q : List ℕ) → count_of new m q ≡ more_at folder unique m q (count_of old m q)
+  pub spells : (m : ℕ) (q : List ℕ) → IsSame (spell_of old m q) (spell_of new m q)
+
 -- What is kept of the set of a word is lent, where nothing is kept as nothing, and of the others all is kept.
 pub record Lends (word : ℕ) (lent : Shown) (old new : Flagged) : Type 0 where
-  pub counts : (m : ℕ) (q : List ℕ) → count_of (Some lent) m q ≡ count_by old word m q
-  pub spells : (m : ℕ) (q : List ℕ) → spell_of (Some lent) m q ≡ spell_by old word m q
+  pub showing : (m : ℕ) (q : List ℕ) → showing_of (Some lent) m q ≡ showing_of (set_at old word) m q
   pub others : (v : ℕ) → nat_eq word v ≡ false → set_at new v ≡ set_at old v
 
 -- A path came to name a file, or one went, in a step of a number.
@@ -110,7 +131,7 @@ pub record Follows (t : Turn) (n : ℕ) (old new : Flagged) : Type 0 where
 -- At the beginning a path names a file.
 pub record Puts (p : Path) (old new : Flagged) : Type 0 where
   pub counts : (word m : ℕ) (q : List ℕ) → count_by new word m q ≡ count_by old word m q + (if shows word m q p then 1 else 0)
-  pub spells : (word m : ℕ) (q : List ℕ) → spell_by new word m q ≡ spell_by old word m q
+  pub spells : (word m : ℕ) (q : List ℕ) → IsSame (spell_by old word m q) (spell_by new word m q)
 
 -- ---- what is kept is so
 
@@ -124,7 +145,7 @@ pub record AreFlagged (n : ℕ) (s : State) (w : Flagged) : Type 0 where
   pub counts : (c : Claim) (flags : Set) → IsOfLetters flags → count_in w c.folder c.unique flags ≡ flagged_times s c flags
   pub timely : (c : Claim) (flags : Set) → IsOfLetters flags → IsTimely n (is_flagged s c flags) (spell_in w c.folder c.unique flags)
   -- at the beginning nothing was there before
-  pub begun : n ≡ 0 → (word folder : ℕ) (unique : List ℕ) → spell_by w word folder unique ≡ None
+  pub begun : n ≡ 0 → (word folder : ℕ) (unique : List ℕ) → IsSame None (spell_by w word folder unique)
 
 -- The step of a number leads from these directories to those, and what is kept of flags goes with them.
 abbrev pub PassesFlags : State → State → ℕ → Flagged → Flagged → Type 0

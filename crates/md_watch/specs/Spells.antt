@@ -38,6 +38,11 @@ pub record Passes (was is : Bool) (n : ℕ) (old new : Option Spell) : Type 0 wh
   pub since : since_of new ≡ (if not was && is then n + 1 else since_of old)
   pub ended : ended_of new ≡ (if was && not is then ended_of old ++ (since_of old, n) ∷ [] else ended_of old)
 
+-- what is kept of a thing says the same as before, where nothing says as much as that nothing was noted
+pub record IsSame (old new : Option Spell) : Type 0 where
+  pub since : since_of new ≡ since_of old
+  pub ended : ended_of new ≡ ended_of old
+
 -- What is kept is of moments up to this one, at which it is there or not: each time ended before the next began, with a moment between.
 pub record IsTimely (n : ℕ) (is : Bool) (o : Option Spell) : Type 0 where
   pub begun : is ≡ true → since_of o ≤ n

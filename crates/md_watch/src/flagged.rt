@@ -1,68 +1,153 @@
 //! When messages showed flags in cur.
-ghost use Rattle.std.specs.Prelude.{◌≡◌, ℕ, List, Some, None, nat_eq, nat_lt, OnOk};
+ghost use Rattle.std.specs.Prelude.{◌≡◌, ◌+◌, ◌-◌, ℕ, List, [], Some, None, nat_lt, OnOk};
 ghost use Rattle.std.specs.Option.{option_map};
 ghost use Rattle.md_kept.specs.Changes.{turn_of};
 ghost use Rattle.md_kept.specs.Files.{lent_as};
-ghost use Rattle.md_watch.specs.Flagged.{Changes, Comes, Follows, Goes, Lends, Puts, count_by, count_in, count_of, is_in, less_at, lent_mark, mark_of, more_at, spell_by, spell_in, spell_of};
-ghost use Rattle.md_watch.specs.Spells.{ever_by, spell_at};
-ghost use Rattle.md_kept.specs.Tables.{count_at};
+ghost use Rattle.md_watch.specs.Flagged.{Adds, Changes, Comes, Follows, Goes, IsOf, Lends, Puts, count_by, count_in, count_of, is_in, less_at, lent_mark, mark_of, more_at, showing_of, spell_by, spell_in, spell_of};
+ghost use Rattle.md_watch.specs.Spells.{Passes, ended_of, ever_by, since_of};
+ghost use Rattle.md_kept.specs.Tables.{Puts as PutsAt};
 
-use crate::spells::Spells;
+use crate::spells::Spell;
 use indexmap::IndexMap;
 use md_dirs::Path;
 use md_kept::{Change, Named, Table, is_cur};
 use md_name::{Flags, split};
 use std::alloc::{AllocError, Global};
 
-/// Of the messages that show one set of flags by how many names in cur they do, and when they did, by their folders and unique names.
+/// By how many names in cur a message shows a set of flags, and when it did.
+#[derive(Drop)]
+struct Showing {
+    names: usize,
+    spell: Spell,
+}
+
+impl Showing {
+    fn new(alloc: Global) -> Self
+        ensures names { result.names ≡ 0 }
+        ensures since { since_of (Some result.spell) ≡ 0 }
+        ensures ended { ended_of (Some result.spell) ≡ [] }
+    {
+        Showing {
+            names: 0,
+            spell: Spell::new(alloc),
+        }
+    }
+
+    fn is(&self) -> bool
+        ensures { result ≡ nat_lt 0 self.now.names }
+    {
+        self.names > 0
+    }
+
+    /// One more name shows them.
+    fn add(&mut self) -> Result<(), AllocError>
+        ensures names { OnOk result (self.new.names ≡ self.old.names + 1) }
+        ensures same { self.new.spell ≡ self.old.spell }
+    {
+        let Some(names) = self.names.checked_add(1) else {
+            return Err(AllocError);
+        };
+        self.names = names;
+        Ok(())
+    }
+
+    /// One more does, in the step of a number.
+    fn come(&mut self, now: usize) -> Result<(), AllocError>
+        ensures names { OnOk result (self.new.names ≡ self.old.names + 1) }
+        ensures spell { OnOk result
+            (Passes (nat_lt 0 self.old.names) (nat_lt 0 self.new.names) now (Some self.old.spell) (Some self.new.spell)) }
+    {
+        let was = self.is();
+        self.add()?;
+        self.spell.pass(was, true, now)
+    }
+
+    /// One name less does.
+    fn go(&mut self, now: usize) -> Result<(), AllocError>
+        ensures names { OnOk result (self.new.names ≡ self.old.names - 1) }
+        ensures spell { OnOk result
+            (Passes (nat_lt 0 self.old.names) (nat_lt 0 self.new.names) now (Some self.old.spell) (Some self.new.spell)) }
+    {
+        let was = self.is();
+        self.names = self.names.saturating_sub(1);
+        let is = self.is();
+        self.spell.pass(was, is, now)
+    }
+}
+
+/// What is kept of the messages that show one set of flags, by their folders and unique names.
 #[derive(Drop)]
 struct Shown {
-    names: Table<usize>,
-    spells: Spells,
+    alloc: Global,
+    all: Table<Showing>,
 }
 
 impl Shown {
     fn new(alloc: Global) -> Self
-        ensures counts { (folder : ℕ) (unique : List ℕ) → count_of (Some result) folder unique ≡ 0 }
-        ensures spells { (folder : ℕ) (unique : List ℕ) → spell_of (Some result) folder unique ≡ None }
+        ensures { (folder : ℕ) (unique : List ℕ) → showing_of (Some result) folder unique ≡ None }
     {
         Shown {
-            names: Table::new(alloc),
-            spells: Spells::new(alloc),
+            alloc,
+            all: Table::new(alloc),
         }
     }
 
     fn is(&self, folder: usize, unique: &[u8]) -> bool
-        ensures { result ≡ nat_lt 0 (count_at self.now.names folder unique.now) }
+        ensures { result ≡ nat_lt 0 (count_of (Some self.now) folder unique.now) }
     {
-        self.names.count(folder, unique) > 0
+        match self.all.get(folder, unique) {
+            None => false,
+            Some(showing) => showing.is(),
+        }
     }
 
     /// Whether the message showed the flags at a moment from one to now.
     fn was(&self, folder: usize, unique: &[u8], first: usize) -> bool
         ensures { result
-            ≡ ever_by (nat_lt 0 (count_at self.now.names folder unique.now)) (spell_at self.now.spells folder unique.now) first }
+            ≡ ever_by (nat_lt 0 (count_of (Some self.now) folder unique.now)) (spell_of (Some self.now) folder unique.now) first }
     {
-        let is = self.is(folder, unique);
-        self.spells.was_ever(folder, unique, is, first)
+        match self.all.get(folder, unique) {
+            None => false,
+            Some(showing) => showing.spell.was_ever(showing.is(), first),
+        }
+    }
+
+    /// At the beginning one more name shows them.
+    fn put(&mut self, folder: usize, unique: &[u8]) -> Result<(), AllocError>
+        ensures { OnOk result (Adds folder unique.now (Some self.old) (Some self.new)) }
+    {
+        let mut showing = self.take(folder, unique);
+        showing.add()?;
+        self.all.put(folder, unique, showing)
     }
 
     /// One more name shows them.
     fn come(&mut self, folder: usize, unique: &[u8], now: usize) -> Result<(), AllocError>
         ensures { OnOk result (Changes (more_at folder unique.now) now (Some self.old) (Some self.new)) }
     {
-        let count = self.names.raise(folder, unique)?;
-        self.spells.note(folder, unique, count > 1, true, now)
+        let mut showing = self.take(folder, unique);
+        showing.come(now)?;
+        self.all.put(folder, unique, showing)
     }
 
     /// One name less does.
     fn go(&mut self, folder: usize, unique: &[u8], now: usize) -> Result<(), AllocError>
         ensures { OnOk result (Changes (less_at folder unique.now) now (Some self.old) (Some self.new)) }
     {
-        let was = self.is(folder, unique);
-        self.names.lower(folder, unique);
-        let is = self.is(folder, unique);
-        self.spells.note(folder, unique, was, is, now)
+        let mut showing = self.take(folder, unique);
+        showing.go(now)?;
+        self.all.put(folder, unique, showing)
+    }
+
+    /// Takes out what is kept of a message, to be changed and put back.
+    fn take(&mut self, folder: usize, unique: &[u8]) -> Showing
+        ensures is { IsOf (showing_of (Some self.old) folder unique.now) result }
+        ensures puts { PutsAt folder unique.now None self.old.all self.new.all }
+    {
+        match self.all.take(folder, unique) {
+            None => Showing::new(self.alloc),
+            Some(showing) => showing,
+        }
     }
 }
 
@@ -113,7 +198,7 @@ impl Flagged {
             return Ok(());
         };
         let mut shown = self.lend(word);
-        shown.names.raise(path.folder as usize, unique)?;
+        shown.put(path.folder as usize, unique)?;
         self.sets.insert(word, shown)?;
         Ok(())
     }

@@ -62,8 +62,7 @@ impl Listings {
     pub(crate) fn break_off(&mut self, actor: &[u8]) -> Result<(), AllocError>
         ensures { OnOk result (Breaks actor.now self.old self.new) }
     {
-        self.breaks.raise(0, actor)?;
-        Ok(())
+        self.breaks.raise(0, actor)
     }
 
     /// An actor completed a reading of a directory at the step of a number. One of tmp is no part of a listing.

@@ -1,17 +1,55 @@
 //! When things were there.
-ghost use Rattle.std.specs.Prelude.{◌≡◌, ℕ, List, None, OnOk, nat_le};
+ghost use Rattle.std.specs.Prelude.{◌≡◌, ℕ, List, [], None, Some, OnOk, nat_le};
 ghost use Rattle.std.specs.List.{list_any};
 ghost use Rattle.md_watch.specs.LookUps.{last_of};
-ghost use Rattle.md_watch.specs.Spells.{Notes, always_by, ended_of, ever_by, since_of, spell_at, was_through};
+ghost use Rattle.md_watch.specs.Spells.{Notes, Passes, always_by, ended_of, ever_by, since_of, spell_at, was_through};
 
 use md_kept::Table;
+use smallvec::SmallVec;
 use std::alloc::{AllocError, Global};
 
 /// Since which moment a thing is there, where it is, and the times at which it was there before, each from its first moment to its last.
+/// Mostly there was one, which takes no memory of its own.
 #[derive(Drop)]
 pub(crate) struct Spell {
     since: usize,
-    ended: Vec<(usize, usize)>,
+    ended: SmallVec<(usize, usize), 1>,
+}
+
+impl Spell {
+    /// Of what was always there, or never.
+    pub(crate) fn new(alloc: Global) -> Self
+        ensures since { since_of (Some result) ≡ 0 }
+        ensures ended { ended_of (Some result) ≡ [] }
+    {
+        Spell {
+            since: 0,
+            ended: SmallVec::new(alloc),
+        }
+    }
+
+    /// A step of a number: whether the thing was there before it, and whether it is there after it.
+    pub(crate) fn pass(&mut self, was: bool, is: bool, now: usize) -> Result<(), AllocError>
+        ensures { OnOk result (Passes was is now (Some self.old) (Some self.new)) }
+    {
+        if is && !was {
+            let Some(next) = now.checked_add(1) else {
+                return Err(AllocError);
+            };
+            self.since = next;
+        }
+        if was && !is {
+            self.ended.push((self.since, now))?;
+        }
+        Ok(())
+    }
+
+    /// Whether a thing that is there now, or not, was there at a moment from one to now.
+    pub(crate) fn was_ever(&self, is: bool, first: usize) -> bool
+        ensures { result ≡ ever_by is (Some self.now) first }
+    {
+        is || was_since(self.ended.as_slice(), first)
+    }
 }
 
 /// When things were there, by a number and a name each. Moments are numbered from 0: the step of a number goes from the moment of that
@@ -47,20 +85,10 @@ impl Spells {
             return Ok(());
         }
         let mut spell = match self.all.take(number, name) {
-            None => Spell {
-                since: 0,
-                ended: Vec::new(self.alloc),
-            },
+            None => Spell::new(self.alloc),
             Some(spell) => spell,
         };
-        if is {
-            let Some(next) = now.checked_add(1) else {
-                return Err(AllocError);
-            };
-            spell.since = next;
-        } else {
-            spell.ended.push((spell.since, now))?;
-        }
+        spell.pass(was, is, now)?;
         self.all.put(number, name, spell)
     }
 
@@ -89,7 +117,7 @@ impl Spells {
     {
         match self.all.get(number, name) {
             None => is,
-            Some(spell) => is || was_since(spell.ended.as_slice(), first),
+            Some(spell) => spell.was_ever(is, first),
         }
     }
 

@@ -1,6 +1,5 @@
-use Rattle.std.proofs.Common.{refl, sym}
+use Rattle.std.proofs.Common.{sym}
 use Rattle.md_watch.specs.declared.flagged.Flagged.{Flagged}
-use Rattle.md_watch.specs.declared.flagged.Shown.{Shown}
 use Rattle.md_watch.proofs.Marking.{was-put}
 use Rattle.md_watch.proofs.flagged.Flagged.put.Goals as goal
 
@@ -8,6 +7,5 @@ pub returns : goal.returns
 returns c =
     let mid = c.lend-shown.new.self in
     let new : Flagged = record { alloc = mid.alloc; sets = c.insert.new.self } in
-    let put : Shown = record { names = c.raise.new.self; spells = c.lend-shown.result.spells } in
     was-put c.args.path.now c.in-Some.unique.now c.in-Some.word (sym c.in-Some.ensures)
-    c.args.self.now mid new c.lend-shown.result put c.lend-shown.ensures c.in_ok-insert.ensures.updates c.in_ok-raise.ensures.puts refl
+    c.args.self.now mid new c.lend-shown.result c.put.new.self c.lend-shown.ensures c.in_ok-insert.ensures.updates c.in_ok-put.ensures

@@ -1,20 +1,14 @@
-use Rattle.std.proofs.Common.{◌-◌, nat_lt, option_map, subst}
+use Rattle.std.proofs.Common.{◌-◌}
 use Rattle.md_watch.specs.declared.flagged.Shown.{Shown}
-use Rattle.md_watch.specs.Spells.{Notes}
-use Rattle.md_kept.specs.Tables.{count_at, value_at}
 use Rattle.md_kept.proofs.Keys.{then}
-use Rattle.md_watch.proofs.Marking.{changed-at, one-less}
+use Rattle.md_watch.proofs.Marking.{changed-at}
 use Rattle.md_watch.proofs.flagged.Shown.go.Goals as goal
 
 pub returns : goal.returns
 returns c =
-    let folder = c.args.folder in
-    let unique = c.args.unique.now in
     let old = c.args.self.now in
-    let new : Shown = record { names = c.lower.new.self; spells = c.note.new.self } in
-    let held = value_at old.names folder unique in
-    then c.note.result
-    (λ notes. changed-at folder unique (option_map (λ n. n - 1) held) old new c.lower.ensures c.args.now (λ k. k - 1) (one-less held)
-    (subst (λ is. Notes folder unique (nat_lt 0 (count_at old.names folder unique)) is c.args.now old.spells new.spells) c.is-is.ensures
-    (subst (λ was. Notes folder unique was c.is-is.result c.args.now old.spells new.spells) c.is-was.ensures notes)))
-    c.note.ensures
+    let new : Shown = record { alloc = c.take-showing.new.self.alloc; all = c.put.new.self } in
+    then c.put.result
+    (λ put. changed-at c.args.folder c.args.unique.now old new c.take-showing.new.self.all c.take-showing.result c.go.new.self c.take-showing.ensures.is c.take-showing.ensures.puts put
+    c.args.now (λ k. k - 1) c.in_ok-go.ensures.names c.in_ok-go.ensures.spell)
+    c.put.ensures
