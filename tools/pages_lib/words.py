@@ -1,4 +1,4 @@
-"""Words of a page: how many there are, those of a cell of a table, and words that the pages have dropped.
+"""Words of a page: how many there are, those of a cell of a table and of a sentence, and words that the pages have dropped.
 
 A word has a letter or a digit, so the bars of a table are none.
 """
@@ -10,12 +10,17 @@ import re
 from typing import Iterator
 
 MOST_IN_A_CELL = 60
+MOST_IN_A_SENTENCE = 30
+# One sentence in so many may have more. Fewer than four words are no sentence.
+ONE_LONG_IN = 20
+LEAST_IN_A_SENTENCE = 4
 
 # The page that lists the words, below this heading: what is in backquotes in the second column was dropped.
 LIST = "CONTRIBUTING.md"
 HEADING = "## Words"
 
 SPAN = re.compile(r"`[^`]*`")
+BETWEEN_SENTENCES = re.compile(r"(?<=[.!?:])\s+(?=[A-Z`\"(\[*])")
 SAID_ELSEWHERE = re.compile(r"`[^`]*`|\"[^\"]*\"")
 
 
@@ -57,6 +62,15 @@ def long_cells(page: str, text: str) -> Iterator[str]:
                 yield f"{page}:{number}: a cell of {count(cell)} words, and {MOST_IN_A_CELL} are allowed: {cell[:40]}"
 
 
+def long_sentences(page: str, text: str) -> Iterator[str]:
+    parts = [part for _, line in prose(text) for part in (cells(line) or [line])]
+    lengths = [count(it) for part in parts for it in BETWEEN_SENTENCES.split(part)]
+    sentences = [it for it in lengths if it >= LEAST_IN_A_SENTENCE]
+    long = sum(it > MOST_IN_A_SENTENCE for it in sentences)
+    if long * ONE_LONG_IN > len(sentences):
+        yield f"{page}: {long} of {len(sentences)} sentences have over {MOST_IN_A_SENTENCE} words, and one in {ONE_LONG_IN} may"
+
+
 def dropped_words(page: str, text: str, dropped: list[str]) -> Iterator[str]:
     """The dropped words of a page, but for those in code and in quotation marks."""
     if not dropped:
@@ -71,4 +85,5 @@ def faults(top: pathlib.Path, page: str, budget: int) -> Iterator[str]:
     text = (top / page).read_text(encoding="utf-8")
     yield from too_many(page, text, budget)
     yield from long_cells(page, text)
+    yield from long_sentences(page, text)
     yield from dropped_words(page, text, dropped_by((top / LIST).read_text(encoding="utf-8")))

@@ -59,12 +59,19 @@ class Pages(unittest.TestCase):
         self.assertEqual(self.faults([("a.md", 6)]), ["a.md: 7 words, 1 more than its budget of 6"])
 
     def test_a_cell_that_is_too_long(self):
-        cell = " ".join(["word"] * 60)
+        cell = " ".join(["A word or two."] * 15)
         self.write("a.md", f"| {cell} | {cell} |\n\n```\n| {cell} word |\n```\n\n{cell} word\n")
         self.assertEqual(self.faults([("a.md", 1000)]), [])
         self.write("a.md", f"\n| short | {cell} word |\n")
         fault, = self.faults([("a.md", 1000)])
         self.assertTrue(fault.startswith("a.md:2: a cell of 61 words"), fault)
+
+    def test_long_sentences(self):
+        short, long = "Four words are enough. ", "Word " * 31
+        self.write("a.md", f"# A heading\n\n{short * 17}\n\n| {short} |\n|---|\n| 1 |\n\n{long}\n\n    {long}\n")
+        self.assertEqual(self.faults([("a.md", 1000)]), ["a.md: 1 of 19 sentences have over 30 words, and one in 20 may"])
+        self.write("a.md", f"{short * 19}{long}")
+        self.assertEqual(self.faults([("a.md", 1000)]), [])
 
     def test_dropped_words(self):
         allowed = "A camid, `amid`, amid-ships, \"amid\", amongst, three, not this\n\n    amid\n\n```\namid\n```\n"
