@@ -81,13 +81,19 @@ pub held-if : {V : Type 0} (b : Bool) (w : Option V) (o : Option (Option V)) →
 held-if true w o = refl
 held-if false w o = refl
 
--- a key that is found at an index has what is written there, and the others have what they had
+-- a key at an index has what is written there, and the others have what they had
+pub written : {V S : Type 0} (m : IndexMap (ℕ × List ℕ) (Option V) S) (i : ℕ) (k : ℕ × List ℕ) (was w : Option V) → IsUnique is_key m
+    → slice_get m.entries i ≡ Some (k, was) → (q : ℕ × List ℕ)
+    → held (get is_key (with_value_at m i w) q) ≡ cond (is_key k q) w (held (get is_key m q))
+written m i k was w unique there q =
+    ap held ((updates-with_value_at m i w key-equivalence unique k was there).0 q) ∙ held-if (is_key k q) w (get is_key m q)
+
+-- and so a key that was found there
 pub written-at : {V S : Type 0} (m : IndexMap (ℕ × List ℕ) (Option V) S) (i : ℕ) (k found : ℕ × List ℕ) (was w : Option V) → IsUnique is_key m
     → Some found ≡ get_key_by (is_key k) m → slice_get m.entries i ≡ Some (found, was) → (q : ℕ × List ℕ)
     → held (get is_key (with_value_at m i w) q) ≡ cond (is_key k q) w (held (get is_key m q))
 written-at m i k found was w unique is there q =
-    ap held ((updates-with_value_at m i w key-equivalence unique found was there).0 q) ∙ held-if (is_key found q) w (get is_key m q)
-    ∙ ap (λ e. cond (is_key e q) w (held (get is_key m q))) (found-key k m.entries found is)
+    written m i found was w unique there q ∙ ap (λ e. cond (is_key e q) w (held (get is_key m q))) (found-key k m.entries found is)
 
 -- ---- what is known of an answer
 

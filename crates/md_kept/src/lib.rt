@@ -18,4 +18,4 @@ pub use drafts::Drafts;
 pub use files::Files;
 pub use messages::Messages;
 pub use paths::{Paths, number_of};
-pub use table::Table;
+pub use table::{Table, Taken};

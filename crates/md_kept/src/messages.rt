@@ -8,7 +8,7 @@ ghost use Rattle.md_kept.specs.Messages.{count_in_folder, count_anywhere, count_
 
 use crate::change::{Change, Named, message_of};
 use crate::few::Few;
-use crate::table::Table;
+use crate::table::{Table, Taken};
 use std::alloc::{AllocError, Global};
 
 /// Of a message in a folder: by how many paths it is there, and which files it ever was there.
@@ -195,9 +195,10 @@ impl Messages {
         let Some(unique) = message_of(path) else {
             return Ok(());
         };
-        let mut message = self.all.take(0, unique).unwrap_or(Message::new());
+        let Taken { at, value } = self.all.take(0, unique);
+        let mut message = value.unwrap_or(Message::new());
         message.come(self.alloc, path.folder as usize, file)?;
-        self.all.put(0, unique, message)
+        self.all.put_back(at, 0, unique, message)
     }
 
     fn go(&mut self, named: Option<Named<'_>>) -> Result<(), AllocError>
@@ -209,10 +210,11 @@ impl Messages {
         let Some(unique) = message_of(path) else {
             return Ok(());
         };
-        let Some(mut message) = self.all.take(0, unique) else {
+        let Taken { at, value } = self.all.take(0, unique);
+        let Some(mut message) = value else {
             return Ok(());
         };
         message.go(self.alloc, path.folder as usize, file)?;
-        self.all.put(0, unique, message)
+        self.all.put_back(at, 0, unique, message)
     }
 }

@@ -1,11 +1,21 @@
 //! A table by a number and a name.
-ghost use Rattle.std.specs.Prelude.{◌≡◌, ◌+◌, ℕ, List, Some, None, OnOk};
+ghost use Rattle.std.specs.Prelude.{◌≡◌, ◌+◌, ℕ, List, Some, None, IsTrue, OnOk};
 ghost use Rattle.std.specs.Option.{option_copied};
-ghost use Rattle.md_kept.specs.Tables.{value_at, count_at, Puts};
+ghost use Rattle.md_kept.specs.Tables.{value_at, count_at, HasAt, Puts};
 
 use indexmap::IndexMap;
 use md_dirs::NameKey;
 use std::alloc::{AllocError, Global};
+
+/// No place of a table.
+const NOWHERE: usize = usize::MAX;
+
+/// What was taken out of a table, and the place of its key.
+#[derive(Drop)]
+pub struct Taken<V> {
+    pub at: usize,
+    pub value: Option<V>,
+}
 
 /// What is kept by a number and a name.
 #[derive(Drop)]
@@ -43,16 +53,53 @@ impl<V: Drop> Table<V> {
         Ok(())
     }
 
-    /// Takes out what is kept.
+    /// Takes out what is kept, and says where.
     #[tactic(auto, unfolding(crate::specs::Tables::value_at))]
-    pub fn take(&mut self, number: usize, name: &[u8]) -> Option<V>
-        ensures taken { result ≡ value_at self.old number name.now }
+    pub fn take(&mut self, number: usize, name: &[u8]) -> Taken<V>
+        ensures taken { result.value ≡ value_at self.old number name.now }
         ensures puts { Puts number name.now None self.old self.new }
     {
         let key = (number, NameKey::lent(name));
-        let (at, _, _) = self.map.get_full(&key)?;
+        let Some((at, _, _)) = self.map.get_full(&key) else {
+            return Taken {
+                at: NOWHERE,
+                value: None,
+            };
+        };
         let (_, kept) = self.map.pair_mut(at);
-        kept.take()
+        Taken {
+            at,
+            value: kept.take(),
+        }
+    }
+
+    /// Puts a value back. Where its key lies at `at`, it takes no look-up and no copy of the name.
+    #[tactic(auto, unfolding(crate::specs::Tables::value_at))]
+    pub fn put_back(
+        &mut self,
+        at: usize,
+        number: usize,
+        name: &[u8],
+        value: V,
+    ) -> Result<(), AllocError>
+        ensures { OnOk result (Puts number name.now (Some value) self.old self.new) }
+    {
+        if !self.has_at(at, number, name) {
+            return self.put(number, name, value);
+        }
+        let (_, kept) = self.map.pair_mut(at);
+        *kept = Some(value);
+        Ok(())
+    }
+
+    /// Whether a key lies at a place.
+    fn has_at(&self, at: usize, number: usize, name: &[u8]) -> bool
+        ensures { IsTrue result → HasAt at number name.now self.now }
+    {
+        match self.map.get_index(at) {
+            None => false,
+            Some((key, _)) => key.0 == number && key.1.as_slice() == name,
+        }
     }
 }
 

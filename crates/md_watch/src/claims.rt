@@ -12,7 +12,7 @@ use actor::Actor;
 use deeds::{Done, nothing};
 pub(crate) use deeds::{Acts, NO_ACTS};
 pub(crate) use finding::Past;
-use md_kept::{Change, Table};
+use md_kept::{Change, Table, Taken};
 use md_log::{Call, Step};
 use std::alloc::{AllocError, Global};
 
@@ -47,12 +47,13 @@ impl Claims {
         ensures { OnOk result (Steps step.now (turn_of change.now) before after now self.old self.new) }
     {
         let name = step.actor.as_slice();
-        let mut actor = match self.actors.take(0, name) {
+        let Taken { at, value } = self.actors.take(0, name);
+        let mut actor = match value {
             None => Actor::new(self.alloc, now),
             Some(actor) => actor,
         };
         actor.step(&step.call, change, before, after, now)?;
-        self.actors.put(0, name, actor)
+        self.actors.put_back(at, 0, name, actor)
     }
 
     /// When the actor of a step, which is an answer, last acted on the message of which it tells.

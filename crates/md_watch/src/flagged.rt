@@ -10,7 +10,7 @@ ghost use Rattle.md_kept.specs.Tables.{Puts as PutsAt};
 use crate::spells::Spell;
 use indexmap::IndexMap;
 use md_dirs::Path;
-use md_kept::{Change, Named, Table, is_cur};
+use md_kept::{Change, Named, Table, Taken, is_cur};
 use md_name::{Flags, split};
 use std::alloc::{AllocError, Global};
 
@@ -116,37 +116,38 @@ impl Shown {
     fn put(&mut self, folder: usize, unique: &[u8]) -> Result<(), AllocError>
         ensures { OnOk result (Adds folder unique.now (Some self.old) (Some self.new)) }
     {
-        let mut showing = self.take(folder, unique);
+        let (at, mut showing) = self.take(folder, unique);
         showing.add()?;
-        self.all.put(folder, unique, showing)
+        self.all.put_back(at, folder, unique, showing)
     }
 
     /// One more name shows them.
     fn come(&mut self, folder: usize, unique: &[u8], now: usize) -> Result<(), AllocError>
         ensures { OnOk result (Changes (more_at folder unique.now) now (Some self.old) (Some self.new)) }
     {
-        let mut showing = self.take(folder, unique);
+        let (at, mut showing) = self.take(folder, unique);
         showing.come(now)?;
-        self.all.put(folder, unique, showing)
+        self.all.put_back(at, folder, unique, showing)
     }
 
     /// One name less does.
     fn go(&mut self, folder: usize, unique: &[u8], now: usize) -> Result<(), AllocError>
         ensures { OnOk result (Changes (less_at folder unique.now) now (Some self.old) (Some self.new)) }
     {
-        let mut showing = self.take(folder, unique);
+        let (at, mut showing) = self.take(folder, unique);
         showing.go(now)?;
-        self.all.put(folder, unique, showing)
+        self.all.put_back(at, folder, unique, showing)
     }
 
-    /// Takes out what is kept of a message, to be changed and put back.
-    fn take(&mut self, folder: usize, unique: &[u8]) -> Showing
-        ensures is { IsOf (showing_of (Some self.old) folder unique.now) result }
+    /// Takes out what is kept of a message, to be changed and put back where it lies.
+    fn take(&mut self, folder: usize, unique: &[u8]) -> (usize, Showing)
+        ensures is { IsOf (showing_of (Some self.old) folder unique.now) result.1 }
         ensures puts { PutsAt folder unique.now None self.old.all self.new.all }
     {
-        match self.all.take(folder, unique) {
-            None => Showing::new(self.alloc),
-            Some(showing) => showing,
+        let Taken { at, value } = self.all.take(folder, unique);
+        match value {
+            None => (at, Showing::new(self.alloc)),
+            Some(showing) => (at, showing),
         }
     }
 }

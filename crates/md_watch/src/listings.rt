@@ -11,7 +11,7 @@ use crate::readings::{Part, Reading};
 use crate::spells::Spells;
 use indexmap::IndexSet;
 use md_dirs::{Bytes, NameKey, Place};
-use md_kept::{Paths, Table};
+use md_kept::{Paths, Table, Taken};
 use md_name::{is_message, unique_part};
 use std::alloc::{AllocError, Global};
 
@@ -134,7 +134,8 @@ impl Listings {
         ensures alloc { self.new.alloc ≡ self.old.alloc }
         ensures breaks { self.new.breaks ≡ self.old.breaks }
     {
-        let listing = self.all.take(folder, actor)?;
+        let Taken { value, .. } = self.all.take(folder, actor);
+        let listing = value?;
         if listing.breaks != self.breaks.count(0, actor) {
             return None;
         }

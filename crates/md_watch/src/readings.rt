@@ -11,7 +11,7 @@ ghost use Rattle.md_watch.specs.Readings.{Adds, TakesIn, TakesPart, has_then, is
 use crate::spells::Spells;
 use indexmap::IndexSet;
 use md_dirs::{Bytes, NameKey, Place};
-use md_kept::{Directory, Paths, Table, number_of};
+use md_kept::{Directory, Paths, Table, Taken, number_of};
 use md_log::{Names, Reply};
 use md_name::{is_message, unique_part};
 use std::alloc::{AllocError, Global};
@@ -189,10 +189,10 @@ impl Readings {
         ensures resumes { TakesIn now (looker_of part.now) [] (reading_in self.old (looker_of part.now)) result }
         ensures taken { Puts (directory_number part.now.folder part.now.place) part.now.actor.now None self.old.all self.new.all }
     {
-        match self
+        let Taken { value, .. } = self
             .all
-            .take(number_of(part.folder, part.place), part.actor)
-        {
+            .take(number_of(part.folder, part.place), part.actor);
+        match value {
             None => Reading::new(self.alloc, now),
             Some(reading) => reading,
         }

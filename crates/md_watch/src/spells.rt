@@ -4,7 +4,7 @@ ghost use Rattle.std.specs.List.{list_any};
 ghost use Rattle.md_watch.specs.LookUps.{last_of};
 ghost use Rattle.md_watch.specs.Spells.{Notes, Passes, always_by, ended_of, ever_by, since_of, spell_at, was_through};
 
-use md_kept::Table;
+use md_kept::{Table, Taken};
 use smallvec::SmallVec;
 use std::alloc::{AllocError, Global};
 
@@ -84,12 +84,13 @@ impl Spells {
         if was == is {
             return Ok(());
         }
-        let mut spell = match self.all.take(number, name) {
+        let Taken { at, value } = self.all.take(number, name);
+        let mut spell = match value {
             None => Spell::new(self.alloc),
             Some(spell) => spell,
         };
         spell.pass(was, is, now)?;
-        self.all.put(number, name, spell)
+        self.all.put_back(at, number, name, spell)
     }
 
     /// Whether a thing that is there now, or not, was there at each moment from one to another, which is no later than now.

@@ -10,7 +10,7 @@ ghost use Rattle.md_kept.specs.Tables.{Puts};
 use super::deeds::{Deeds, Done, nothing};
 use crate::presences::InFolders;
 use md_dirs::{Bytes, Path};
-use md_kept::{Change, Named, Table, is_tmp, message_of};
+use md_kept::{Change, Named, Table, Taken, is_tmp, message_of};
 use md_log::{Call, Deed, Reply};
 use std::alloc::{AllocError, Global};
 
@@ -88,9 +88,9 @@ impl Actor {
         let Some((folder, unique)) = self.told.take() else {
             return Ok(());
         };
-        let mut deeds = self.take(folder, unique.as_slice());
+        let (at, mut deeds) = self.take(folder, unique.as_slice());
         deeds.begun = Some(now);
-        self.put(folder, unique.as_slice(), deeds)
+        self.put_back(at, folder, unique.as_slice(), deeds)
     }
 
     /// It may be a call on messages by their names: a link or a rename that is done is one by both of its names.
@@ -125,9 +125,9 @@ impl Actor {
         let Some(unique) = message_of(path) else {
             return Ok(());
         };
-        let mut deeds = self.take(path.folder, unique);
+        let (at, mut deeds) = self.take(path.folder, unique);
         deeds.act(reply, now);
-        self.put(path.folder, unique, deeds)
+        self.put_back(at, path.folder, unique, deeds)
     }
 
     /// It may change a path of a message, by which that was in its folder before the step or not, and is after it or not.
@@ -147,9 +147,9 @@ impl Actor {
         let Some(unique) = message_of(path) else {
             return Ok(());
         };
-        let mut deeds = self.take(path.folder, unique);
+        let (at, mut deeds) = self.take(path.folder, unique);
         deeds.change(was, is, is_unlink, now)?;
-        self.put(path.folder, unique, deeds)
+        self.put_back(at, path.folder, unique, deeds)
     }
 
     /// It may be a look at a folder: a part of a reading of new or cur that shows names.
@@ -175,32 +175,40 @@ impl Actor {
             return Ok(());
         };
         let nothing = Deeds::new(self.alloc, None);
-        self.put(*folder, unique.as_slice(), nothing)?;
+        self.deeds
+            .put(*folder as usize, unique.as_slice(), nothing)?;
         self.told = Some((*folder, unique.again(self.alloc)?));
         Ok(())
     }
 
-    /// Takes out what it did about the message.
-    fn take(&mut self, folder: u32, unique: &[u8]) -> Deeds
-        ensures taken { did_of result ≡ did_in self.old folder unique.now }
+    /// Takes out what it did about the message, and says where that is kept.
+    fn take(&mut self, folder: u32, unique: &[u8]) -> (usize, Deeds)
+        ensures taken { did_of result.1 ≡ did_in self.old folder unique.now }
         ensures puts { Puts folder unique.now None self.old.deeds self.new.deeds }
         ensures first { self.new.first ≡ self.old.first }
         ensures told { self.new.told ≡ self.old.told }
         ensures looks { self.new.looks ≡ self.old.looks }
     {
-        match self.deeds.take(folder as usize, unique) {
-            None => Deeds::new(self.alloc, Some(self.first)),
-            Some(deeds) => deeds,
+        let Taken { at, value } = self.deeds.take(folder as usize, unique);
+        match value {
+            None => (at, Deeds::new(self.alloc, Some(self.first))),
+            Some(deeds) => (at, deeds),
         }
     }
 
-    fn put(&mut self, folder: u32, unique: &[u8], deeds: Deeds) -> Result<(), AllocError>
+    fn put_back(
+        &mut self,
+        at: usize,
+        folder: u32,
+        unique: &[u8],
+        deeds: Deeds,
+    ) -> Result<(), AllocError>
         ensures puts { OnOk result (Puts folder unique.now (Some deeds) self.old.deeds self.new.deeds) }
         ensures first { self.new.first ≡ self.old.first }
         ensures told { self.new.told ≡ self.old.told }
         ensures looks { self.new.looks ≡ self.old.looks }
     {
-        self.deeds.put(folder as usize, unique, deeds)
+        self.deeds.put_back(at, folder as usize, unique, deeds)
     }
 }
 

@@ -7,8 +7,8 @@ use Rattle.md_watch.proofs.flagged.Shown.come.Goals as goal
 pub returns : goal.returns
 returns c =
     let old = c.args.self.now in
-    let new : Shown = record { alloc = c.take-showing.new.self.alloc; all = c.put.new.self } in
-    then c.put.result
-    (λ put. changed-at c.args.folder c.args.unique.now old new c.take-showing.new.self.all c.take-showing.result c.come.new.self c.take-showing.ensures.is c.take-showing.ensures.puts put
+    let new : Shown = record { alloc = c.take-at.new.self.alloc; all = c.put_back.new.self } in
+    then c.put_back.result
+    (λ put. changed-at c.args.folder c.args.unique.now old new c.take-at.new.self.all c.take-at.result.1 c.come.new.self c.take-at.ensures.is c.take-at.ensures.puts put
     c.args.now (λ k. k + 1) c.in_ok-come.ensures.names c.in_ok-come.ensures.spell)
-    c.put.ensures
+    c.put_back.ensures
