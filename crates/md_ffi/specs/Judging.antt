@@ -26,7 +26,8 @@ findings_bytes found = flat_map finding_bytes found
 pub record AreFindings (text : List ℕ) (found : List Finding) : Type 0 where
   pub is_log : IsOk (log_of text)
   pub ordered : AreInOrder found
-  pub exact : (l : Log) → log_of text ≡ Ok l → HasNoTicks l → (number : ℕ) (c : Clause) → IsAmong found number c ↔ IsFinding (by_law l) number c
+  pub exact : (l : Log) → log_of text ≡ Ok l → HasNoTicks l → (number : ℕ) (c : Clause)
+      → IsAmong found number c ↔ IsFinding (by_law l) number c
   pub placed : (l : Log) → log_of text ≡ Ok l → AreFoundInOrder (by_law l) found
 
 -- The text is no log by this first wrong line; or calls overlap in it, and no order of them is found.
