@@ -1,13 +1,1 @@
-pub mod Statuses
-pub mod Troubles
-pub mod Changes
-pub mod Keys
-pub mod Escapes
-pub mod Mailbox
-pub mod Lines
-pub mod Rows
-pub mod Drafts
 pub mod Folders
-pub mod Notes
-pub mod Tallies
-pub mod Probes

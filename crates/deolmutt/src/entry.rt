@@ -1,22 +1,12 @@
 //! What the program does for the words of its command line.
-use crate::acting::acted;
-use crate::boxes::{maildirs, make};
-use crate::checking::checked;
-use crate::delivering::delivered;
-use crate::failure::Failure;
-use crate::judge::judged;
 use crate::options::{PROGRAM, options};
-use crate::order::{Mistake, Order, Work, read_order};
-use crate::output::print;
+use crate::order::{Order, Work, read_order};
 use crate::scripts::{logged, scripted};
-use crate::session::{Host, Session};
-use crate::showing::{listed, read};
-use crate::status::Status;
-use crate::trouble::{Trouble, trouble_of};
 use clap::{ArgMatches, Error};
-use md_disk::Disk;
+use md_command::{Failure, Host, Mistake, Session, Status, Trouble, print};
+use md_findings::judged;
+use md_maildirs::{acted, checked, cleaned, delivered, listed, make, read};
 use md_runs::{Advice, complaint, explained, run_named};
-use md_system::clean;
 use std::random::RandomSource;
 use std::sync::Wait;
 use std::thread::Threads;
@@ -118,18 +108,5 @@ fn perform_work<R: Host>(
         Work::Act { act, to, keys } => acted(session, maildir, act, to, keys.as_slice()),
         Work::Clean => cleaned(session, maildir),
         Work::Check => checked(session, maildir),
-    }
-}
-
-// Takes away old files of tmp.
-fn cleaned<R: Host>(session: &Session<'_, R>, maildir: &str) -> Result<Status, Failure> {
-    clean_tmp(session, &mut maildirs(session, &[maildir])?)
-}
-
-fn clean_tmp<R: Host>(session: &Session<'_, R>, disk: &mut Disk<'_, R>) -> Result<Status, Failure> {
-    let answer = clean(session.alloc, disk, 0)?;
-    match trouble_of(answer) {
-        None => Ok(Status::Done),
-        Some(trouble) => Err(Failure::caused(session.alloc, trouble, disk.system.cause())),
     }
 }

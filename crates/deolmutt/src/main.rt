@@ -5,35 +5,13 @@
 //! What it does for its words, and the statuses that it ends with, is in `entry`. Here its words are read.
 #![tactic(auto)]
 
-mod acting;
-mod boxes;
-mod change;
-mod checking;
-mod delivering;
 mod entry;
-mod escape;
-mod failure;
-mod files;
-mod judge;
-mod key;
-mod lines;
-mod log;
-mod mailbox;
-mod messages;
 mod options;
 mod order;
-mod output;
-mod progress;
-mod row;
 mod scripts;
-mod session;
-mod showing;
-mod status;
-mod trouble;
 
 use entry::program;
-use session::Session;
-use status::Status;
+use md_command::{Session, Status};
 use std::io::ErrorKind;
 use std::process::ExitCode;
 use std::{env, io};

@@ -2,13 +2,12 @@
 ghost use Rattle.std.specs.Prelude.{◌≡◌};
 ghost use Rattle.deolmutt.specs.Folders.{is_folder};
 
-use crate::change::{Change, parse_change, parse_letters};
-use crate::judge::{Judging, read_judging};
-use crate::row::Shape;
-use crate::trouble::Trouble;
 use clap::ArgMatches;
+use md_command::{Mistake, Trouble};
+use md_findings::{Judging, read_judging};
+use md_maildirs::{Act, Change, Delivering, MailSource, Shape, parse_change, parse_letters};
 use md_name::Flags;
-use std::alloc::{AllocError, AllocFailed, Global};
+use std::alloc::Global;
 
 /// What a command line asks for.
 #[derive(Drop)]
@@ -38,59 +37,6 @@ pub(crate) enum Work<'a> {
     },
     Clean,
     Check,
-}
-
-/// How messages are delivered.
-#[derive(Drop)]
-pub(crate) struct Delivering<'a> {
-    /// The folder of Maildir++.
-    pub(crate) folder: Option<&'a str>,
-    pub(crate) flushes: bool,
-    pub(crate) source: MailSource<'a>,
-    pub(crate) prints: bool,
-}
-
-/// Where messages are read that are delivered.
-#[derive(Clone, Copy)]
-pub(crate) enum MailSource<'a> {
-    /// Standard input is a message.
-    Message,
-    /// Standard input is an mbox.
-    Mailbox,
-    /// The files of the directory of this path, which has no slashes at its end.
-    Files(&'a str),
-}
-
-/// What is to be done with a message.
-#[derive(Drop)]
-pub(crate) enum Act {
-    Seen,
-    Flag(Change),
-    Move,
-    Copy,
-    Expunge,
-}
-
-/// Why words ask for nothing.
-#[derive(Drop)]
-pub(crate) enum Mistake<'a> {
-    /// This word is not one that the command takes.
-    Wrong { word: &'a str, trouble: Trouble },
-    /// There is a word too many behind those of a run.
-    Unexpected,
-    NoMemory,
-}
-
-impl<'a> From<AllocError> for Mistake<'a> {
-    fn from(_error: AllocError) -> Mistake<'a> {
-        Mistake::NoMemory
-    }
-}
-
-impl<'a, T: Drop> From<AllocFailed<T>> for Mistake<'a> {
-    fn from(_error: AllocFailed<T>) -> Mistake<'a> {
-        Mistake::NoMemory
-    }
 }
 
 /// What words ask for that the options have read.

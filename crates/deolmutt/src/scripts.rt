@@ -2,12 +2,11 @@
 ghost use Rattle.std.specs.Prelude.{ℕ, List};
 ghost use Rattle.md_runs.specs.Runs.{WordsName};
 
-use crate::log::trace;
-use crate::session::{Host, Session};
-use crate::status::Status;
+use md_command::{Host, Session, Status};
 use md_dirs::HashSeed;
 use md_runs::{Run, RunFault, perform};
 use md_script::{Reader, Writer};
+use md_trace::trace;
 use std::io;
 use std::random::RandomSource;
 use std::sync::Wait;

@@ -1,7 +1,0 @@
-use Rattle.std.proofs.Common.{◌≡◌, ◌++◌, map, take, drop}
-use Rattle.deolmutt.specs.Tallies.{added}
-use Rattle.deolmutt.proofs.judge.summary.Tally.add.Given as goal
-
-abbrev pub invariant-loop-count : goal.invariant-loop-count
-invariant-loop-count l =
-    l.count-items ≡ map (added l.clause l.line) (take l.count-index l.initial.count-items) ++ drop l.count-index l.initial.count-items

@@ -1,0 +1,4 @@
+pub mod Escapes
+pub mod Lines
+pub mod Statuses
+pub mod Troubles

@@ -1,0 +1,105 @@
+//! A trouble with what the system said of it, and the line that says both.
+ghost use Rattle.std.specs.Prelude.{◌≡◌, ◌++◌, IfOk, OnOk};
+ghost use Rattle.std.specs.Option.{option_copied};
+ghost use Rattle.md_command.specs.Lines.{failure_line as line_of, cause_text};
+
+use crate::escape::push_escaped;
+use crate::trouble::Trouble;
+use md_jobs::CoreError;
+use std::alloc::{AllocError, AllocFailed, Global};
+use std::io;
+use std::io::ErrorKind;
+
+/// Why something is not done, and what the system said.
+#[derive(Drop)]
+pub struct Failure {
+    pub trouble: Trouble,
+    pub cause: Option<String>,
+    /// The path that it is of, if it is of another than what was to be done.
+    pub path: Option<String>,
+}
+
+impl Failure {
+    /// The same of this path.
+    pub fn at(self, alloc: Global, path: &str) -> Failure {
+        let Failure {
+            trouble,
+            cause,
+            path: _,
+        } = self;
+        Failure {
+            trouble,
+            cause,
+            path: String::from_str(alloc, path).ok(),
+        }
+    }
+
+    /// A trouble, and what the system said of it. Without rights, and without memory, that is the trouble.
+    pub fn of(alloc: Global, trouble: Trouble, error: &io::Error) -> Failure {
+        match error.kind() {
+            ErrorKind::PermissionDenied => Failure::from(Trouble::NoRights),
+            ErrorKind::OutOfMemory => Failure::from(Trouble::NoMemory),
+            _ => Failure {
+                trouble,
+                cause: format!(in alloc; "{error}").ok(),
+                path: None,
+            },
+        }
+    }
+}
+
+impl From<Trouble> for Failure {
+    fn from(trouble: Trouble) -> Failure {
+        Failure {
+            trouble,
+            cause: None,
+            path: None,
+        }
+    }
+}
+
+impl From<AllocError> for Failure {
+    fn from(_error: AllocError) -> Failure {
+        Failure::from(Trouble::NoMemory)
+    }
+}
+
+impl<T: Drop> From<AllocFailed<T>> for Failure {
+    fn from(_error: AllocFailed<T>) -> Failure {
+        Failure::from(Trouble::NoMemory)
+    }
+}
+
+// Jobs are refused only when out of memory.
+impl From<CoreError> for Failure {
+    fn from(error: CoreError) -> Failure {
+        match error {
+            CoreError::NoMemory => Failure::from(Trouble::NoMemory),
+            _ => Failure::from(Trouble::Fault),
+        }
+    }
+}
+
+/// The line that says of something why it is not done: `deolmutt: WHAT: WHY`, and what the system said behind another colon.
+pub fn failure_line(alloc: Global, what: &[u8], failure: &Failure) -> Result<Vec<u8>, AllocError>
+    ensures { IfOk result (λ line. line.items ≡ line_of what.now failure.now) }
+{
+    let mut line = Vec::from_slice(alloc, b"deolmutt: ")?;
+    push_escaped(&mut line, what)?;
+    line.extend_from_slice(b": ")?;
+    line.extend_from_slice(failure.trouble.text().as_bytes())?;
+    push_cause(&mut line, failure.cause.as_ref())?;
+    line.extend_from_slice(b"\n")?;
+    Ok(line)
+}
+
+// Appends a colon and what the system said, if it said anything.
+fn push_cause(line: &mut Vec<u8>, cause: Option<&String>) -> Result<(), AllocError>
+    ensures { OnOk result (line.new.items ≡ line.old.items ++ cause_text (option_copied cause.entry)) }
+{
+    let Some(cause) = cause else {
+        return Ok(());
+    };
+    line.extend_from_slice(b": ")?;
+    line.extend_from_slice(cause.as_bytes())
+}

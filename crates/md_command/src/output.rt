@@ -1,0 +1,14 @@
+//! What is written to standard output.
+use crate::failure::Failure;
+use crate::session::{Host, Session};
+use crate::trouble::Trouble;
+use std::io;
+use std::io::Write;
+
+/// Writes bytes to standard output, whole.
+pub fn print<R: Host>(session: &Session<'_, R>, bytes: &[u8]) -> Result<(), Failure> {
+    match io::writer(session.host).write_all(bytes) {
+        Ok(()) => Ok(()),
+        Err(error) => Err(Failure::of(session.alloc, Trouble::Unwritten, &error)),
+    }
+}

@@ -1,0 +1,18 @@
+//! The judging of a log for a program's words, and its findings as they are printed.
+#![tactic(auto)]
+
+mod blame;
+mod fault;
+mod json;
+mod judging;
+mod lines;
+mod page;
+mod relied;
+mod shown;
+mod summary;
+mod text;
+mod why;
+mod words;
+
+pub use judging::judged;
+pub use words::{Judging, read_judging};

@@ -1,0 +1,50 @@
+-- Why a job on a disk has not done what it was for: which answers and which causes are troubles.
+use Rattle.std.specs.Prelude.{Option, None, Some}
+use Rattle.std_io.specs.declared.io.kind.ErrorKind.{ErrorKind}
+use Rattle.std_io.specs.declared.io.kind.ErrorKind.TheVariants as kind
+use Rattle.md_disk.specs.declared.cause.Cause.{Cause}
+use Rattle.md_disk.specs.declared.cause.Cause.TheVariants as cause
+use Rattle.md_jobs.specs.declared.answer.Answer.{Answer}
+use Rattle.md_jobs.specs.declared.answer.Answer.TheVariants as answer
+use Rattle.md_command.specs.declared.trouble.Trouble.{Trouble}
+use Rattle.md_command.specs.declared.trouble.Trouble.TheVariants.{NotThere, NotTrashed, OtherInfo, NotText, NotAFile, NoMaildir}
+use Rattle.md_command.specs.declared.trouble.Trouble.TheVariants.{NameTaken, Lost, TimedOut, TmpGone, Fault, NoMemory, NoRights}
+
+-- why a job that ended with this answer has not done what it was for, if it has not
+abbrev pub trouble_of : Answer → Option Trouble
+trouble_of answer.Delivered = None
+trouble_of (answer.Flags flags) = None
+trouble_of answer.Moved = None
+trouble_of answer.Expunged = None
+trouble_of answer.Copied = None
+trouble_of (answer.Cleaned files) = None
+trouble_of answer.NotThere = Some NotThere
+trouble_of answer.NotTrashed = Some NotTrashed
+trouble_of answer.OtherInfo = Some OtherInfo
+trouble_of answer.Lost = Some Lost
+trouble_of answer.TimedOut = Some TimedOut
+trouble_of answer.TmpGone = Some TmpGone
+trouble_of answer.NameTaken = Some NameTaken
+trouble_of answer.Fault = Some Fault
+
+-- what an error of the system is to a command
+abbrev pub trouble_of_kind : ErrorKind → Trouble
+trouble_of_kind kind.PermissionDenied = NoRights
+trouble_of_kind kind.OutOfMemory = NoMemory
+trouble_of_kind _ = Fault
+
+-- what a cause of the system is to a command; any other is a call that failed
+abbrev pub trouble_caused : Cause → Trouble
+trouble_caused (cause.System error) = trouble_of_kind error
+trouble_caused cause.NotText = NotText
+trouble_caused cause.NotAFile = NotAFile
+trouble_caused cause.NoDirectory = NoMaildir
+trouble_caused cause.NoMessage = NotThere
+trouble_caused cause.NameTaken = NameTaken
+trouble_caused cause.Lost = Lost
+trouble_caused _ = Fault
+
+-- the trouble of a job on a disk: a fault is its cause
+abbrev pub trouble_told : Trouble → Option Cause → Trouble
+trouble_told Fault (Some cause) = trouble_caused cause
+trouble_told trouble _ = trouble

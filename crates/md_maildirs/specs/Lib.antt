@@ -1,0 +1,6 @@
+pub mod Causes
+pub mod Changes
+pub mod Drafts
+pub mod Keys
+pub mod Mailbox
+pub mod Rows

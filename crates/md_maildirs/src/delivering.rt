@@ -1,0 +1,205 @@
+//! Messages that are delivered.
+use crate::boxes::{must_be_maildir, target};
+use crate::causes::{failure_caused, trouble_of};
+use crate::mailbox::Draft;
+use crate::messages::Messages;
+use crate::names::{fresh, namer};
+use md_command::{
+    Failure, Host, Lines, Progress, Session, Status, Trouble, message, message_of, names_of,
+    path_in, print, push_escaped,
+};
+use md_dirs::Bytes;
+use md_disk::{Disk, Namer};
+use md_jobs::Answer;
+use md_system::deliver;
+use std::io::Read;
+
+// Bytes of a message that are written at once.
+const CHUNK: u64 = 65_536;
+
+// How many names are made where each is taken.
+const NAMES: u32 = 16;
+
+/// How messages are delivered.
+#[derive(Drop)]
+pub struct Delivering<'a> {
+    /// The folder of Maildir++.
+    pub folder: Option<&'a str>,
+    pub flushes: bool,
+    pub source: MailSource<'a>,
+    pub prints: bool,
+}
+
+/// Where messages are read that are delivered.
+#[derive(Clone, Copy)]
+pub enum MailSource<'a> {
+    /// Standard input is a message.
+    Message,
+    /// Standard input is an mbox.
+    Mailbox,
+    /// The files of the directory of this path, which has no slashes at its end.
+    Files(&'a str),
+}
+
+/// Delivers what is on standard input, a message or those of an mbox; or the files of a directory.
+pub fn delivered<R: Host>(
+    session: &Session<'_, R>,
+    maildir: &str,
+    how: &Delivering<'_>,
+) -> Result<Status, Failure> {
+    let mut sending = Sending::new(session, maildir, how)?;
+    sending.send_from(session, how.source)
+}
+
+// The lines of standard input.
+fn input<R: Host>(session: &Session<'_, R>) -> Result<Lines<R::Reader>, Failure> {
+    Ok(Lines::new(session.alloc, session.host.reader())?)
+}
+
+// A maildir to which messages are delivered.
+#[derive(Drop)]
+struct Sending<'r, R: Host> {
+    disk: Disk<'r, R>,
+    // The path of the maildir.
+    folder: String,
+    namer: Namer,
+    prints: bool,
+    progress: Progress,
+}
+
+impl<'r, R: Host> Sending<'r, R> {
+    fn new(
+        session: &Session<'r, R>,
+        maildir: &str,
+        how: &Delivering<'_>,
+    ) -> Result<Sending<'r, R>, Failure> {
+        let folder = match how.folder {
+            Some(name) => format!(in session.alloc; "{maildir}/.{name}")?,
+            None => String::from_str(session.alloc, maildir)?,
+        };
+        Ok(Sending {
+            disk: target(session, folder.as_str(), how.flushes)?,
+            folder,
+            namer: namer(session)?,
+            prints: how.prints,
+            progress: Progress::new(session),
+        })
+    }
+
+    // Delivers what a source has.
+    fn send_from(
+        &mut self,
+        session: &Session<'_, R>,
+        source: MailSource<'_>,
+    ) -> Result<Status, Failure> {
+        let status = match source {
+            MailSource::Message => self.send_rest(session, input(session)?)?,
+            MailSource::Mailbox => self.send_all(session, input(session)?)?,
+            MailSource::Files(path) => self.send_files(session, path)?,
+        };
+        self.progress.end(session);
+        if self.disk.system.is_unflushed() {
+            session.tell(self.folder.as_bytes(), &Failure::from(Trouble::Unflushed));
+        }
+        Ok(status)
+    }
+
+    // Delivers a message.
+    fn send(&mut self, session: &Session<'_, R>, message: &[u8]) -> Result<(), Failure> {
+        let alloc = session.alloc;
+        for _ in 0..NAMES {
+            let unique = fresh(session, &mut self.namer)?;
+            let name = unique.again(alloc)?;
+            let body = Bytes::copied(alloc, message)?;
+            let answer = deliver(alloc, &mut self.disk, 0, unique, body, CHUNK)?;
+            match trouble_of(answer) {
+                None => return self.sent(session, name.as_slice()),
+                Some(Trouble::NameTaken) => {}
+                Some(trouble) => return Err(self.failure(session, trouble)),
+            }
+        }
+        Err(Failure::from(Trouble::NameTaken))
+    }
+
+    // Why a message was not delivered: where the maildir lacks a directory, that.
+    fn failure(&self, session: &Session<'_, R>, trouble: Trouble) -> Failure {
+        match must_be_maildir(session, self.folder.as_str()) {
+            Ok(()) => failure_caused(session.alloc, trouble, self.disk.system.cause()),
+            Err(failure) => failure,
+        }
+    }
+
+    // A message was delivered under this name.
+    fn sent(&mut self, session: &Session<'_, R>, name: &[u8]) -> Result<(), Failure> {
+        self.progress.step(session);
+        if !self.prints {
+            return Ok(());
+        }
+        let mut line = Vec::new(session.alloc);
+        push_escaped(&mut line, name)?;
+        line.push(b'\n')?;
+        print(session, line.as_slice())
+    }
+
+    // Delivers all that is read as a message.
+    fn send_rest<L: Read + Drop>(
+        &mut self,
+        session: &Session<'_, R>,
+        lines: Lines<L>,
+    ) -> Result<Status, Failure> {
+        self.send(session, message(session.alloc, lines)?.as_slice())?;
+        Ok(Status::Done)
+    }
+
+    // Delivers the messages of an mbox, until one is not delivered.
+    fn send_all<L: Read + Drop>(
+        &mut self,
+        session: &Session<'_, R>,
+        lines: Lines<L>,
+    ) -> Result<Status, Failure> {
+        let mut messages = Messages::new(session.alloc, lines);
+        for count in 1..u64::MAX {
+            let Some(draft) = messages.next_message(session.alloc)? else {
+                break;
+            };
+            if let Err(failure) = self.send_draft(session, &draft) {
+                return told(session, count, &failure);
+            }
+        }
+        Ok(Status::Done)
+    }
+
+    // Delivers the files of a directory, until one is not delivered. One that is no message is passed over.
+    fn send_files(&mut self, session: &Session<'_, R>, dir: &str) -> Result<Status, Failure> {
+        let mut worst = Status::Done;
+        for name in &names_of(session, dir)? {
+            let path = path_in(session.alloc, dir, name.as_slice())?;
+            match message_of(session, path.as_slice()) {
+                Ok(message) => {
+                    if let Err(failure) = self.send(session, message.as_slice()) {
+                        return Ok(worst.worse(session.tell(path.as_slice(), &failure)));
+                    }
+                }
+                Err(failure) => worst = worst.worse(session.tell(path.as_slice(), &failure)),
+            }
+        }
+        Ok(worst)
+    }
+
+    fn send_draft(&mut self, session: &Session<'_, R>, draft: &Draft) -> Result<(), Failure> {
+        if draft.is_too_long {
+            return Err(Failure::from(Trouble::TooLong));
+        }
+        self.send(session, draft.bytes.as_slice())
+    }
+}
+
+// Says that the message of this number is not delivered, nor any after it.
+fn told<R: Host>(
+    session: &Session<'_, R>,
+    count: u64,
+    failure: &Failure,
+) -> Result<Status, Failure> {
+    let name = format!(in session.alloc; "message {count}")?;
+    Ok(session.tell(name.as_bytes(), failure))
+}

@@ -1,0 +1,178 @@
+//! Messages that are shown: listings, and the bytes of one.
+use crate::acting::TRIES;
+use crate::boxes::maildirs;
+use crate::causes::failure_caused;
+use crate::key::parse_key;
+use crate::row::{Headers, Shape, place_name, push_message};
+use md_command::{Failure, Host, Session, Status, Trouble, opened, print};
+use md_disk::{Disk, Listed, list_folder};
+use md_head::{HeadError, summary};
+use md_jobs::DirReply;
+use md_name::{is_message, unique_part};
+use std::fs::OpenFile;
+use std::io;
+use std::io::{ErrorKind, Read};
+
+// The most bytes of a message that are read for its headers.
+const MOST_HEADERS: usize = 262_144;
+
+// Bytes of a message that are read at once.
+const CHUNK: usize = 65_536;
+
+// Bytes of a listing that are written at once.
+const PAGE: usize = 65_536;
+
+/// Prints a line for each message of a maildir, in order of their unique names.
+pub fn listed<R: Host>(
+    session: &Session<'_, R>,
+    maildir: &str,
+    shape: Shape,
+) -> Result<Status, Failure> {
+    let disk = maildirs(session, &[maildir])?;
+    let (reply, all) = list_folder(session.alloc, &disk, 0)?;
+    if reply != DirReply::Ok {
+        return Err(failure_caused(session.alloc, Trouble::Fault, disk.system.cause()));
+    }
+    let mut page = Vec::new(session.alloc);
+    print_all(session, maildir, shape, all.as_slice(), &mut page)?;
+    Ok(Status::Done)
+}
+
+// Prints the lines of messages, by a page that is lent and empty.
+fn print_all<R: Host>(
+    session: &Session<'_, R>,
+    maildir: &str,
+    shape: Shape,
+    all: &[Listed],
+    page: &mut Vec<u8>,
+) -> Result<(), Failure> {
+    for message in all {
+        push_listed(session, maildir, shape, message, page)?;
+        if page.len() >= PAGE {
+            print(session, page.as_slice())?;
+            page.clear();
+        }
+    }
+    print(session, page.as_slice())
+}
+
+// Appends the line of a message. A name that is none of a message has no line.
+fn push_listed<R: Host>(
+    session: &Session<'_, R>,
+    maildir: &str,
+    shape: Shape,
+    message: &Listed,
+    page: &mut Vec<u8>,
+) -> Result<(), Failure> {
+    let name = message.name.as_slice();
+    if !is_message(name, unique_part(name)) {
+        return Ok(());
+    }
+    let headers = if shape.with_headers {
+        headers_of(session, maildir, message)?
+    } else {
+        None
+    };
+    Ok(push_message(page, shape, message.place, name, headers.as_ref())?)
+}
+
+// What the headers of a message say. None where it is gone from its name by now.
+fn headers_of<R: Host>(
+    session: &Session<'_, R>,
+    maildir: &str,
+    message: &Listed,
+) -> Result<Option<Headers>, Failure> {
+    let Some(path) = path_of(session, maildir, message)? else {
+        return Ok(None);
+    };
+    let mut file = match opened(session, path.as_str()) {
+        Ok(Some(file)) => file,
+        Ok(None) => return Ok(None),
+        Err(error) if error.kind() == ErrorKind::NotFound => return Ok(None),
+        Err(error) => return Err(Failure::of(session.alloc, Trouble::Unread, &error)),
+    };
+    let size = match file.metadata() {
+        Ok(about) => about.len(),
+        Err(error) => return Err(Failure::of(session.alloc, Trouble::Unread, &error)),
+    };
+    match beginning(session, &mut file) {
+        Ok(bytes) => Ok(Some(Headers {
+            size,
+            summary: match summary(session.alloc, bytes.as_slice()) {
+                Ok(summary) => summary,
+                Err(HeadError::NoMemory) => return Err(Failure::from(Trouble::NoMemory)),
+            },
+        })),
+        Err(error) => Err(Failure::of(session.alloc, Trouble::Unread, &error)),
+    }
+}
+
+// The path of a message as it was listed. None where the name is not UTF-8.
+fn path_of<R: Host>(
+    session: &Session<'_, R>,
+    maildir: &str,
+    message: &Listed,
+) -> Result<Option<String>, Failure> {
+    let Ok(name) = std::str::from_utf8(message.name.as_slice()) else {
+        return Ok(None);
+    };
+    let place = place_name(message.place);
+    Ok(Some(format!(in session.alloc; "{maildir}/{place}/{name}")?))
+}
+
+// The bytes that a message begins with.
+fn beginning<R: Host>(session: &Session<'_, R>, file: &mut R::File) -> io::Result<Vec<u8>> {
+    let mut bytes = Vec::new(session.alloc);
+    let mut chunk = vec![in session.alloc; 0; CHUNK]?;
+    for _ in 0..u64::MAX {
+        let count = file.read(chunk.as_mut_slice())?;
+        if count == 0 || bytes.len() >= MOST_HEADERS {
+            break;
+        }
+        bytes.extend_from_slice(&chunk[..count])?;
+    }
+    Ok(bytes)
+}
+
+/// Prints the bytes of a message.
+pub fn read<R: Host>(
+    session: &Session<'_, R>,
+    maildir: &str,
+    word: &str,
+) -> Result<Status, Failure> {
+    let mut disk = maildirs(session, &[maildir])?;
+    let read = match parse_key(maildir.as_bytes(), word.as_bytes()) {
+        Some(key) => copied_out(session, &mut disk, key.unique),
+        None => Err(Failure::from(Trouble::BadKey)),
+    };
+    match read {
+        Ok(()) => Ok(Status::Done),
+        Err(failure) => Ok(session.tell(word.as_bytes(), &failure)),
+    }
+}
+
+// Copies a message to standard output.
+fn copied_out<R: Host>(
+    session: &Session<'_, R>,
+    disk: &mut Disk<'_, R>,
+    unique: &[u8],
+) -> Result<(), Failure> {
+    match disk.system.open_message(session.alloc, 0, unique, TRIES)? {
+        (_, Some(mut file)) => poured(session, &mut file),
+        _ => Err(failure_caused(session.alloc, Trouble::Fault, disk.system.cause())),
+    }
+}
+
+// Copies what is left of a file to standard output.
+fn poured<R: Host>(session: &Session<'_, R>, file: &mut R::File) -> Result<(), Failure> {
+    let mut chunk = vec![in session.alloc; 0; CHUNK]?;
+    for _ in 0..u64::MAX {
+        match file.read(chunk.as_mut_slice()) {
+            Ok(0) => break,
+            Ok(count) => print(session, &chunk[..count])?,
+            Err(error) if error.kind() == ErrorKind::Interrupted => {}
+            Err(error) => return Err(Failure::of(session.alloc, Trouble::Unread, &error)),
+        }
+    }
+    Ok(())
+}

@@ -1,0 +1,110 @@
+//! Steps, as a log has them: the directory call with its paths and its reply, and the effect as a comment.
+use crate::noted::{Noted, NotedDirs};
+use crate::rows::push_names;
+use crate::text::Log;
+use md_core::{Change, DirCall, DirReply, Event, StepOut};
+use md_dirs::Dirs;
+use md_script::PlayKind;
+use md_text::place_text;
+
+/// `MOMENT job`, the beginning of a line of a job. The moment is the step's own: the clock of a log is the greatest so far, as that of a
+/// store.
+pub(crate) fn push_begin(log: &mut Log, event: Event) {
+    log.push_seconds(event.now);
+    log.push(b" job");
+}
+
+/// The line of a step, whose paths were noted. `NoMemory` where there is no note.
+pub(crate) fn push_step<D: Dirs>(log: &mut Log, dirs: &NotedDirs<D>, event: Event, out: &StepOut) {
+    push_begin(log, event);
+    log.push_number(event.job);
+    log.push(call_text(out.call));
+    match &dirs.hook().noted {
+        Some(noted) => push_noted(log, noted),
+        None => log.refuse(PlayKind::NoMemory),
+    }
+    log.push(reply_text(out.reply));
+    // A listing changes nothing, so that the names after it are those that it read.
+    if out.reply == DirReply::Ok
+        && let Some(Noted::Directory { folder, place }) = &dirs.hook().noted
+    {
+        push_names(log, dirs, *folder, *place);
+    }
+    log.push(b"\n");
+}
+
+fn push_noted(log: &mut Log, noted: &Noted) {
+    match noted {
+        Noted::One(path) => log.push_path(path.folder, path.place, path.name.as_slice()),
+        Noted::Two { old, new } => {
+            log.push_path(old.folder, old.place, old.name.as_slice());
+            log.push_path(new.folder, new.place, new.name.as_slice());
+        }
+        Noted::Directory { folder, place } => {
+            log.push(b" ");
+            log.push_folder(*folder);
+            log.push(b" ");
+            log.push(place_text(*place));
+        }
+    }
+}
+
+fn call_text(call: DirCall) -> &'static [u8] {
+    match call {
+        DirCall::Create => b" create",
+        DirCall::Append(_) => b" write",
+        DirCall::Link => b" link",
+        DirCall::Rename => b" rename",
+        DirCall::Unlink => b" unlink",
+        DirCall::List(_) => b" list",
+    }
+}
+
+fn reply_text(reply: DirReply) -> &'static [u8] {
+    match reply {
+        DirReply::Ok => b" ok",
+        DirReply::Exists => b" exists",
+        DirReply::NotFound => b" notfound",
+        DirReply::Fault => b" fault",
+    }
+}
+
+/// `# effect` and the change: `add PATH SIZE`, `rename PATH PATH`, `remove PATH` or `same`.
+pub(crate) fn push_effect(log: &mut Log, change: &Change) {
+    log.push(b"# effect ");
+    match change {
+        Change::Add {
+            folder,
+            place,
+            name,
+            size,
+        } => {
+            log.push(b"add");
+            log.push_path(*folder, *place, name.as_slice());
+            log.push(b" ");
+            log.push_number(*size);
+        }
+        Change::Rename {
+            folder,
+            place,
+            name,
+            to_folder,
+            to_place,
+            to_name,
+        } => {
+            log.push(b"rename");
+            log.push_path(*folder, *place, name.as_slice());
+            log.push_path(*to_folder, *to_place, to_name.as_slice());
+        }
+        Change::Remove {
+            folder,
+            place,
+            name,
+        } => {
+            log.push(b"remove");
+            log.push_path(*folder, *place, name.as_slice());
+        }
+        Change::Same => log.push(b"same"),
+    }
+    log.push(b"\n");
+}
