@@ -7,6 +7,7 @@ pub mod Loading
 pub mod Checking
 pub mod Before
 pub mod Submitted
+pub mod Refused
 pub mod Stepping
 pub mod Steps
 pub mod Taking

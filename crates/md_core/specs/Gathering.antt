@@ -8,7 +8,7 @@ use Rattle.md_dirs.specs.State.{State, file_at}
 use Rattle.md_dirs.specs.declared.paths.Path.{Path}
 use Rattle.md_dirs.specs.declared.paths.Place.TheVariants.{Tmp}
 use Rattle.md_jobs.specs.declared.call.Call.{Call}
-use Rattle.md_jobs.specs.declared.call.Call.TheVariants.{Expunge, Clean}
+use Rattle.md_jobs.specs.declared.call.Call.TheVariants.{Deliver, Expunge, Copy, Clean}
 use Rattle.md_core.specs.Submitting.{uses, makes}
 use Rattle.md_used.specs.Used.{is_among}
 use Rattle.md_used.specs.declared.used.Used.{Used}
@@ -36,6 +36,12 @@ may_change s call u = makes u call || may_take s call u
 abbrev pub is_used_before : State → Used → List ℕ → Bool
 is_used_before s used u = is_among u used.since || holds s u
 
+-- whether the name that a call makes is used up before it
+abbrev pub makes_used : State → Used → Call → Bool
+makes_used s used (Deliver folder unique body chunk) = is_used_before s used unique
+makes_used s used (Copy folder unique to fresh tries) = is_used_before s used fresh
+makes_used s used call = false
+
 -- gathered names, if any are, have all that the directories use and that are not among those since. They may have others, which left the
 -- directories before a settle
 abbrev pub CoversBy : State → List (List ℕ) → Option (List (List ℕ)) → Type 0
@@ -60,3 +66,8 @@ pub record StillUsed (s : State) (old new : List (List ℕ)) : Type 0 where
 pub record KeepsUsed (s : State) (before after : Used) : Type 0 where
   pub since : StillUsed s before.since after.since
   pub covers : Covers s after
+
+-- What is kept of a call whose names are tried: they are used from now on, where the one that it makes was not.
+abbrev pub KeepsTried : State → Call → Used → Used → Bool → Type 0
+KeepsTried s call before after true = (makes_used s before call ≡ false) × KeepsMade s call before after
+KeepsTried s call before after false = KeepsUsed s before after

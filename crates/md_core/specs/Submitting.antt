@@ -1,6 +1,6 @@
 -- What is checked of a call when it is submitted, and in which order.
 use Rattle.std.specs.Prelude.{ℕ, List, [], ◌∷◌, Option, Some, None, Bool, false}
-use Rattle.std.specs.Prelude.{◌&&◌, ◌||◌, ◌==◌, not, nat_lt, nat_le, if◌then◌else◌, length}
+use Rattle.std.specs.Prelude.{◌&&◌, ◌||◌, ◌==◌, not, nat_lt, nat_le, if◌then◌else◌, length, take}
 use Rattle.std.specs.List.{list_any}
 use Rattle.std.specs.Str.{bytes_eq}
 use Rattle.std.specs.FinMap as finmap
@@ -81,3 +81,15 @@ checks r (Clean folder) = (no_folder r folder, core.NoFolder) ∷ (too_many r, c
 -- where a call is refused, out of memory aside
 abbrev pub submit_refusal : Run → Call → Option CoreError
 submit_refusal r call = first_met (checks r call)
+
+-- where a call is refused by its checks but that of the name that it makes, which is the last
+abbrev pub early_refusal : Run → Call → Option CoreError
+early_refusal r (Deliver folder unique body chunk) = first_met (take 5 (checks r (Deliver folder unique body chunk)))
+early_refusal r (Copy folder unique to fresh tries) = first_met (take 4 (checks r (Copy folder unique to fresh tries)))
+early_refusal r call = submit_refusal r call
+
+-- where it is refused by that check, and else by want of memory
+abbrev pub late_refusal : Run → Call → CoreError
+late_refusal r (Deliver folder unique body chunk) = if is_used r unique then core.NameUsed else core.NoMemory
+late_refusal r (Copy folder unique to fresh tries) = if is_used r fresh then core.NameUsed else core.NoMemory
+late_refusal r call = core.NoMemory

@@ -73,7 +73,7 @@ module _ (first : Device) (began : ℕ) (jobs : List JobView) (events : List Eve
         is_among u used.since ≡ true
     changed-now i call at u is = world.names.changed i call at u (sym (ap (λ (m : Machine). may_change m.dirs call u) world.now) ∙ is)
 
-    used-now : (u : List ℕ) → is_used_before held.state used u ≡ is_used run u
+    pub used-now : (u : List ℕ) → is_used_before held.state used u ≡ is_used run u
     used-now u = ap (λ (m : Machine). is_used_before m.dirs used u) world.now ∙ world.names.same u
 
     still-used : (kept : Used) → KeepsMade held.state asked used kept → AreUsed (and_call run asked) kept

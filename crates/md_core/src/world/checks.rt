@@ -1,7 +1,8 @@
 //! What is checked of a call when it is submitted, and in which order.
-ghost use Rattle.std.specs.Prelude.{◌≡◌, true, false, None, Some, MatchResult};
+ghost use Rattle.std.specs.Prelude.{◌≡◌, true, false, None, Some, MatchResult, if◌then◌else◌};
 ghost use Rattle.md_jobs.specs.declared.call.Call.TheVariants.{Deliver, Move, Copy, Clean};
-ghost use Rattle.md_core.specs.Submitting.{submit_refusal, no_folder, too_many, is_used as is_used_by, bad_tries, first_met, checks_of_look_up};
+ghost use Rattle.md_jobs.specs.declared.error.CoreError.TheVariants.{NameUsed, NoMemory};
+ghost use Rattle.md_core.specs.Submitting.{early_refusal, late_refusal, submit_refusal, no_folder, too_many, is_used as is_used_by, bad_tries, first_met, checks_of_look_up};
 
 use crate::world::World;
 use crate::world::reading::holds_name;
@@ -35,9 +36,9 @@ fn is_bad_tries(tries: u64) -> bool
 }
 
 impl<D: Dirs> World<D> {
-    /// The checks of a call, out of memory aside. It is refused by the first that it meets.
+    /// The checks of a call but that of the name that it makes, which comes last. It is refused by the first that it meets.
     pub(crate) fn check_call(&self, call: &Call) -> Result<(), CoreError>
-        ensures { MatchResult result (λ _. submit_refusal self.now call.now ≡ None) (λ e. submit_refusal self.now call.now ≡ Some e) }
+        ensures { MatchResult result (λ _. early_refusal self.now call.now ≡ None) (λ e. early_refusal self.now call.now ≡ Some e) }
     {
         match call {
             Call::Deliver {
@@ -87,15 +88,14 @@ impl<D: Dirs> World<D> {
         body: &[u8],
         chunk: u64,
     ) -> Result<(), CoreError>
-        ensures { MatchResult result (λ _. submit_refusal self.now (Deliver folder unique.now body.now chunk) ≡ None)
-            (λ e. submit_refusal self.now (Deliver folder unique.now body.now chunk) ≡ Some e) }
+        ensures { MatchResult result (λ _. early_refusal self.now (Deliver folder unique.now body.now chunk) ≡ None)
+            (λ e. early_refusal self.now (Deliver folder unique.now body.now chunk) ≡ Some e) }
     {
         check(self.lacks(folder), CoreError::NoFolder)?;
         check(!is_unique_name(unique), CoreError::BadUnique)?;
         check(chunk == 0, CoreError::BadChunk)?;
         check(body.len() > MOST_BYTES, CoreError::BodyTooLong)?;
-        check(self.is_full(), CoreError::TooManyJobs)?;
-        check(self.is_used(unique), CoreError::NameUsed)
+        check(self.is_full(), CoreError::TooManyJobs)
     }
 
     fn check_move(&self, folder: u32, unique: &[u8], to: u32, tries: u64) -> Result<(), CoreError>
@@ -117,8 +117,8 @@ impl<D: Dirs> World<D> {
         fresh: &[u8],
         tries: u64,
     ) -> Result<(), CoreError>
-        ensures { MatchResult result (λ _. submit_refusal self.now (Copy folder unique.now to fresh.now tries) ≡ None)
-            (λ e. submit_refusal self.now (Copy folder unique.now to fresh.now tries) ≡ Some e) }
+        ensures { MatchResult result (λ _. early_refusal self.now (Copy folder unique.now to fresh.now tries) ≡ None)
+            (λ e. early_refusal self.now (Copy folder unique.now to fresh.now tries) ≡ Some e) }
     {
         check(self.lacks(folder) || self.lacks(to), CoreError::NoFolder)?;
         check(
@@ -126,8 +126,7 @@ impl<D: Dirs> World<D> {
             CoreError::BadUnique,
         )?;
         check(is_bad_tries(tries), CoreError::BadTries)?;
-        check(self.is_full(), CoreError::TooManyJobs)?;
-        check(self.is_used(fresh), CoreError::NameUsed)
+        check(self.is_full(), CoreError::TooManyJobs)
     }
 
     // The checks of a call that looks for one message and acts on it.
@@ -160,6 +159,28 @@ impl<D: Dirs> World<D> {
         ensures { result ≡ too_many self.now }
     {
         self.jobs.len() >= MOST_JOBS
+    }
+
+    /// Why a call is not taken that has passed these checks: the name that it makes is used, or else memory is wanting.
+    pub(crate) fn late_refusal(&self, call: &Call) -> CoreError
+        ensures { result ≡ late_refusal self.now call.now }
+    {
+        match call {
+            Call::Deliver { unique, .. } => self.refusal_by(unique.as_slice()),
+            Call::Copy { fresh, .. } => self.refusal_by(fresh.as_slice()),
+            _ => CoreError::NoMemory,
+        }
+    }
+
+    // Why a call is not taken that makes a name.
+    fn refusal_by(&self, name: &[u8]) -> CoreError
+        ensures { result ≡ (if is_used_by self.now name.now then NameUsed else NoMemory) }
+    {
+        if self.is_used(name) {
+            CoreError::NameUsed
+        } else {
+            CoreError::NoMemory
+        }
     }
 
     // Whether a name is used up.

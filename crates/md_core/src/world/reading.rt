@@ -1,11 +1,11 @@
 //! The bytes of one message, found by its unique name, and whether a name is held at all.
-ghost use Rattle.std.specs.Prelude.{◌≡◌, true, false};
+ghost use Rattle.std.specs.Prelude.{◌≡◌, ◌||◌, true, false};
 ghost use Rattle.std.specs.List.{list_any};
 ghost use Rattle.std.specs.Option.{option_map};
 ghost use Rattle.std.specs.FinMap as finmap;
 ghost use Rattle.md_dirs.specs.State.{IsSound};
 ghost use Rattle.md_core.specs.Alone.{entry_if, is_in_place};
-ghost use Rattle.md_core.specs.Gathering.{Covers, holds};
+ghost use Rattle.md_core.specs.Gathering.{Covers, is_used_before};
 ghost use Rattle.md_used.specs.Seen.{is_of, is_tmp_of};
 ghost use Rattle.md_core.specs.Mailbox.{Entry, mailbox_of, HasOnePath};
 ghost use Rattle.md_used.specs.Paths.{is_tmp};
@@ -81,12 +81,11 @@ pub(crate) fn is_held<D: Dirs>(dirs: &D, name: &[u8]) -> bool
     message_bytes(dirs, name).is_some() || is_in_tmp(dirs, name)
 }
 
-/// Whether directories use a name up, which is not among those since. They are looked at only where they may.
+/// Whether directories use a name up, for all that is asked of a name which is not among those since. They are looked at only where they may.
 pub(crate) fn holds_name<D: Dirs>(dirs: &D, used: &Used, name: &[u8]) -> bool
     requires one { HasOnePath (D.device dirs.now).state }
     requires covers { Covers (D.device dirs.now).state used.now }
-    requires early { is_among name.now used.now.since ≡ false }
-    ensures { result ≡ holds (D.device dirs.now).state name.now }
+    ensures { (is_among name.now used.now.since || result) ≡ is_used_before (D.device dirs.now).state used.now name.now }
 {
     used.may_be_held(name) && is_held(dirs, name)
 }

@@ -1,10 +1,10 @@
 //! New jobs.
-ghost use Rattle.std.specs.Prelude.{◌≡◌, ◌+◌, ◌&&◌, ◌||◌, None, length, vec_len, vec_capacity, MatchResult, IfOk, IfErr, OnOk, OnErr, ◌<◌};
+ghost use Rattle.std.specs.Prelude.{◌≡◌, ◌+◌, ◌&&◌, ◌||◌, None, not, length, vec_len, vec_capacity, MatchResult, IfOk, IfErr, OnOk, OnErr, ◌<◌};
 ghost use Rattle.md_core.specs.Runs.{and_call, effects_of, IsRefusal};
 ghost use Rattle.std.specs.Str.{bytes_eq};
 ghost use Rattle.md_core.specs.Mailbox.{HasOnePath};
 ghost use Rattle.md_core.specs.Submitting.{submit_refusal};
-ghost use Rattle.md_core.specs.Gathering.{Covers, KeepsMade, KeepsUsed, holds};
+ghost use Rattle.md_core.specs.Gathering.{Covers, KeepsTried, KeepsUsed, holds, is_used_before};
 ghost use Rattle.md_used.specs.Used.{is_among};
 ghost use Rattle.md_core.specs.Interleaving.{Interleaves};
 ghost use Rattle.md_core.specs.Tracing.{trace_of};
@@ -38,21 +38,25 @@ fn gather<D: Dirs>(alloc: Global, dirs: &D, used: &mut Used) -> Result<(), Alloc
     Ok(())
 }
 
-// Uses the name that a call makes.
+// Uses the name that a call makes, unless it is used already. Each name is hashed once, since a new one is asked for as it is added.
 fn make_name<D: Dirs>(
     alloc: Global,
     dirs: &D,
     used: &mut Used,
     name: &[u8],
-) -> Result<(), AllocError>
-    requires { Covers (D.device dirs.now).state used.old }
+) -> Result<bool, AllocError>
+    requires one { HasOnePath (D.device dirs.now).state }
+    requires covers { Covers (D.device dirs.now).state used.old }
     ensures covers { Covers (D.device dirs.now).state used.new }
-    ensures ok { OnOk result ((u : _) → is_among u used.new.since ≡ (bytes_eq name.now u || is_among u used.old.since)) }
+    ensures free { IfOk result (λ is_free. is_free ≡ not (is_used_before (D.device dirs.now).state used.old name.now)) }
+    ensures ok { IfOk result (λ is_free. (u : _) → is_among u used.new.since ≡ (is_free && bytes_eq name.now u || is_among u used.old.since)) }
     ensures err { OnErr result (used.new.since ≡ used.old.since) }
 {
+    if holds_name(dirs, used, name) {
+        return Ok(false);
+    }
     gather(alloc, dirs, used)?;
-    used.since.insert(name)?;
-    Ok(())
+    used.since.insert(name)
 }
 
 // Uses the name of a message that an expunge may take away, if the directories use it.
@@ -70,47 +74,52 @@ fn take_name<D: Dirs>(dirs: &D, used: &mut Used, name: &[u8]) -> Result<(), Allo
     Ok(())
 }
 
-// Uses the name that a call makes, and those that it may take away: what directories use later is told by these and by a look.
+// Uses the name that a call makes, if nothing uses it, and those that it may take away: what directories use later is told by these and by
+// a look.
 fn keep_names<D: Dirs>(
     alloc: Global,
     dirs: &D,
     used: &mut Used,
     call: &Call,
-) -> Result<(), AllocError>
+) -> Result<bool, AllocError>
     requires one { HasOnePath (D.device dirs.now).state }
     requires covers { Covers (D.device dirs.now).state used.old }
-    ensures ok { OnOk result (KeepsMade (D.device dirs.now).state call.now used.old used.new) }
+    ensures ok { IfOk result (KeepsTried (D.device dirs.now).state call.now used.old used.new) }
     ensures err { OnErr result (KeepsUsed (D.device dirs.now).state used.old used.new) }
 {
     used.merge()?;
     match call {
         Call::Deliver { unique, .. } => make_name(alloc, dirs, used, unique.as_slice()),
         Call::Copy { fresh, .. } => make_name(alloc, dirs, used, fresh.as_slice()),
-        Call::Expunge { unique, .. } => take_name(dirs, used, unique.as_slice()),
-        Call::Clean { folder } => use_tmp(alloc, dirs, *folder, &mut used.since),
-        Call::Seen { .. } | Call::Flag { .. } | Call::Move { .. } => Ok(()),
+        Call::Expunge { unique, .. } => {
+            take_name(dirs, used, unique.as_slice())?;
+            Ok(true)
+        }
+        Call::Clean { folder } => {
+            use_tmp(alloc, dirs, *folder, &mut used.since)?;
+            Ok(true)
+        }
+        Call::Seen { .. } | Call::Flag { .. } | Call::Move { .. } => Ok(true),
     }
 }
 
-// Makes room for the job, and uses the names of its call.
+// Makes room for the job, and uses the names of its call, unless the one that it makes is used.
 fn prepare<D: Dirs>(
     alloc: Global,
     dirs: &D,
     jobs: &mut Vec<Job>,
     used: &mut Used,
     call: &Call,
-) -> Result<(), CoreError>
+) -> Result<bool, AllocError>
     requires one { HasOnePath (D.device dirs.now).state }
     requires covers { Covers (D.device dirs.now).state used.old }
     ensures jobs { jobs.new.items ≡ jobs.old.items }
     ensures room { OnOk result (vec_len jobs.new < vec_capacity jobs.new) }
-    ensures ok { OnOk result (KeepsMade (D.device dirs.now).state call.now used.old used.new) }
-    ensures memory { IfErr result (λ e. e ≡ CoreError.NoMemory) }
+    ensures ok { IfOk result (KeepsTried (D.device dirs.now).state call.now used.old used.new) }
     ensures err { OnErr result (KeepsUsed (D.device dirs.now).state used.old used.new) }
 {
     make_room(jobs)?;
-    keep_names(alloc, dirs, used, call)?;
-    Ok(())
+    keep_names(alloc, dirs, used, call)
 }
 
 impl<D: Dirs> World<D> {
@@ -137,9 +146,10 @@ impl<D: Dirs> World<D> {
             &mut self.used,
             &call,
         );
-        if let Err(error) = prepared {
+        let Ok(true) = prepared else {
+            let error = self.late_refusal(&call);
             return Err(SubmitRefused { error, call });
-        }
+        };
         self.jobs.push_reserved(Job::new(self.alloc, call));
         Ok(self.jobs.len() as u64)
     }
