@@ -17,7 +17,7 @@ from deolmutt._numbers import OK
 from deolmutt.judging import Finding, Lines, Log
 
 EXAMPLES = TOP / "crates/judge_examples/data"
-PROGRAMS = TOP / "crates/md_findings/src/why.rt"
+PROGRAMS = TOP / "crates/md_log/src/clause.rt"
 
 GONE = "a message leaves its folder without the flag T"
 LOG = ["maildir_log 1", "folder i", "file i/cur/u:2,S 1", "10 p unlink i/cur/u:2,S ok"]

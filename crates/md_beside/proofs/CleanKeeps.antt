@@ -9,7 +9,7 @@ use Rattle.md_core.specs.Interleaving.{IsDeliveryOf}
 use Rattle.md_core.specs.Mailbox.{HasOnePath}
 use Rattle.md_log.specs.declared.clause.Clause.{Clause}
 use Rattle.md_law.specs.Law.{Breaks}
-use Rattle.md_law.specs.Owed.{MadeAgain, WrittenLate}
+use Rattle.md_law.specs.Law.{MadeAgain, WrittenLate}
 use Rattle.md_beside.specs.Story.{Story, Step, ours, step_at, state, history, standing}
 use Rattle.md_beside.specs.Beside.{IsStory, IsAnswered, IsClean, Says}
 use Rattle.md_beside.specs.Jobs.{AreUsedOnce, AreTimely, MayBreak, KeepsPromise}

@@ -29,7 +29,7 @@ use Rattle.md_log.specs.declared.clause.Clause.{Clause}
 use Rattle.md_log.specs.declared.clause.Clause.TheVariants as clause
 use Rattle.md_law.specs.Clauses.{NotADirectory, CleanedEarly, Unlisted}
 use Rattle.md_law.specs.Law.{Breaks}
-use Rattle.md_law.specs.Owed.{MadeAgain, WrittenLate}
+use Rattle.md_law.specs.Law.{MadeAgain, WrittenLate}
 use Rattle.md_beside.specs.Story.{Story, Step, Did, asked, ours, step_at, state, state_after, box, history, standing, standing_from, standing_after, IsTurn}
 use Rattle.md_beside.specs.Beside.{IsStory, IsClean, Says, reply_due}
 use Rattle.md_beside.specs.Jobs.{AreUsedOnce, AreTimely, MayBreak}

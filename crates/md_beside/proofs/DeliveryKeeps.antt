@@ -15,7 +15,7 @@ use Rattle.md_core.specs.Machine.{Standing, working, answered}
 use Rattle.md_core.specs.Mailbox.{Entry, HasOnePath, mailbox_of}
 use Rattle.md_log.specs.declared.clause.Clause.{Clause}
 use Rattle.md_law.specs.Law.{Breaks}
-use Rattle.md_law.specs.Owed.{WrittenLate}
+use Rattle.md_law.specs.Law.{WrittenLate}
 use Rattle.md_beside.specs.Story.{Story, Step, ours, step_at, state, state_after, box, history, standing}
 use Rattle.md_beside.specs.Beside.{IsStory, IsAnswered, IsWholeOf, AreApart, Says}
 use Rattle.md_beside.specs.Jobs.{AreSparing, MayBreak, KeepsPromise}

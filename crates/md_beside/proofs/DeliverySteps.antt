@@ -21,7 +21,7 @@ use Rattle.md_core.proofs.Worlds.UniqueNames.{unique_name}
 use Rattle.md_log.specs.declared.clause.Clause.{Clause}
 use Rattle.md_log.specs.declared.clause.Clause.TheVariants as clause
 use Rattle.md_law.specs.Law.{Breaks}
-use Rattle.md_law.specs.Owed.{WrittenLate}
+use Rattle.md_law.specs.Law.{WrittenLate}
 use Rattle.md_beside.specs.Story.{Story, Step, asked, ours, step_at, state, state_after, history, standing, standing_from, standing_after, IsTurn}
 use Rattle.md_beside.specs.Beside.{IsStory, IsClean, Says}
 use Rattle.md_beside.specs.Jobs.{MayBreak}

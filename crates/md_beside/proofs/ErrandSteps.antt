@@ -35,7 +35,7 @@ use Rattle.md_core.proofs.Machines.Errand.Table.Says.{alone-none}
 use Rattle.md_core.proofs.Machines.Stays.{as_after}
 use Rattle.md_log.specs.declared.clause.Clause.{Clause}
 use Rattle.md_law.specs.Law.{Breaks}
-use Rattle.md_law.specs.Owed.{WrittenLate}
+use Rattle.md_law.specs.Law.{WrittenLate}
 use Rattle.md_beside.specs.Story.{Story, Step, Did, after_did, asked, ours, step_at, state, state_after, box, history, standing, standing_from, standing_after, IsTurn}
 use Rattle.md_beside.specs.Beside.{IsStory, IsClean, IsStepOf, IsInSpan, IsOfSpan, Says, BringsAbout, reply_due}
 use Rattle.md_beside.specs.Jobs.{LooksInBoth, AreUsedOnce, MayBreak}

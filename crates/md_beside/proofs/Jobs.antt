@@ -10,7 +10,7 @@ use Rattle.md_core.specs.Mailbox.{HasOnePath}
 use Rattle.md_core.proofs.Lists.Places.{get-take}
 use Rattle.md_log.specs.declared.clause.Clause.TheVariants as clause
 use Rattle.md_law.specs.Clauses.{MovedBack, CleanedEarly}
-use Rattle.md_law.specs.Owed.{UsedTwice, MadeAgain, WrittenLate}
+use Rattle.md_law.specs.Law.{UsedTwice, MadeAgain, WrittenLate}
 use Rattle.md_beside.specs.Story.{Story, Step, ours, step_at, step_seen, actor_seen, state, state_after, history, standing}
 use Rattle.md_beside.specs.Beside.{IsStory, IsAtWork, AreOurs, BringsAbout, IsClean}
 use Rattle.md_beside.specs.Jobs.{AreLawful, AreSparing, AreTimely, AreForward, AreUsedOnce, KeepsPromise, JobsBeside}

@@ -25,8 +25,8 @@ use Rattle.md_law.specs.Files.{Names, Writes, IsMaker, WasInCur}
 use Rattle.md_law.specs.History.{History, opening, next, at, IsCall, IsBy, Once}
 use Rattle.md_law.specs.Law.{Breaks}
 use Rattle.md_law.specs.Messages.{IsSeen, IsThere, IsMessageAt}
-use Rattle.md_law.specs.Owed as owed
-use Rattle.md_law.specs.Owed.{InTwoFolders}
+use Rattle.md_law.specs.Law as owed
+use Rattle.md_law.specs.Law.{InTwoFolders}
 use Rattle.md_beside.specs.Story.{Story, Step, Did, asked, ours, step_at, state, history, actor_seen, call_seen, reply_seen, step_seen}
 use Rattle.md_beside.specs.Beside.{IsStory, BringsAbout}
 use Rattle.md_beside.proofs.Fresh.{NeverThere, NeverUsed, IsWhole}

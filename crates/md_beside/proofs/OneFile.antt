@@ -6,7 +6,7 @@ use Rattle.md_dirs.specs.declared.paths.Path.{Path}
 use Rattle.md_core.specs.Mailbox.{HasOnePath}
 use Rattle.md_law.specs.History.{History, Moment, opening, next, moment, at, Once}
 use Rattle.md_law.specs.Messages.{IsThere, IsMessageAt}
-use Rattle.md_law.specs.Owed.{WasOf, UsedTwice}
+use Rattle.md_law.specs.Law.{WasOf, UsedTwice}
 use Rattle.md_log.specs.declared.line.Step.{Step as Seen}
 use Rattle.md_beside.specs.Story.{Story, Step, step_at, step_seen, state, history, without_bytes}
 use Rattle.md_beside.specs.Beside.{IsStory}

@@ -10,7 +10,7 @@ use Rattle.md_core.specs.Mailbox.{HasOnePath}
 use Rattle.md_used.specs.Paths.{is_message}
 use Rattle.md_law.specs.Clauses.{TwoNames}
 use Rattle.md_law.specs.History.{History, at, before}
-use Rattle.md_law.specs.Owed.{InTwoFolders}
+use Rattle.md_law.specs.Law.{InTwoFolders}
 use Rattle.md_beside.specs.Story.{Story, Step, step_at, state, state_after}
 use Rattle.md_beside.specs.Beside.{IsStory}
 use Rattle.md_beside.proofs.Histories.{next_at, history-next, at-history}

@@ -20,7 +20,7 @@ use Rattle.md_law.specs.Clauses.{MakesMessage as MakesEmpty, WritesSeen, ShowsCu
 use Rattle.md_law.specs.Files.{Names, Adds, BeginsToBeSeen, Writes}
 use Rattle.md_law.specs.History.{History, at, IsCall, Once}
 use Rattle.md_law.specs.Messages.{IsSeen, IsThere, IsTrashed, IsMessageAt}
-use Rattle.md_law.specs.Owed as owed
+use Rattle.md_law.specs.Law as owed
 use Rattle.md_beside.specs.Story.{Story, Step, step_at, state, history}
 use Rattle.md_beside.specs.Beside.{IsStory, IsClean, BringsAbout}
 use Rattle.md_beside.specs.Jobs.{IsMove, AreUsedOnce, MayBreak}

@@ -22,7 +22,7 @@ use Rattle.md_core.proofs.Answers.Files.Listed.{has-old, listed-file}
 use Rattle.md_core.proofs.Values.{stamp_of}
 use Rattle.md_law.specs.Clauses.{CleanedEarly}
 use Rattle.md_law.specs.History.{History, next, at, now, Once}
-use Rattle.md_law.specs.Owed.{MadeAgain, WrittenLate}
+use Rattle.md_law.specs.Law.{MadeAgain, WrittenLate}
 use Rattle.md_log.specs.declared.line.Step.{Step as Seen}
 use Rattle.md_beside.specs.Story.{Story, Step, asked, step_at, step_seen, after_did, state, history, bare_file}
 use Rattle.md_beside.specs.Beside.{IsStory}

@@ -30,7 +30,7 @@ use Rattle.md_log.specs.declared.line.Deed.TheVariants as deed
 use Rattle.md_law.specs.Clauses.{CleanedEarly}
 use Rattle.md_law.specs.History.{History, at, now}
 use Rattle.md_law.specs.Messages.{IsSeen}
-use Rattle.md_law.specs.Owed.{WrittenLate}
+use Rattle.md_law.specs.Law.{WrittenLate}
 use Rattle.md_beside.specs.Story.{Story, Step, Did, asked, ours, step_at, step_seen, after_did, state, history, bare_file}
 use Rattle.md_beside.specs.Beside.{IsStory, reply_due}
 use Rattle.md_beside.proofs.Histories.{next_at, state-more, history-next, at-history, path-history, path-next, clock-before, clock-next}

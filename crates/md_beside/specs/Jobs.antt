@@ -14,7 +14,7 @@ use Rattle.md_log.specs.declared.clause.Clause.TheVariants as clause
 use Rattle.md_law.specs.Clauses as law
 use Rattle.md_law.specs.History.{History}
 use Rattle.md_law.specs.Law.{Breaks}
-use Rattle.md_law.specs.Owed as owed
+use Rattle.md_law.specs.Law as owed
 use Rattle.md_beside.specs.Story.{Story, Step, ours, another, step_at, state, box, history}
 use Rattle.md_beside.specs.Beside.{IsStory, IsAtWork, AreOurs, AreApart, IsAnswered, Acts, IsClean, Says, IsWholeOf}
 

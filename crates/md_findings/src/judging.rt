@@ -4,7 +4,6 @@ use crate::lines::judge_lines;
 use crate::page::Page;
 use crate::shown::Shown;
 use crate::summary::Tally;
-use crate::why::why;
 use crate::words::{Judging, Rules};
 use md_command::{Failure, Host, Session, Status, Trouble, open_to_read};
 use md_judge::Session as Judge;
@@ -89,7 +88,7 @@ fn show<R: Host>(
                 call,
                 clause: finding.clause.name(),
                 grade,
-                why: why(finding.clause),
+                why: finding.clause.why(),
                 before: finding.before,
             };
             page.put(session, &shown)?;
@@ -104,7 +103,7 @@ fn show<R: Host>(
 fn expected(alloc: Global, rules: &Rules<'_>) -> Result<Tally, AllocError> {
     let mut tally = Tally::new(alloc);
     for clause in rules.clauses() {
-        tally.expect(clause.name(), why(*clause))?;
+        tally.expect(clause.name(), clause.why())?;
     }
     Ok(tally)
 }

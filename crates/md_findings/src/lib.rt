@@ -11,7 +11,6 @@ mod relied;
 mod shown;
 mod summary;
 mod text;
-mod why;
 mod words;
 
 pub use judging::judged;

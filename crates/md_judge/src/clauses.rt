@@ -3,19 +3,21 @@ ghost use Rattle.std.specs.Prelude.{◌≡◌, ◌↔◌, ◌⊎◌, IsTrue};
 ghost use Rattle.md_log.specs.declared.clause.Clause.{Clause};
 ghost use Rattle.md_judge.specs.Clauses.{Has};
 
-use md_log::Clause;
+use md_log::{CLAUSES, Clause};
 
 /// A set of clauses.
 #[derive(Clone, Copy)]
 pub(crate) struct Clauses {
-    has: [bool; 19],
+    has: [bool; CLAUSES.len()],
 }
 
 impl Clauses {
     pub(crate) fn none() -> Self
         ensures { (c : Clause) → Has result c → ⊥ }
     {
-        Clauses { has: [false; 19] }
+        Clauses {
+            has: [false; CLAUSES.len()],
+        }
     }
 
     pub(crate) fn add(&mut self, clause: Clause)

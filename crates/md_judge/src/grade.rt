@@ -57,15 +57,11 @@ pub(crate) fn grade_of(clause: Clause, step: &Step, broken: &Broken) -> Grade
         Clause::AnsweredFalsely => grade_of_answer(step),
         // A reader takes a part of the message for the whole, or doesn't see one.
         Clause::SeenBeforeWhole | Clause::Unlisted => Grade::Misled,
-        // Only a crash of the machine takes what was not flushed, and who hands mail over forgets it.
-        Clause::NotFlushed => Grade::Owed,
-        // Who goes by unique names, by tmp or by new relies on it.
-        Clause::Mixed | Clause::TwoNames | Clause::UsedAgain | Clause::MovedBack => Grade::Owed,
-        Clause::InTwoFolders | Clause::UsedTwice | Clause::MadeAgain => Grade::Owed,
-        // Who delivers or cleans relies on it.
-        Clause::NamedByAnother | Clause::Rewritten | Clause::WrittenLate => Grade::Owed,
         // What was said may be so by the other program's doing. If not, AnsweredFalsely is found too.
         Clause::GaveUp => Grade::Custom,
+        // Who delivers, cleans, or goes by unique names, by tmp or by new relies on it, and who hands mail over on what is flushed: a crash of
+        // the machine takes the rest.
+        _ => Grade::Owed,
     }
 }
 

@@ -6,7 +6,7 @@ ghost use Rattle.md_log.specs.declared.error.LineFault.TheVariants.{NoMemory};
 ghost use Rattle.md_log.specs.Folders.{with_folder};
 ghost use Rattle.md_law.specs.History.{History, Moment, opening, next};
 ghost use Rattle.md_law.specs.Law.{Breaks};
-ghost use Rattle.md_watch.specs.Clauses.{breaks};
+ghost use Rattle.md_watch.specs.Found.{breaks};
 ghost use Rattle.md_watch.specs.Watches.{Holds, PutsFile, PutsName, IsPathRefused, IsNameRefused, with_folder as with_more};
 ghost use Rattle.md_judge.specs.declared.stretch.Waiting.{Waiting};
 ghost use Rattle.md_judge.specs.Clauses.{Has};

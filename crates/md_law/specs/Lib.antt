@@ -5,4 +5,3 @@ pub mod Readings
 pub mod Answers
 pub mod Clauses
 pub mod Law
-pub mod Owed

@@ -50,6 +50,28 @@ clause_text clause.UsedTwice = codes "UsedTwice"
 clause_text clause.MadeAgain = codes "MadeAgain"
 clause_text clause.WrittenLate = codes "WrittenLate"
 
+-- why a step that breaks it is wrong
+abbrev pub clause_why : Clause → List ℕ
+clause_why clause.NotADirectory = codes "no directory gives this reply, or the log lacks a step before"
+clause_why clause.Overwritten = codes "a path names another file than before, so what it named may be lost"
+clause_why clause.SeenBeforeWhole = codes "readers see a message that is not written whole"
+clause_why clause.Mixed = codes "a file is written to by another program than made it"
+clause_why clause.NotFlushed = codes "readers see bytes that were not flushed: a crash may lose them"
+clause_why clause.TwoNames = codes "a message has two names in its folder, and is shown twice"
+clause_why clause.Gone = codes "a message leaves its folder without the flag T"
+clause_why clause.UsedAgain = codes "a unique name is used for a second message"
+clause_why clause.MovedBack = codes "a message that was read is in new again"
+clause_why clause.CleanedEarly = codes "a file in tmp is taken from a program that may still write it"
+clause_why clause.Unlisted = codes "a listing lacks a message that was there all the while"
+clause_why clause.GaveUp = codes "a call was refused, and the program reports success without another look"
+clause_why clause.AnsweredFalsely = codes "what the program reports is not so"
+clause_why clause.InTwoFolders = codes "a message has the unique name of one in another folder"
+clause_why clause.NamedByAnother = codes "a file that no reader sees is named by another program than made it"
+clause_why clause.Rewritten = codes "a file is written to that readers have seen"
+clause_why clause.UsedTwice = codes "a unique name is used for a second message"
+clause_why clause.MadeAgain = codes "a name in tmp is used for a second file"
+clause_why clause.WrittenLate = codes "a file is written to that nobody has written to for 36 hours"
+
 -- the clauses of the law, in its order
 abbrev pub law : List Clause
 law =

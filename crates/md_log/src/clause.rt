@@ -1,6 +1,6 @@
 //! The clauses of the law, and those that are owed beside it.
 ghost use Rattle.std.specs.Prelude.{◌≡◌, ◌<◌};
-ghost use Rattle.md_log.specs.Texts.{clause_text, clause_index, clause_named};
+ghost use Rattle.md_log.specs.Texts.{clause_text, clause_why, clause_index, clause_named};
 
 /// What a step may break. The order is that of findings at one line: the thirteen clauses of the law come first, and then those that programs
 /// owe each other beside it (docs/LAW.md).
@@ -125,6 +125,37 @@ impl Clause {
             Clause::UsedTwice => "UsedTwice",
             Clause::MadeAgain => "MadeAgain",
             Clause::WrittenLate => "WrittenLate",
+        }
+    }
+
+    /// Why a step that breaks it is wrong, in one sentence.
+    pub fn why(self) -> &'static str
+        ensures { result.now ≡ clause_why self }
+    {
+        match self {
+            Clause::NotADirectory =>
+                "no directory gives this reply, or the log lacks a step before",
+            Clause::Overwritten =>
+                "a path names another file than before, so what it named may be lost",
+            Clause::SeenBeforeWhole => "readers see a message that is not written whole",
+            Clause::Mixed => "a file is written to by another program than made it",
+            Clause::NotFlushed => "readers see bytes that were not flushed: a crash may lose them",
+            Clause::TwoNames => "a message has two names in its folder, and is shown twice",
+            Clause::Gone => "a message leaves its folder without the flag T",
+            Clause::UsedAgain => "a unique name is used for a second message",
+            Clause::MovedBack => "a message that was read is in new again",
+            Clause::CleanedEarly => "a file in tmp is taken from a program that may still write it",
+            Clause::Unlisted => "a listing lacks a message that was there all the while",
+            Clause::GaveUp =>
+                "a call was refused, and the program reports success without another look",
+            Clause::AnsweredFalsely => "what the program reports is not so",
+            Clause::InTwoFolders => "a message has the unique name of one in another folder",
+            Clause::NamedByAnother =>
+                "a file that no reader sees is named by another program than made it",
+            Clause::Rewritten => "a file is written to that readers have seen",
+            Clause::UsedTwice => "a unique name is used for a second message",
+            Clause::MadeAgain => "a name in tmp is used for a second file",
+            Clause::WrittenLate => "a file is written to that nobody has written to for 36 hours",
         }
     }
 

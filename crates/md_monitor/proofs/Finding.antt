@@ -1,5 +1,5 @@
 -- What a monitor finds by files is what the law has.
-use Rattle.std.proofs.Common.{ℕ, ◌≡◌, inl, inr, ◌&&◌, ◌-◌, ◌<◌, Some, Bool, true, refl, sym, ap, subst, ◌∙◌}
+use Rattle.std.proofs.Common.{ℕ, ◌≡◌, inl, inr, ◌-◌, ◌<◌, Some, Bool, true, refl, sym, ap, subst, ◌∙◌}
 use Rattle.std.specs.Bool.{Decides}
 use Rattle.std.proofs.lemmas.Bool.Decides.{Decides-and, Decides-or, Decides-not, Decides-like, Decides-ltb}
 use Rattle.md_dirs.specs.State.{file_by}

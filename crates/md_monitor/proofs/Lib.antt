@@ -8,7 +8,6 @@ pub mod Once
 pub mod Keeping
 pub mod Telling
 pub mod Finding
-pub mod Owing
 pub mod Pairs
 pub mod Remembering
 pub mod Noticing

@@ -17,8 +17,8 @@ use Rattle.md_law.specs.History.{History, opening, next, at, now, moment, IsCall
 use Rattle.md_law.specs.Messages.{is_message, IsOf, IsMessageAt, IsThere, IsTrashed}
 use Rattle.md_law.specs.Files.{Adds}
 use Rattle.md_law.specs.Clauses as law
-use Rattle.md_law.specs.Owed as owed
-use Rattle.md_law.specs.Owed.{WasOf}
+use Rattle.md_law.specs.Law as owed
+use Rattle.md_law.specs.Law.{WasOf}
 use Rattle.md_monitor.specs.Changes.{change_of, with_file}
 use Rattle.md_monitor.specs.Messages as found
 use Rattle.md_monitor.specs.Messages.{messages_kept, is_of, is_of_any, is_there, empties_trash}

@@ -17,7 +17,7 @@ use Rattle.md_name.specs.Names.{unique_of}
 use Rattle.md_log.specs.declared.line.Step.{Step}
 use Rattle.md_law.specs.History.{Moment, History, opening, next, at, moment, Once}
 use Rattle.md_law.specs.Messages.{is_message, is_tmp, IsOf, IsMessageAt, IsThere}
-use Rattle.md_law.specs.Owed.{WasOf}
+use Rattle.md_law.specs.Law.{WasOf}
 use Rattle.md_monitor.specs.Changes.{change_of, is_file}
 use Rattle.md_monitor.specs.Files.{is_some_and}
 use Rattle.md_monitor.specs.Messages.{PathKept, no_path, MessagesKept, is_of, is_of_any, messages_kept, messages_first, messages_after, path_after, path_named, named_other}

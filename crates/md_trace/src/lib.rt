@@ -6,6 +6,6 @@ mod noted;
 mod rows;
 mod steps;
 mod text;
-mod trace;
+mod tracing;
 
-pub use trace::trace;
+pub use tracing::trace;

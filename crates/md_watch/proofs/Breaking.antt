@@ -16,7 +16,7 @@ use Rattle.md_watch.specs.declared.memory.Heard.{Heard}
 use Rattle.md_watch.specs.declared.memory.Memory.{Memory}
 use Rattle.md_watch.specs.declared.watch.Watch.{Watch}
 use Rattle.md_kept.specs.Changes.{Turn, turn_by, file_in}
-use Rattle.md_watch.specs.Clauses.{breaks}
+use Rattle.md_watch.specs.Found.{breaks}
 use Rattle.md_kept.specs.Replies.{is_wrong}
 use Rattle.md_watch.specs.Found as found
 use Rattle.md_watch.specs.Memory as memories

@@ -3,7 +3,6 @@ pub mod Spells
 pub mod Readings
 pub mod Claims
 pub mod Flagged
-pub mod Clauses
 pub mod Found
 pub mod Watches
 pub mod Presences

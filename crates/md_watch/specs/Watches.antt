@@ -23,7 +23,7 @@ use Rattle.md_kept.specs.declared.messages.Messages.{Messages}
 use Rattle.md_kept.specs.declared.drafts.Drafts.{Drafts}
 use Rattle.md_watch.specs.declared.broken.Broken.{Broken}
 use Rattle.md_watch.specs.declared.watch.Watch.{Watch}
-use Rattle.md_watch.specs.Clauses.{breaks}
+use Rattle.md_watch.specs.Found.{breaks}
 use Rattle.md_kept.specs.Changes.{Turn, file_in, after_turn}
 use Rattle.md_kept.specs.Files as files
 use Rattle.md_kept.specs.Messages as messages

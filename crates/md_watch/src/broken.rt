@@ -1,6 +1,6 @@
 //! Which clauses a step breaks.
 ghost use Rattle.std.specs.Prelude.{◌≡◌};
-ghost use Rattle.md_watch.specs.Clauses.{breaks};
+ghost use Rattle.md_watch.specs.Found.{breaks};
 
 use crate::memory::Heard;
 use md_log::Clause;

@@ -3,7 +3,7 @@ use Rattle.md_law.specs.History.{next}
 use Rattle.md_law.specs.Law.{Breaks}
 use Rattle.md_log.specs.declared.clause.Clause.{Clause}
 use Rattle.md_log.specs.declared.clause.Clause.TheVariants as clause
-use Rattle.md_watch.specs.Clauses.{breaks}
+use Rattle.md_watch.specs.Found.{breaks}
 use Rattle.md_watch.specs.Watches.{Holds}
 use Rattle.md_log.specs.Texts.{clauses}
 use Rattle.md_judge.specs.declared.clauses.Clauses.{Clauses}

@@ -1,6 +1,6 @@
 use Rattle.std.proofs.Common.{◌≡◌, true}
 use Rattle.md_log.specs.declared.clause.Clause.{Clause}
-use Rattle.md_watch.specs.Clauses.{breaks}
+use Rattle.md_watch.specs.Found.{breaks}
 use Rattle.md_judge.specs.Clauses.{Has}
 use Rattle.md_judge.specs.Verdict.{AreEarlier, AreInOrder}
 use Rattle.md_judge.specs.Placed.{AreInOrderAtLines, AreBelowAtLine, AddsFinding, KeepsHead}

@@ -1,5 +1,5 @@
 use Rattle.std.proofs.Common.{◌≡◌, true, refl, sym, ◌∙◌}
-use Rattle.md_watch.specs.Clauses.{breaks}
+use Rattle.md_watch.specs.Found.{breaks}
 use Rattle.md_judge.specs.Clauses.{Has}
 use Rattle.md_judge.proofs.AtLines.{one-at-lines}
 use Rattle.md_judge.proofs.Ordered.{one-ordered}
