@@ -32,7 +32,7 @@ use Rattle.md_beside.specs.Beside.{IsStory, BringsAbout}
 use Rattle.md_beside.proofs.Fresh.{NeverThere, NeverUsed, IsWhole}
 use Rattle.md_beside.proofs.Histories.{next_at, history-next, path-history, path-next}
 use Rattle.md_beside.proofs.OneMaker.{maker-still}
-use Rattle.md_beside.proofs.Replies.{call-made, gives-up-nothing, answers-nothing}
+use Rattle.md_beside.proofs.Replies.{call-made, tells-nothing}
 
 -- What a step of ours keeps that may bring its own names about and no other, by what it does to paths: clauses, but those that it may
 -- break, and the names of others.
@@ -359,8 +359,8 @@ module _ (t : Story) (story : IsStory t) (k : ℕ) (x : Step) (is : step_at t k 
       keeps-clause clause.MovedBack not broken = keeps.not_back broken
       keeps-clause clause.CleanedEarly not broken = keeps.not_early not broken
       keeps-clause clause.Unlisted not broken = rest.listed not broken
-      keeps-clause clause.GaveUp not broken = gives-up-nothing t k x broken
-      keeps-clause clause.AnsweredFalsely not broken = answers-nothing t k x broken
+      keeps-clause clause.GaveUp not broken = tells-nothing t k x broken.0 broken.1 broken.2
+      keeps-clause clause.AnsweredFalsely not broken = tells-nothing t k x broken.0 broken.1 broken.2
       keeps-clause clause.InTwoFolders not broken = not_in_two_folders one broken
       keeps-clause clause.NamedByAnother not broken = keeps.unnamed broken
       keeps-clause clause.Rewritten not broken = keeps.unwritten broken

@@ -17,7 +17,7 @@ use Rattle.md_log.specs.declared.line.Reply.TheVariants as answered
 use Rattle.md_log.specs.declared.line.Said.{Said}
 use Rattle.md_log.specs.declared.line.Step.{Step as Seen}
 use Rattle.md_law.specs.Answers.{Claim, Tells}
-use Rattle.md_law.specs.Clauses.{reply_by, IsWrongReply, IsWrongCall, NotADirectory, Unlisted, GaveUp, AnsweredFalsely}
+use Rattle.md_law.specs.Clauses.{reply_by, IsWrongReply, IsWrongCall, NotADirectory, Unlisted}
 use Rattle.md_law.specs.History.{History, opening, next, at, IsCall, IsUpTo, Once}
 use Rattle.md_law.specs.Readings.{Read, read_of, with_call}
 use Rattle.md_beside.specs.Story.{Story, Step, Did, asked, wrote, flushed, step_at, state, history, call_seen, reply_seen, step_seen, without_bytes}
@@ -119,7 +119,8 @@ no-answer s (asked (list f place)) r said folder unique is = cc
 no-answer s (wrote p bytes) r said folder unique is = cc
 no-answer s (flushed p) r said folder unique is = cc
 
-tells-nothing : (t : Story) (k : ℕ) (x : Step) (c : Claim) (said : Said) → Tells (next_at t k x) c said → ⊥
+-- no step of a story is an answer
+pub tells-nothing : (t : Story) (k : ℕ) (x : Step) (c : Claim) (said : Said) → Tells (next_at t k x) c said → ⊥
 tells-nothing t k x c said tells = no-answer (state t k) x.did (reply_seen x.reply) said c.folder c.unique
     (call-made t k x (told.Answer said c.folder c.unique) tells.1)
 
@@ -145,10 +146,3 @@ module _ (t : Story) (story : IsStory t) (k : ℕ) (x : Step) (is : step_at t k 
       let part = listing.reads.1 in
       no-list (state t k) a (reply_seen x.reply) plain folder place answered.Ok part.0
       (sym made ∙ call-made t k x (told.List folder place answered.Ok part.0) part.1.1)
-
--- no step of a story is an answer
-pub gives-up-nothing : (t : Story) (k : ℕ) (x : Step) → GaveUp (next_at t k x) → ⊥
-gives-up-nothing t k x broken = tells-nothing t k x broken.0 broken.1 broken.2
-
-pub answers-nothing : (t : Story) (k : ℕ) (x : Step) → AnsweredFalsely (next_at t k x) → ⊥
-answers-nothing t k x broken = tells-nothing t k x broken.0 broken.1 broken.2
