@@ -11,7 +11,8 @@ use std::io::{Error, Read};
 // The most bytes of a name.
 const MOST_NAME: usize = 65_536;
 
-/// The names in a directory but `.` and `..`, in order of their bytes, of one reading.
+/// The names in a directory but `.` and `..`, in order of their bytes, of one reading. Refused as `NoDirectory`, `Unread`, `NoRights` or
+/// `NoMemory`.
 pub fn names_of<R: Host>(session: &Session<'_, R>, path: &str) -> Result<Vec<Vec<u8>>, Failure> {
     // Behind a slash the system follows a symlink to a directory.
     let whole = format!(in session.alloc; "{path}/")?;
@@ -58,7 +59,8 @@ pub fn path_in(alloc: Global, dir: &str, name: &[u8]) -> Result<Vec<u8>, AllocEr
     Ok(path)
 }
 
-/// The message that a regular file is.
+/// The message that a regular file is. Refused as `NotText` for a path that is not UTF-8, as `NotAFile`, as `TooLong` past 16 MiB, and as
+/// `Unread`, `NoRights` or `NoMemory`.
 pub fn message_of<R: Host>(session: &Session<'_, R>, path: &[u8]) -> Result<Vec<u8>, Failure> {
     let Ok(path) = std::str::from_utf8(path) else {
         return Err(Failure::from(Trouble::NotText));

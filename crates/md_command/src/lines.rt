@@ -52,7 +52,8 @@ impl<R: Read + Drop> Lines<R> {
         })
     }
 
-    /// Reads the next line, with the byte that ends it: the last one may have none.
+    /// Reads the next line, with the byte that ends it: the last one may have none. One of more than `most` bytes is passed over. An
+    /// interrupted read is made again; any other error, and lack of memory, ends the call.
     pub fn next(&mut self, line: &mut Vec<u8>, most: usize) -> io::Result<Line> {
         line.clear();
         let mut kind = Line::End;

@@ -5,7 +5,7 @@ use crate::trouble::Trouble;
 use std::io;
 use std::io::Write;
 
-/// Writes bytes to standard output, whole.
+/// Writes bytes to standard output, whole. Refused as `Unwritten`, `NoRights` or `NoMemory`; a part may then be written.
 pub fn print<R: Host>(session: &Session<'_, R>, bytes: &[u8]) -> Result<(), Failure> {
     match io::writer(session.host).write_all(bytes) {
         Ok(()) => Ok(()),

@@ -27,7 +27,7 @@ pub struct Session<'r, R: Host> {
 
 impl<'r, R: Host> Session<'r, R> {
     /// Whether standard error is a terminal.
-    pub fn is_on_terminal(&self) -> bool {
+    pub(crate) fn is_on_terminal(&self) -> bool {
         self.errors.is_terminal()
     }
 

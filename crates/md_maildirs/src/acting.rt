@@ -41,7 +41,9 @@ pub enum Act {
     Expunge,
 }
 
-/// Does with each message what is to be done. The status is the worst of them.
+/// Does with each message what is to be done, in the order of the keys that name them; the key `-` stands for the lines of standard input.
+/// The status is the worst one of a message, and standard error has a line for each that failed. It is refused as a whole where a maildir
+/// is not there, where no unique name can be made for copies, where standard input can't be read, and when out of memory.
 pub fn acted<R: Host>(
     session: &Session<'_, R>,
     maildir: &str,

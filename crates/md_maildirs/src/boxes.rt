@@ -51,7 +51,8 @@ fn must_be<R: Host>(
     Err(failure.at(session.alloc, path))
 }
 
-/// Makes a maildir: its folder, and tmp, new and cur in it. What is there already stays as it is.
+/// Makes a maildir: its folder, and tmp, new and cur in it. What is there already stays as it is. Refused as `CannotMake`, `NoRights` or
+/// `NoMemory`.
 pub fn make<R: Host>(session: &Session<'_, R>, path: &str) -> Result<Status, Failure> {
     match make_maildir(session.alloc, session.host, path) {
         Ok(()) => Ok(Status::Done),

@@ -8,7 +8,8 @@ use md_jobs::DirReply;
 use md_system::Flaw;
 use std::alloc::{AllocError, Global};
 
-/// Prints a line for each flaw of a maildir, and refuses it where there is one.
+/// Prints a line for each flaw of a maildir: what it is, the place and the name, with tabs between. It is refused as `Flawed` after that,
+/// where there is one, and before where there is no such maildir or a directory can't be read.
 pub fn checked<R: Host>(session: &Session<'_, R>, maildir: &str) -> Result<Status, Failure> {
     print_flaws(session, &maildirs(session, &[maildir])?)
 }

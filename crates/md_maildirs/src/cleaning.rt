@@ -5,7 +5,8 @@ use md_command::{Failure, Host, Session, Status};
 use md_disk::Disk;
 use md_system::clean;
 
-/// Takes away files of tmp that were not used for 36 hours.
+/// Takes away files of tmp that were not used for 36 hours ("Using maildir format"). Refused where there is no such maildir, and as the
+/// clean of `md_system` is answered.
 pub fn cleaned<R: Host>(session: &Session<'_, R>, maildir: &str) -> Result<Status, Failure> {
     clean_tmp(session, &mut maildirs(session, &[maildir])?)
 }

@@ -41,7 +41,9 @@ pub enum MailSource<'a> {
     Files(&'a str),
 }
 
-/// Delivers what is on standard input, a message or those of an mbox; or the files of a directory.
+/// Delivers what is on standard input, a message or those of an mbox (mboxrd), or the regular files of a directory in order of their names,
+/// each of at most 16 MiB. It ends at the first that is not delivered; a file that is no message is passed over. Refused before the first
+/// where there is no such maildir, and where no unique name can be made.
 pub fn delivered<R: Host>(
     session: &Session<'_, R>,
     maildir: &str,

@@ -22,7 +22,8 @@ const CHUNK: usize = 65_536;
 // Bytes of a listing that are written at once.
 const PAGE: usize = 65_536;
 
-/// Prints a line for each message of a maildir, in order of their unique names.
+/// Prints a line for each message of a maildir, in order of their unique names. With headers each file is opened, and at most 320 KiB of it
+/// are read. Refused where there is no such maildir, where a directory or a file can't be read, where writing fails, and when out of memory.
 pub fn listed<R: Host>(
     session: &Session<'_, R>,
     maildir: &str,
@@ -134,7 +135,7 @@ fn beginning<R: Host>(session: &Session<'_, R>, file: &mut R::File) -> io::Resul
     Ok(bytes)
 }
 
-/// Prints the bytes of a message.
+/// Prints the bytes of a message, 64 KiB at a time. Refused where there is no such maildir; what else fails is told, and is the status.
 pub fn read<R: Host>(
     session: &Session<'_, R>,
     maildir: &str,
