@@ -81,7 +81,11 @@ impl From<CoreError> for Failure {
 }
 
 /// The line that says of something why it is not done: `deolmutt: WHAT: WHY`, and what the system said behind another colon.
-pub(crate) fn failure_line(alloc: Global, what: &[u8], failure: &Failure) -> Result<Vec<u8>, AllocError>
+pub(crate) fn failure_line(
+    alloc: Global,
+    what: &[u8],
+    failure: &Failure,
+) -> Result<Vec<u8>, AllocError>
     ensures { IfOk result (λ line. line.items ≡ line_of what.now failure.now) }
 {
     let mut line = Vec::from_slice(alloc, b"deolmutt: ")?;

@@ -22,8 +22,9 @@ const CHUNK: usize = 65_536;
 // Bytes of a listing that are written at once.
 const PAGE: usize = 65_536;
 
-/// Prints a line for each message of a maildir, in order of their unique names. With headers each file is opened, and at most 320 KiB of it
-/// are read. Refused where there is no such maildir, where a directory or a file can't be read, where writing fails, and when out of memory.
+/// Prints a line for each message of a maildir, in order of their unique names. With headers each file is opened, and its beginning read,
+/// some 256 KiB. Refused where there is no such maildir, where a directory or a file can't be read, where writing fails, and when out of
+/// memory.
 pub fn listed<R: Host>(
     session: &Session<'_, R>,
     maildir: &str,
