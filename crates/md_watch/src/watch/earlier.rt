@@ -33,7 +33,8 @@ impl Watch {
             Clause::NamedByAnother => Some(self.marks_at(target_of(call)?)?.made as usize),
             Clause::Rewritten => Some(self.marks_at(target_of(call)?)?.seen as usize),
             Clause::WrittenLate => Some(self.marks_at(target_of(call)?)?.written as usize),
-            Clause::InTwoFolders | Clause::UsedTwice | Clause::MadeAgain => None,
+            // Of what the others go back to, no entry is kept.
+            _ => None,
         }
     }
 
