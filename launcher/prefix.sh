@@ -11,7 +11,7 @@ set_prefix() {
         shift
         ;;
       --prefix=*) prefix=${1#--prefix=} ;;
-      *) refuse_words "$1 is a word too many" ;;
+      *) refuse_words "unexpected argument: $1" ;;
     esac
     is_given=yes
     shift

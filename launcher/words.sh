@@ -19,7 +19,7 @@ refuse_words() {
 }
 
 refuse_more() {
-  [ $# -eq 0 ] || refuse_words "$1 is a word too many"
+  [ $# -eq 0 ] || refuse_words "unexpected argument: $1"
 }
 
 # A row of the help, whose text goes on below itself where the row would be wider than 80 columns.
@@ -46,7 +46,7 @@ print_commands() {
 
 print_help() {
   cat <<END
-Usage: ./deolmutt COMMAND [WORD]...
+Usage: ./deolmutt COMMAND [ARGUMENT]...
        ./deolmutt FILE
 
 Mail, in the maildir BOX:
@@ -54,7 +54,7 @@ $(print_commands mail '')
 
 KEY is a message's name or its path, or - for keys from standard input. First
 './deolmutt build' has to build the program; from then on './deolmutt --help'
-and './deolmutt help COMMAND' have all words. docs/deolmutt.1 is the manual.
+and './deolmutt help COMMAND' have all options. docs/deolmutt.1 is the manual.
 
 Scripts, over a store in memory, in the language of docs/SCRIPT.md, and logs of
 directory calls, in that of docs/JUDGE.md:
@@ -73,8 +73,8 @@ $(
     print_row 'uninstall [--prefix DIR]' 'Takes away what install has put there'
   )
 
-DIR is ~/.local where it is not given; '--prefix /usr/local' installs for all
-users. A zsh finds its completions where DIR's folder share/zsh/site-functions
+DIR is ~/.local by default; '--prefix /usr/local' installs for all users.
+A zsh finds its completions if DIR's folder share/zsh/site-functions
 is in fpath. What install has put there is recorded, and a file that was
 changed since is never touched.
 
@@ -84,8 +84,8 @@ $(
     print_row '-V, --version' 'Print version'
   )
 
-Status: the program's own, or where the launcher refuses, one of sysexits.h:
-  64  the words are wrong               70  the program is not built, or its
+Status: the program's own, or if the launcher fails, one of sysexits.h:
+  64  usage error                       70  the program is not built, or its
   65  a file is not as it must be           unproved run failed
   66  a file can't be read              73  a file or folder can't be made
   69  rt, the toolchain, is missing         or taken away

@@ -13,8 +13,8 @@ class Words(Scene):
     def test_wrong_words_are_refused_in_one_line(self):
         for words, text in (
             ((), 'a command is missing'),
-            (('build', 'x'), 'x is a word too many'),
-            (('install', 'x'), 'x is a word too many'),
+            (('build', 'x'), 'unexpected argument: x'),
+            (('install', 'x'), 'unexpected argument: x'),
             (('install', '--prefix'), '--prefix takes a folder'),
             (('install', '--prefix='), '--prefix takes a folder'),
             (('uninstall', '--prefix', ''), '--prefix takes a folder'),

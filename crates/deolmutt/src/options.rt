@@ -21,10 +21,10 @@ With - keys are read from standard input, a line each, as `list` prints them.
 
 Status:
   0   all was done
-  1   a line of the script was refused, or its run: `line N: TEXT` on standard error says which; `judge` found something
+  1   a line of the script failed, or its run: `line N: TEXT` on standard error says which; `judge` found something
   2   `judge` was given no log, or it could not be read: `line N: TEXT` says which line is wrong
-  64  the words are wrong
-  65  no such message, it has not the flag T, its flags can't be read, or it is longer than 16777216 bytes; `check` found flaws
+  64  usage error
+  65  no such message, it lacks the flag T, its flags can't be read, or it is longer than 16777216 bytes; `check` found flaws
   66  no such maildir, no such directory of messages, or no such log
   73  a name is taken, or can't be made
   74  a message could not be read, or what was read not be written
@@ -43,7 +43,7 @@ Examples:
   deolmutt play < script
   deolmutt log < script | deolmutt judge
 
-`man -l docs/deolmutt.1` has the manual.";
+The manual is deolmutt(1).";
 
 /// The command line: a subcommand and its words.
 pub(crate) fn options<'a>(alloc: Global) -> Result<Command<'a>, AllocError> {

@@ -1,6 +1,6 @@
--- The law: what no step of a lawful history does, and what each program owes the others beside it, so that a job which runs beside it keeps
--- its promises. That is these clauses, and TwoNames, Mixed, CleanedEarly and MovedBack of the law. Each says of a history that its last step
--- breaks the clause.
+-- The law: what no step of a lawful history does. Beside it stands what each program owes the others, so that a job beside them keeps its
+-- promises: the six clauses below, and TwoNames, Mixed, CleanedEarly and MovedBack of the law. A clause says of a history that its last
+-- step breaks it.
 use Rattle.std.specs.Prelude.{ℕ, ◌≡◌, ◌≢◌, ◌<◌, ◌≤◌, ◌-◌, List, Some, true}
 use Rattle.md_dirs.specs.State.{file_at, file_by}
 use Rattle.md_dirs.specs.declared.paths.File.{File}

@@ -42,8 +42,9 @@ pub enum Act {
 }
 
 /// Does with each message what is to be done, in the order of the keys that name them; the key `-` stands for the lines of standard input.
-/// The status is the worst one of a message, and standard error has a line for each that failed. It is refused as a whole where a maildir
-/// is not there, where no unique name can be made for copies, where standard input can't be read, and when out of memory.
+/// The status is the worst one of a message, and standard error has a line for each that failed. It is refused before anything is done if a
+/// maildir is not there, or if no unique name can be made for copies; and after what the keys before it named was done if standard input
+/// can't be read, and when out of memory.
 pub fn acted<R: Host>(
     session: &Session<'_, R>,
     maildir: &str,

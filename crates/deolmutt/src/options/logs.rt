@@ -6,7 +6,7 @@ use std::alloc::{AllocError, Global};
 
 const AFTER_LOG: &str = "Status:
   0   the script ran to its end
-  1   a line was refused, or reading, writing or memory failed (line 0); `line N: TEXT` on standard error says which
+  1   a line failed, or reading, writing or memory failed (line 0); `line N: TEXT` on standard error says which
 
 Examples:
   deolmutt log < script
