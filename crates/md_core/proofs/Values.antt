@@ -43,7 +43,7 @@ pub use Rattle.std.specs.FinMap.{entries, entries_sorted, find, get, get-entries
 pub use Rattle.std.specs.Str.{bytes_eq}
 pub use Rattle.md_core.specs.Looking.{IsLookOf, entries_before, is_before}
 pub use Rattle.md_used.specs.Seen.{fault_after, is_message_of, is_of, is_tmp_of}
-pub use Rattle.md_core.specs.Submitting.{bad_tries, checks, checks_of_look_up, first_met, is_used, makes, most_tries, no_folder, submit_refusal, uses}
+pub use Rattle.md_core.specs.Submitting.{bad_tries, checks, first_met, is_used, makes, most_tries, no_folder, submit_refusal, uses}
 pub use Rattle.md_used.specs.Loading.{fault_of, first_fault, is_bad_name, is_long_unique, is_same_message, load_refusal}
 pub use Rattle.md_core.specs.Gathering.{AreOf, Covers, CoversBy, KeepsMade, KeepsUsed, StillUsed, holds, is_used_before, may_change, may_take}
 pub use Rattle.md_core.specs.Worlds.{AreUsed, IsWorld, TakesAll, machine_by, occurrences, run_of}

@@ -1,13 +1,11 @@
 -- What a call of a store leaves, from its submission to its answer.
 use Rattle.std.specs.Prelude.{◌≡◌, ◌⊎◌, ℕ, Option, Some, None, Result, Ok, Err}
-use Rattle.md_dirs.specs.State.{bare}
-use Rattle.md_dirs.specs.Calls.{fresh}
 use Rattle.md_jobs.specs.declared.error.CoreError.{CoreError}
 use Rattle.md_jobs.specs.declared.error.CoreError.TheVariants as core
 use Rattle.md_jobs.specs.declared.call.Call.{Call}
 use Rattle.md_jobs.specs.declared.call.Call.TheVariants.{Deliver, Copy}
-use Rattle.md_core.specs.Runs.{new_run, Run, jobs_of, step_refusal, IsRefusal}
-use Rattle.md_core.specs.Submitting.{submit_refusal}
+use Rattle.md_core.specs.Runs.{Run, jobs_of, step_refusal, IsRefusal}
+use Rattle.md_core.specs.Submitting.{checks_of_words, first_met}
 use Rattle.md_jobs.specs.declared.answer.Answer.{Answer}
 use Rattle.md_jobs.specs.declared.step.StepOut.{StepOut}
 use Rattle.md_core.specs.Answering.{Says}
@@ -22,9 +20,9 @@ use Rattle.md_store.specs.Locks.{SubmitsSince, StepsSince, Stands}
 use Rattle.md_store.specs.Ongoing.{IsSince, GoesOn}
 use Rattle.md_store.specs.Pages.{Held}
 
--- where a call is refused whatever the store holds: by the checks of a world without messages and jobs
+-- where a call is refused whatever the store holds: by the checks of its words, and of how many folders there are
 abbrev pub plain_refusal : ℕ → Call → Option CoreError
-plain_refusal folders asked = submit_refusal (new_run (fresh (bare folders))) asked
+plain_refusal folders asked = first_met (checks_of_words folders asked)
 
 -- the call makes a message of a new name: it is a delivery or a copy
 abbrev pub MakesName : Call → Type 0

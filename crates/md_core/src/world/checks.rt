@@ -1,8 +1,8 @@
 //! What is checked of a call when it is submitted, and in which order.
 ghost use Rattle.std.specs.Prelude.{◌≡◌, true, false, None, Some, MatchResult, if◌then◌else◌};
-ghost use Rattle.md_jobs.specs.declared.call.Call.TheVariants.{Deliver, Move, Copy, Clean};
+ghost use Rattle.md_jobs.specs.declared.call.Call.TheVariants.{Deliver, Expunge, Move, Copy, Clean};
 ghost use Rattle.md_jobs.specs.declared.error.CoreError.TheVariants.{NameUsed, NoMemory};
-ghost use Rattle.md_core.specs.Submitting.{early_refusal, late_refusal, submit_refusal, no_folder, too_many, is_used as is_used_by, bad_tries, first_met, checks_of_look_up};
+ghost use Rattle.md_core.specs.Submitting.{early_refusal, late_refusal, submit_refusal, no_folder, too_many, is_used as is_used_by, bad_tries};
 
 use crate::world::World;
 use crate::world::reading::holds_name;
@@ -129,10 +129,10 @@ impl<D: Dirs> World<D> {
         check(self.is_full(), CoreError::TooManyJobs)
     }
 
-    // The checks of a call that looks for one message and acts on it.
+    // The checks of a call that looks for one message and acts on it, as those of an expunge.
     fn check_look_up(&self, folder: u32, unique: &[u8], tries: u64) -> Result<(), CoreError>
-        ensures { MatchResult result (λ _. first_met (checks_of_look_up self.now folder unique.now tries) ≡ None)
-            (λ e. first_met (checks_of_look_up self.now folder unique.now tries) ≡ Some e) }
+        ensures { MatchResult result (λ _. early_refusal self.now (Expunge folder unique.now tries) ≡ None)
+            (λ e. early_refusal self.now (Expunge folder unique.now tries) ≡ Some e) }
     {
         check(self.lacks(folder), CoreError::NoFolder)?;
         check(!is_unique_name(unique), CoreError::BadUnique)?;
@@ -149,7 +149,7 @@ impl<D: Dirs> World<D> {
 
     // Whether a folder isn't there.
     fn lacks(&self, folder: u32) -> bool
-        ensures { result ≡ no_folder self.now folder }
+        ensures { result ≡ no_folder self.now.image.folders folder }
     {
         folder >= self.dirs.folders()
     }

@@ -4,7 +4,7 @@ use Rattle.std.specs.FinMap as finmap
 use Rattle.std.proofs.lemmas.Bool.{or_parts, not-false}
 use Rattle.std.proofs.lemmas.Bool.Decides.{nat_tests}
 use Rattle.std.proofs.lemmas.Slice.Eq.{bytes_eq-Decides}
-use Rattle.md_core.proofs.Values.{State, CoreError, Call, is_unique_name, Run, MakesMessage, IsFresh, IsLookUp, IsAccepted, list_any, Purpose, most_tries, submit_refusal, checks, first_met, checks_of_look_up, no_folder, bad_tries, is_used, uses, makes}
+use Rattle.md_core.proofs.Values.{State, CoreError, Call, is_unique_name, Run, MakesMessage, IsFresh, IsLookUp, IsAccepted, list_any, Purpose, most_tries, submit_refusal, checks, first_met, no_folder, bad_tries, is_used, uses, makes}
 use Rattle.md_jobs.specs.declared.call.Call.TheVariants.{Deliver, Seen, Flag, Move, Expunge, Copy, Clean}
 use Rattle.md_jobs.specs.declared.purpose.Purpose.TheVariants as purpose
 use Rattle.md_core.proofs.Machines.Errand.Table.Calls.{call_by, folder_to, IsFor, tries_in}
@@ -41,7 +41,7 @@ unmade-at u (c ∷ calls) (suc i) asked none at mine =
     unmade-at u calls i asked parts.1 at mine
 
 module _ (r : Run) where
-  in-folder : (folder : ℕ) → no_folder r folder ≡ false → folder < r.image.folders
+  in-folder : (folder : ℕ) → no_folder r.image.folders folder ≡ false → folder < r.image.folders
   in-folder folder there = grind (arith, nat_tests)
 
   some-tries : (tries : ℕ) → bad_tries tries ≡ false → 0 < tries
@@ -53,9 +53,9 @@ module _ (r : Run) where
       let parts = or_parts (list_any (λ e. uses u e.0) (finmap.entries r.image.names)) (list_any (makes u) r.calls) unused in
       record { valid = valid; unused = unused-path r.image u valid parts.0; unmade = λ i c at its. unmade-at u r.calls i c parts.1 at its }
 
-  looked-up : (folder : ℕ) (u : List ℕ) (tries : ℕ) → first_met (checks_of_look_up r folder u tries) ≡ None → IsLookUp r.image folder u tries
+  looked-up : (folder : ℕ) (u : List ℕ) (tries : ℕ) → submit_refusal r (Expunge folder u tries) ≡ None → IsLookUp r.image folder u tries
   looked-up folder u tries none =
-      let h = unmet (checks_of_look_up r folder u tries) none in
+      let h = unmet (checks r (Expunge folder u tries)) none in
       (in-folder folder h.0, not-false (is_unique_name u) h.1.0, some-tries tries h.1.1.0)
 
   -- A call that the checks let through is accepted.
@@ -69,7 +69,7 @@ module _ (r : Run) where
   accepted (Flag folder u add remove tries) none = looked-up folder u tries none
   accepted (Move folder u to tries) none =
       let h = unmet (checks r (Move folder u to tries)) none in
-      let folders = or_parts (no_folder r folder) (no_folder r to) h.0 in
+      let folders = or_parts (no_folder r.image.folders folder) (no_folder r.image.folders to) h.0 in
       let other = h.1.0 in (
         in-folder to folders.1,
         λ same. grind (arith, nat_tests, other),
@@ -78,7 +78,7 @@ module _ (r : Run) where
   accepted (Expunge folder u tries) none = looked-up folder u tries none
   accepted (Copy folder u to fresh_name tries) none =
       let h = unmet (checks r (Copy folder u to fresh_name tries)) none in
-      let folders = or_parts (no_folder r folder) (no_folder r to) h.0 in
+      let folders = or_parts (no_folder r.image.folders folder) (no_folder r.image.folders to) h.0 in
       let names = or_parts (not (is_unique_name u)) (not (is_unique_name fresh_name)) h.1.0 in (
         in-folder to folders.1,
         fresh fresh_name (not-false (is_unique_name fresh_name) names.1) h.1.1.1.1.0,
