@@ -1,4 +1,4 @@
-"""What each program owes the others: md_law's Owed, with the four clauses of the law that are owed as they are."""
+"""What each program owes the others: the last clauses of md_law's Law, with the four clauses of the law that are owed as they are."""
 
 from __future__ import annotations
 

@@ -35,7 +35,7 @@ makes u (Deliver folder unique body chunk) = bytes_eq unique u
 makes u (Copy folder unique to fresh tries) = bytes_eq fresh u
 makes u call = false
 
--- a name is used from the submit of its delivery or copy on, for good, and so are those of the directories at the beginning
+-- a name is used from the submit of its delivery or copy on, for the rest of the run, and so are those of the directories at its beginning
 abbrev pub is_used : Run → List ℕ → Bool
 is_used r u = list_any (λ e. uses u e.0) (finmap.entries r.image.names) || list_any (makes u) r.calls
 

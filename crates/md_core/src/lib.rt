@@ -10,7 +10,6 @@ pub use md_jobs::{
     Answer, Call, Change, CoreError, DirCall, DirReply, Effect, Event, JobId, Moment, StepOut,
 };
 pub use world::World;
-pub use world::arranging::arrange_all;
 pub use world::call::CallError;
 pub use world::load::LoadRefused;
 pub use world::run::RunStop;

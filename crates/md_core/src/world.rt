@@ -82,8 +82,8 @@ impl<D: Dirs> World<D> {
         let _kept = &self.clock;
     }
 
-    /// The directories of a world. They are in the state of its run; they have failed as often as the run has marks since the beginning, and
-    /// as many calls of them were made as the run has events.
+    /// The directories of a world. They are in the state of its run. They have failed as often as before it began and once for each of its
+    /// marks, and as many calls of them were made as before it began and one for each of its events.
     pub fn dirs(&self) -> &D
         ensures state { (D.device result.now).state ≡ dirs_of self.now }
         ensures failures { (D.device result.now).failures ≡ failures_of self.now }
@@ -92,8 +92,7 @@ impl<D: Dirs> World<D> {
         &self.dirs
     }
 
-    /// The directories of a world that is no longer wanted. They are in the state of its run; they have failed as often as the run has marks
-    /// since the beginning, and as many calls of them were made as the run has events.
+    /// The directories of a world that is no longer wanted, which are as `dirs` says.
     pub fn into_dirs(self) -> D
         ensures state { (D.device result).state ≡ dirs_of self }
         ensures failures { (D.device result).failures ≡ failures_of self }

@@ -199,8 +199,8 @@ pub trait Dirs {
     }
 
     /// Makes a directory ready to show its rows in order, so that looks at many of them need not find the order anew. It is no call, and
-    /// changes nothing that a caller can see. By itself it does nothing. It is refused only when out of memory: the looks then answer the
-    /// same, later.
+    /// changes nothing that a caller can see. By itself it does nothing, and so it does in hashed directories in which two names share a
+    /// unique part. It is refused only when out of memory: the looks then answer the same, later.
     fn arrange(&mut self, _folder: u32, _place: Place) -> Result<(), AllocError>
         ensures { device self.new ≡ device self.old }
     {

@@ -8,7 +8,7 @@ use std::random::RandomSource;
 
 /// The two words that names are hashed by.
 ///
-/// Who knows them can choose names that collide, and so make calls slow, never wrong. `drawn` asks the system for words that nobody knows;
+/// Who knows them can choose names that collide, and so make calls slow, never wrong. `drawn` asks a source for words that nobody knows;
 /// `fixed` has the same in each run. It is no cryptographic hash: it holds off names that were chosen beforehand, and not somebody who
 /// measures how long calls take and goes by that.
 #[derive(Clone, Copy)]

@@ -25,9 +25,10 @@ use tree::Tree;
 /// Directories that are hashed: one table for each directory, by the unique parts of its names.
 ///
 /// A call finds a name by its hash, and takes the same time in a folder of any size. The order of a directory's names is made when it is
-/// asked for, by `arrange` or by a listing, with one sort; names that come behind all others and changes of info keep it. Where it is not
-/// made, `rows_from` sorts for itself, and `row_at` looks at each name for each position. Each file knows how many names it has. No call
-/// copies the bytes of a file, and room is made before anything is changed. They never fault.
+/// asked for, by `arrange` or by a listing, with one sort; names that come behind all others and changes of info keep it. If it is not
+/// made, `rows_from` sorts for itself, and `row_at` looks at each name for each position. So it is always in a directory in which two names
+/// share a unique part, and there a look for a message looks at each name. Each file knows how many names it has. No call copies the bytes
+/// of a file, and room is made before anything is changed. They never fault.
 #[derive(Drop)]
 pub struct IndexDirs {
     alloc: Global,

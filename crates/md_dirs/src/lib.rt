@@ -31,4 +31,4 @@ pub use md_name::{Bytes, FileName};
 pub use name_key::NameKey;
 pub use paths::{File, Path, Place};
 pub use plain::PlainDirs;
-pub use rows::{Row, RowRef};
+pub use rows::{Row, RowRef, is_named};

@@ -1,5 +1,5 @@
 //! Names as keys of a hash table.
-ghost use Rattle.std.specs.Prelude.{◌≡◌, ◌≤◌, ◌∷◌, [], Some, IfOk, List, ℕ, length};
+ghost use Rattle.std.specs.Prelude.{◌≡◌, ◌≤◌, ◌∷◌, [], Some, IfOk, IsOk, List, ℕ, length};
 ghost use Rattle.std.specs.Cmp.{partial_equiv_from_equiv};
 ghost use Rattle.std.specs.Cmp.Lexicographic.{nat_list_eq_equiv, nat_list_cmp_total, texts_ties, texts_po, bytes_decides};
 ghost use Rattle.std.specs.Str.{bytes_eq};
@@ -65,9 +65,11 @@ impl<'a> NameKey<'a> {
         NameKey::held(Held::Owned(name))
     }
 
-    /// A key whose bytes are copied: into the key itself where they are at most 53. It is refused only when out of memory.
+    /// A key whose bytes are copied: into the key itself where they are at most 53. It is refused only when out of memory, and that of at
+    /// most 53 bytes never is.
     pub fn copied(alloc: Global, name: &[u8]) -> Result<Self, AllocError>
-        ensures { IfOk result (λ key. key ≡ name.now) }
+        ensures ok { IfOk result (λ key. key ≡ name.now) }
+        ensures short { length name.now ≤ 53 → IsOk result }
     {
         let kept = match Short::copied(name) {
             Some(short) => Kept::Short(short),

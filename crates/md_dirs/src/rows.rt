@@ -137,8 +137,8 @@ fn ends_unique_name(rest: &[u8]) -> bool
     }
 }
 
-// Whether a name is a unique name, or a unique name, a colon and more.
-pub(crate) fn is_named(name: &[u8], unique: &[u8]) -> bool
+/// Whether a name is a unique name, or a unique name, a colon and more (maildir(5)).
+pub fn is_named(name: &[u8], unique: &[u8]) -> bool
     ensures { result ≡ is_named_by unique.now name.now }
 {
     name.starts_with(unique) && ends_unique_name(&name[unique.len()..])

@@ -50,6 +50,7 @@ clean-keeps own c r rows = stage-keeps own c rows c.stage r
 pub record Removes (folder : ℕ) (names : List (List ℕ)) (files : ℕ) (calls : List Made) : Type 0 where
   pub n : ℕ
   pub taken : unlinks calls ≡ map (path folder Tmp) (take n names)
+  pub all : (k : ℕ) → answer_in calls ≡ Some (answer.Cleaned k) → n ≡ length names
   pub counted : (k : ℕ) → answer_in calls ≡ Some (answer.Cleaned k) → k + length names ≡ files + count_by takes_away calls
   pub few : length calls ≤ length names
 
@@ -73,6 +74,7 @@ removes-more folder name names files left r calls is more =
     record {
       n = suc more.n;
       taken = ap (λ (ps : List Path). path folder Tmp name ∷ ps) more.taken;
+      all = λ k said. ap suc (more.all k said);
       counted = λ k said. (let count = more.counted k said in omega (arith, count, one, is));
       few = (let few = more.few in omega (arith, few));
     }
@@ -82,19 +84,27 @@ removes-next : (folder : ℕ) (at : Moment) (rows : List Row) (hs : List Heard) 
     Removes folder (name ∷ rest) files (made turn_at (removing folder name rest files) (record { at = at; reply = r; rows = rows } ∷ hs))
 unfolding made answer_in
 removes-next folder at rows hs on name [] files reply.Ok within =
-    record { n = 1; taken = refl; counted = λ k is. (let said : files ≡ k = cc in omega (arith, said)); few = omega arith }
+    record { n = 1; taken = refl; all = λ k is. refl; counted = λ k is. (let said : files ≡ k = cc in omega (arith, said)); few = omega arith }
 removes-next folder at rows hs on name [] files reply.NotFound within =
-    record { n = 1; taken = refl; counted = λ k is. (let said : files - 1 ≡ k = cc in omega (arith, said, within)); few = omega arith }
+    record {
+      n = 1;
+      taken = refl;
+      all = λ k is. refl;
+      counted = λ k is. (let said : files - 1 ≡ k = cc in omega (arith, said, within));
+      few = omega arith;
+    }
 removes-next folder at rows hs on name (next ∷ rest) files reply.Ok within =
     removes-more folder name (next ∷ rest) files files reply.Ok _ refl (on next rest files (omega (arith, within)))
 removes-next folder at rows hs on name (next ∷ rest) files reply.NotFound within =
     removes-more folder name (next ∷ rest) files (files - 1) reply.NotFound _ (omega (arith, within)) (on next rest (files - 1) (omega (arith, within)))
-removes-next folder at rows hs on name rest files reply.Exists within = record { n = 1; taken = refl; counted = λ k is. cc; few = omega arith }
-removes-next folder at rows hs on name rest files reply.Fault within = record { n = 1; taken = refl; counted = λ k is. cc; few = omega arith }
+removes-next folder at rows hs on name rest files reply.Exists within =
+    record { n = 1; taken = refl; all = λ k is. cc; counted = λ k is. cc; few = omega arith }
+removes-next folder at rows hs on name rest files reply.Fault within =
+    record { n = 1; taken = refl; all = λ k is. cc; counted = λ k is. cc; few = omega arith }
 
 removes-all : (folder : ℕ) (heard : List Heard) → RemovesOver folder heard
 unfolding made answer_in
-removes-all folder [] name rest files within = record { n = 0; taken = refl; counted = λ k is. cc; few = omega arith }
+removes-all folder [] name rest files within = record { n = 0; taken = refl; all = λ k is. cc; counted = λ k is. cc; few = omega arith }
 removes-all folder (h ∷ hs) name rest files within = removes-next folder h.at h.rows hs (removes-all folder hs) name rest files h.reply within
 
 -- what passes is no more than there was
@@ -121,7 +131,7 @@ cleans-listed : (folder : ℕ) (at : Moment) (rows : List Row) (hs : List Heard)
     ∷ cond (is_some after.answer) [] (made turn_at after.task hs)))
 unfolding made answer_in
 cleans-listed folder at rows hs [] are some = record {
-  old = record { n = 0; names = refl; counted = λ k is. (let said : 0 ≡ k = cc in omega (arith, said)) };
+  old = record { n = 0; names = refl; all = λ k is. ap length are; counted = λ k is. (let said : 0 ≡ k = cc in omega (arith, said)) };
   few = omega arith;
 }
 cleans-listed folder at rows hs (name ∷ rest) are some =
@@ -130,6 +140,7 @@ cleans-listed folder at rows hs (name ∷ rest) are some =
       old = record {
         n = all.n;
         names = all.taken ∙ ap (λ (names : List (List ℕ)). map (path folder Tmp) (take all.n names)) are;
+        all = λ k is. all.all k is ∙ ap length are;
         counted = λ k is. (let count = all.counted k is in omega (arith, count));
       };
       few = (let few = all.few in omega (arith, few, some));
@@ -141,7 +152,7 @@ cleans folder listing heard = by listing.reply
   where
     failed : (r : DirReply) → Cleans folder (record { at = listing.at; reply = r; rows = listing.rows })
         (record { asked = list folder Tmp; reply = r; answer = Some answer.Fault; effect = None } ∷ [])
-    failed r = record { old = record { n = 0; names = refl; counted = λ k is. cc }; few = omega arith }
+    failed r = record { old = record { n = 0; names = refl; all = λ k is. cc; counted = λ k is. cc }; few = omega arith }
 
     by : (r : DirReply) → Cleans folder (record { at = listing.at; reply = r; rows = listing.rows })
         (made turn_at (new_cleaning folder) (record { at = listing.at; reply = r; rows = listing.rows } ∷ heard))

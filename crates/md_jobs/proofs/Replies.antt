@@ -41,9 +41,10 @@ errand-done job e r rows = by-errand job e rows (λ stage r after. IsDoneOrRefus
 
 pub errand-read : (job : ℕ) (e : Errand) (r : DirReply) (rows : List Row) → ((errand_turn job e).follows r rows).answer ≡ None →
     IsRead e r rows ((errand_turn job e).follows r rows).task.stage
-errand-read job e r rows = by-errand job e rows (λ stage r after. after.answer ≡ None → IsRead e r rows after.task.stage)
-    (λ stage r x on. cc) (λ place to tries is on. tt) (λ stage x info is on. cc) (λ place tries row is decided on. (refl, (is, decided)))
-    (λ place row tries more on. tt) e.stage r
+errand-read job e r rows = by-errand job e rows (λ stage r after. e.stage ≡ stage → after.answer ≡ None → IsRead e r rows after.task.stage)
+    (λ stage r x here on. cc) (λ place to tries is here on. tt) (λ stage x info is here on. cc)
+    (λ place tries row is decided here on. (refl, is, decided, (tries, here)))
+    (λ place row tries more here on. tt) e.stage r refl
 
 -- ---- errands: the path that is acted on
 
@@ -57,7 +58,7 @@ module _ (job : ℕ) (e : Errand) where
   act-at place row tries purpose.Expunge = refl
 
   stage-at : (stage : Stage) → IsOnRow e (run_by.stage_turn job e stage).asked stage
-  stage-at (Look place tries) = tt
+  stage-at (Look place tries) = refl
   stage-at (Act place row tries) = act-at place row tries e.purpose
 
 pub errand-at : (job : ℕ) (e : Errand) → IsOnRow e (errand_turn job e).asked e.stage
@@ -154,7 +155,7 @@ delivery-linked job d at r rows = by-delivery job d at
     (λ stage turn. d.stage ≡ stage → IsDeliveredByLink d turn.asked r (turn.follows r rows))
     (λ is. create-linked job d at rows r) (λ start k more is. append-linked job d at rows start k r) (λ start k all is. link-linked job d at rows r)
     (λ start k is. undo-linked job d at rows TimedOut r)
-    (λ is. record { answered = λ said. subst IsLinked (sym is) tt; linked = λ on held. cc; effect = tt; refused = inl refl })
+    (λ is. record { answered = λ said. (subst IsLinked (sym is) tt, refl); linked = λ on held. cc; effect = tt; refused = inl refl })
     (λ x is. undo-linked job d at rows x r) d.stage refl
 
 -- ---- errands: each call leaves fewer

@@ -1,5 +1,5 @@
 -- What the laws of the machines say of one turn.
-use Rattle.std.specs.Prelude.{ℕ, ◌≡◌, ◌++◌, ◌-◌, ◌⊎◌, List, [], take, drop, map, filter, count_by, nat_le, None, Some, IfSome}
+use Rattle.std.specs.Prelude.{ℕ, ◌≡◌, ◌++◌, ◌-◌, ◌⊎◌, List, [], length, take, drop, map, filter, count_by, nat_le, None, Some, IfSome}
 use Rattle.md_dirs.specs.Path.{path_of as path}
 use Rattle.md_dirs.specs.Rows.{row_named}
 use Rattle.md_dirs.specs.declared.paths.Path.{Path}
@@ -40,11 +40,13 @@ pub record IsDoneOrRefused {T : Type 0} (r : DirReply) (after : After T) : Type 
   pub done : IfSome after.effect (λ x. r ≡ reply.Ok)
   pub refused : after.effect ≡ None → IfSome after.answer (λ a. (refusal : Refusal) × (a ≡ refused_by refusal))
 
--- an errand that is to act, acts on the row of this reading that has its unique name, since its purpose decided so of that name
+-- an errand that is to act, acts on the row of this reading that has its unique name, in the place that was read, since its purpose decided
+-- so of that name
 abbrev pub IsRead : errand.Errand → DirReply → List Row → errand.Stage → Type 0
 IsRead e r rows (errand.Look place tries) = Unit {0}
 IsRead e r rows (errand.Act place row tries) =
-    (r ≡ reply.Ok) × ((row_named e.unique rows ≡ Some row) × (decide e.purpose (info_in row.name) ≡ decision.Act))
+    (r ≡ reply.Ok) × (row_named e.unique rows ≡ Some row) × (decide e.purpose (info_in row.name) ≡ decision.Act)
+    × ((t : ℕ) × (e.stage ≡ errand.Look place t))
 
 -- the directory call renames this path, links it or takes it away
 abbrev pub IsAt : Path → Asked → Type 0
@@ -53,9 +55,9 @@ IsAt p (link old new) = old ≡ p
 IsAt p (unlink q) = q ≡ p
 IsAt p asked = ⊥
 
--- an errand that acts calls on the path of its row alone
+-- an errand that looks lists the place where it looks, and one that acts calls on the path of its row
 abbrev pub IsOnRow : errand.Errand → Asked → errand.Stage → Type 0
-IsOnRow e asked (errand.Look place tries) = Unit {0}
+IsOnRow e asked (errand.Look place tries) = asked ≡ list e.folder place
 IsOnRow e asked (errand.Act place row tries) = IsAt (path e.folder place row.name) asked
 
 -- what the appends that were done wrote to the file of a delivery, after one more call
@@ -87,9 +89,10 @@ abbrev pub IsLinked : delivery.Stage → Type 0
 IsLinked delivery.Linked = Unit {0}
 IsLinked stage = ⊥
 
--- a step of a delivery answers that it is delivered only once it is linked, and is linked only by a link that was done
+-- a step of a delivery answers that it is delivered only once it is linked, and as it takes its path in tmp away; and it is linked only by a
+-- link that was done
 pub record IsDeliveredByLink (d : Delivery) (asked : Asked) (r : DirReply) (after : After Delivery) : Type 0 where
-  pub answered : after.answer ≡ Some answer.Delivered → IsLinked d.stage
+  pub answered : after.answer ≡ Some answer.Delivered → IsLinked d.stage × (asked ≡ unlink d.tmp)
   pub linked : after.answer ≡ None → IsLinked after.task.stage → (r ≡ reply.Ok) × (asked ≡ link d.tmp (path d.tmp.folder New d.tmp.name))
   pub effect : IfSome after.effect (λ x. (r ≡ reply.Ok) × (asked ≡ link d.tmp (path d.tmp.folder New d.tmp.name)))
   pub refused : IfSome after.answer (λ a. (a ≡ answer.Delivered) ⊎ ((refusal : Refusal) × (a ≡ refused_by refusal)))
@@ -111,8 +114,9 @@ abbrev pub unused_names : ℕ → List Row → List (List ℕ)
 unused_names own rows = map (λ row. row.name) (filter (λ row. nat_le 129600 (own - row.stamp)) rows)
 
 -- The calls of a clean: after its one listing it takes away, or tries to, the names that this showed to be old, one after another, each
--- once. Its answer says how many it took away.
+-- once. Its answer says how many it took away, once it has tried them all.
 pub record CleansOld (folder : ℕ) (listing : Heard) (calls : List Made) : Type 0 where
   pub n : ℕ
   pub names : unlinks calls ≡ map (path folder Tmp) (take n (unused_names listing.at.own listing.rows))
+  pub all : (k : ℕ) → answer_in calls ≡ Some (answer.Cleaned k) → n ≡ length (unused_names listing.at.own listing.rows)
   pub counted : (k : ℕ) → answer_in calls ≡ Some (answer.Cleaned k) → k ≡ count_by takes_away calls

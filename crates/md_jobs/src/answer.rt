@@ -28,8 +28,10 @@ pub enum Answer {
     TimedOut,
     /// The file in tmp was gone at an append or the link.
     TmpGone,
-    /// A message of that name is there. No job of a world ends so, since a used name is refused when its call is submitted.
+    /// The name that is to be made is there: a message's, or that of a file in tmp. No job of a world ends so, since a used name is refused
+    /// when its call is submitted.
     NameTaken,
-    /// A directory call of the job faulted, and it had no effect on the mailbox. A clean may have removed files before.
+    /// A directory call of the job faulted, or was replied what no world replies to it, as `NotFound` to a listing; and the job had no effect
+    /// on the mailbox. A clean may have removed files before.
     Fault,
 }

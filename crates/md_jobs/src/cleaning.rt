@@ -20,7 +20,7 @@ use std::collections::VecDeque;
 use std::marker::Model;
 
 /// A file of tmp that was not used for 36 hours, in seconds, is old (maildir(5)).
-const LEAST_SECONDS: u64 = 129_600;
+pub const LEAST_SECONDS: u64 = 129_600;
 
 const LIST: DirCall = DirCall::List(Place::Tmp);
 

@@ -109,7 +109,7 @@ fn appended(stage: &mut Stage, start: u64, written: u64, reply: DirReply) -> Opt
 }
 
 impl Delivery {
-    /// A delivery that has not begun.
+    /// A delivery that has not begun, of pieces of at most `chunk` bytes. By a chunk of 0 a body that is not empty is never written.
     pub fn new(folder: u32, unique: Bytes, body: Bytes, chunk: u64) -> Delivery
         ensures { result ≡ new_delivery folder unique body chunk }
     {

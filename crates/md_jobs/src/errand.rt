@@ -51,7 +51,7 @@ pub struct Errand {
 }
 
 impl Errand {
-    /// An errand that has not begun.
+    /// An errand that has not begun. No tries count as one.
     pub fn new(alloc: Global, folder: u32, unique: Bytes, purpose: Purpose, tries: u64) -> Errand
         ensures { errand_view result ≡ new_errand folder unique purpose tries }
     {
@@ -64,7 +64,7 @@ impl Errand {
     }
 
     /// Takes the next turn: it asks, makes the call, and takes the reply. It adds its effect, where it is one. After a refusal nothing has
-    /// changed.
+    /// changed. An errand that has its answer is to take no more turns: of what it then holds nothing is said.
     pub fn turn<D: Dirs>(
         &mut self,
         alloc: Global,

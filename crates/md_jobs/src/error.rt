@@ -17,8 +17,8 @@ pub enum CoreError {
     /// A unique part met before in new or cur of any folder.
     #[error("duplicate unique")]
     DuplicateUnique,
-    /// A delivery or a copy under a name that is used: one that the directories held when they were loaded, as a message's unique part or as
-    /// a whole name in tmp, or that an earlier delivery or copy was submitted with.
+    /// A delivery or a copy under a name that is used: one that the directories held when the world was loaded or last settled, as a message's
+    /// unique part or as a whole name in tmp, or that a delivery or copy makes which was submitted since.
     #[error("name used")]
     NameUsed,
     /// A folder number that isn't there.

@@ -1,6 +1,6 @@
-//! Laws of the machines, whatever the directories answer. Each function does nothing: its contract is the law. They state hours and places
-//! themselves, so that a machine that is wrong in its definition and in its code alike does not meet them. The last seven speak of all calls
-//! that a job makes as it hears one reply after another.
+//! Laws of the machines, whatever the directories answer. Each function does nothing: its contract is the law. They state places and the 36
+//! hours themselves, so that a machine that is wrong in its definition and in its code alike does not meet them. The last six speak of all
+//! calls that a job makes as it hears one reply after another.
 ghost use Rattle.std.specs.Prelude.{ℕ, ◌≡◌, ◌<◌, ◌≤◌, ◌+◌, ◌-◌, ◌*◌, ◌∷◌, List, None, length, max, if◌then◌else◌};
 ghost use Rattle.std.specs.List.{All};
 ghost use Rattle.md_dirs.specs.declared.rows.Row.{Row};
@@ -38,13 +38,14 @@ pub fn an_errand_succeeds_by_a_call_that_was_done()
     ensures { (job : ℕ) → (e : Errand) → (reply : Reply) → (rows : List Row) → IsDoneOrRefused reply ((errand_turn job e).follows reply rows) }
 {}
 
-/// An errand that goes on to act does so on a row of this very reading, by its unique name, whose name its purpose decides on.
+/// An errand that goes on to act does so on a row of this very reading, in the place that it read, by its unique name, whose name its purpose
+/// decides on.
 pub fn an_errand_acts_on_what_it_read()
     ensures { (job : ℕ) → (e : Errand) → (reply : Reply) → (rows : List Row) → ((errand_turn job e).follows reply rows).answer ≡ None →
         IsRead e reply rows ((errand_turn job e).follows reply rows).task.stage }
 {}
 
-/// An errand that acts renames, links or takes away the path of its row, and no other.
+/// An errand that looks lists the place where it looks, and one that acts renames, links or takes away the path of its row.
 pub fn an_errand_keeps_to_its_row()
     ensures { (job : ℕ) → (e : Errand) → IsOnRow e (errand_turn job e).asked e.stage }
 {}
@@ -55,7 +56,7 @@ pub fn a_delivery_links_what_it_wrote()
         KeepsWhole d file (delivery_turn job d at).asked reply ((delivery_turn job d at).follows reply rows) }
 {}
 
-/// A delivery answers that it is delivered only after its link was done.
+/// A delivery answers that it is delivered only after its link was done, as it takes its path in tmp away.
 pub fn a_delivery_is_delivered_by_its_link()
     ensures { (job : ℕ) → (d : Delivery) → (at : Moment) → (reply : Reply) → (rows : List Row) →
         IsDeliveredByLink d (delivery_turn job d at).asked reply ((delivery_turn job d at).follows reply rows) }
@@ -65,6 +66,12 @@ pub fn a_delivery_is_delivered_by_its_link()
 pub fn an_errand_makes_fewer_calls_each_time()
     ensures { (job : ℕ) → (e : Errand) → (reply : Reply) → (rows : List Row) → ((errand_turn job e).follows reply rows).answer ≡ None →
         steps_left (searches e.purpose) ((errand_turn job e).follows reply rows).task.stage < steps_left (searches e.purpose) e.stage }
+{}
+
+/// A clean keeps to tmp of its folder, and has no effect on messages.
+pub fn a_clean_keeps_to_tmp()
+    ensures { (own : ℕ) → (c : Cleaning) → (reply : Reply) → (rows : List Row) →
+        KeepsToTmp c (cleaning_turn c own).asked ((cleaning_turn c own).follows reply rows) }
 {}
 
 /// An errand takes effect at most once, whatever it hears.
@@ -95,13 +102,7 @@ pub fn a_clean_makes_few_calls()
         length (made (λ c at. cleaning_turn c at.own) (new_cleaning folder) (listing ∷ heard)) ≤ 1 + length listing.rows }
 {}
 
-/// A clean keeps to tmp of its folder, and has no effect on messages.
-pub fn a_clean_keeps_to_tmp()
-    ensures { (own : ℕ) → (c : Cleaning) → (reply : Reply) → (rows : List Row) →
-        KeepsToTmp c (cleaning_turn c own).asked ((cleaning_turn c own).follows reply rows) }
-{}
-
-/// A clean takes away only names that its one listing showed to be old, each once, and says how many it took.
+/// A clean takes away only names that its one listing showed to be old, each once, and says how many it took once it has tried them all.
 pub fn a_clean_takes_away_what_it_saw_to_be_old()
     ensures { (folder : ℕ) → (listing : Heard) → (heard : List Heard) →
         CleansOld folder listing (made (λ c at. cleaning_turn c at.own) (new_cleaning folder) (listing ∷ heard)) }

@@ -3,9 +3,10 @@
 //!
 //! A job is driven in one of two ways. `turn` makes its next call of directories in memory (`Dirs`), and goes on by the reply. A program
 //! that makes the calls itself, of a disk say, takes three steps for each: `ask` makes the call ready, `request` lends it with its paths,
-//! and `take` goes on by what was replied. The job owns its names and its body, a request borrows them, and the caller owns the list of
-//! effects. All memory is taken before the call, by `ask` and by the room that the caller makes for one effect: so nothing is refused after
-//! a call that was made, and after a refusal nothing has changed.
+//! and `take` goes on by what was replied. (A clean has no `ask`.) The job owns its names and its body, a request borrows them, and the
+//! caller owns the list of effects. All memory is taken before the call, by `ask` and by the room that the caller makes for one effect: so
+//! `take` refuses nothing, and after a refusal nothing has changed. After a listing the caller needs memory for the row or the names that it
+//! hands to `take`.
 //!
 //! A reply is any `DirReply`: POSIX's EEXIST and ENOENT have replies of their own, and each other error is `Fault`. What holds of a job
 //! whatever is replied is in `laws`.
@@ -29,7 +30,7 @@ mod turn;
 
 pub use answer::Answer;
 pub use call::{Call, JobId};
-pub use cleaning::Cleaning;
+pub use cleaning::{Cleaning, LEAST_SECONDS};
 pub use deliver::{Delivery, DeliveryReady};
 pub use effect::{Change, Effect};
 pub use errand::{Errand, ErrandReady};

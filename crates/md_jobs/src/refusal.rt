@@ -13,7 +13,7 @@ pub enum Refusal {
     NotTrashed,
     /// The message has info that holds no flags.
     OtherInfo,
-    /// A message of the name that is to be made is there.
+    /// The name that is to be made is there: a message's, or that of a file in tmp.
     NameTaken,
     /// The name was gone at the act in each of the tries.
     Lost,
@@ -21,7 +21,7 @@ pub enum Refusal {
     TimedOut,
     /// The file of a delivery was gone from tmp.
     TmpGone,
-    /// A directory call faulted.
+    /// A directory call faulted, or was replied what no world replies to it.
     Fault,
 }
 

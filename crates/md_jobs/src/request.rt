@@ -21,7 +21,7 @@ impl<'a> Model for PathRef<'a> {
 }
 
 impl<'a> PathRef<'a> {
-    /// The name of a directory.
+    /// A name in a directory, lent.
     pub fn new(folder: u32, place: Place, name: &'a [u8]) -> Self
         ensures { result ≡ record { folder = folder; place = place; name = name.now } }
     {

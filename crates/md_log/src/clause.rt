@@ -20,7 +20,7 @@ pub enum Clause {
     TwoNames,
     /// A message leaves otherwise than by an unlink of a name with T.
     Gone,
-    /// A message that had gone is there again as another file.
+    /// A message that had gone is there again, as a file that it never was there.
     UsedAgain,
     /// A file that was in cur is in new.
     MovedBack,

@@ -75,14 +75,14 @@ pub fn is_unique_name(name: &[u8]) -> bool
         && !holds::<Barred>(name)
 }
 
-/// Whether NUL, LF or CR is among the bytes, of which none may stand in a name or a host.
+/// Whether NUL, LF or CR is among the bytes, of which none may stand in a name or a host here.
 pub fn holds_terminator(bytes: &[u8]) -> bool
     ensures { result ≡ list_any is_terminator bytes.now }
 {
     holds::<Terminator>(bytes)
 }
 
-/// Whether a slash, NUL, LF or CR is among the bytes, of which none may stand in the name of a file.
+/// Whether a slash, NUL, LF or CR is among the bytes. POSIX lets LF and CR stand in the name of a file, and worlds here take no such name.
 pub fn holds_separator(bytes: &[u8]) -> bool
     ensures { result ≡ list_any (λ b. is_slash b || is_terminator b) bytes.now }
 {

@@ -16,7 +16,7 @@ use Rattle.md_used.specs.Paths.{is_message}
 abbrev pub most_name_bytes : ℕ
 most_name_bytes = 255
 
--- a name that no file has: empty, too long, or with a slash, NUL, LF or CR
+-- a name that no world takes: empty, too long, or with a slash, NUL, LF or CR
 abbrev pub is_bad_name : List ℕ → Bool
 is_bad_name name = length name == 0 || nat_lt most_name_bytes (length name) || list_any (λ b. is_slash b || is_terminator b) name
 

@@ -11,6 +11,6 @@ is_tmp Tmp = true
 is_tmp New = false
 is_tmp Cur = false
 
--- maildir(5): a message has a name in new or cur that begins with no dot
+-- maildir(5): a message has a name in new or cur that begins with no dot; own: and has a unique part
 abbrev pub is_message : Path → Bool
 is_message p = not (is_tmp p.place) && is_message_name p.name

@@ -85,7 +85,7 @@ impl Seen {
     }
 }
 
-/// Whether no file has the name: it is empty, too long, or has a slash, NUL, LF or CR.
+/// Whether a world refuses the name as `BadName`: it is empty, over 255 bytes long, or has a slash, NUL, LF or CR.
 pub fn is_bad(name: &[u8]) -> bool
     ensures { result ≡ is_bad_name name.now }
 {

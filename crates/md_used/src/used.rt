@@ -1,5 +1,5 @@
 //! The names that are used up, looked up by their hash.
-ghost use Rattle.std.specs.Prelude.{◌≡◌, ◌||◌, ◌++◌, [], length, not, OnOk, OnErr, IfOk, IfSome, Some};
+ghost use Rattle.std.specs.Prelude.{◌≡◌, ◌||◌, ◌++◌, ◌+◌, ◌-◌, ◌^◌, [], length, min, not, is_some, OnOk, OnErr, IfOk, IfSome, Some, None as Nothing, if◌then◌else◌};
 ghost use Rattle.std.specs.Str.{bytes_eq};
 ghost use Rattle.md_used.specs.Used.{AreKept, IsAllOf, is_among, may_be_among};
 
@@ -67,6 +67,7 @@ impl NameSet {
     pub fn insert(&mut self, name: &[u8]) -> Result<bool, AllocError>
         ensures new { IfOk result (λ is_new. is_new ≡ not (is_among name.now self.old)) }
         ensures ok { OnOk result ((u : _) → is_among u self.new ≡ (bytes_eq name.now u || is_among u self.old)) }
+        ensures len { IfOk result (λ is_new. length self.new ≡ length self.old + (if is_new then 1 else 0)) }
         ensures err { OnErr result (self.new ≡ self.old) }
     {
         let key = NameKey::copied(self.alloc, name)?;
@@ -75,7 +76,9 @@ impl NameSet {
 
     /// Makes room for so many names more, so that the table doesn't grow as they come one by one.
     pub fn reserve(&mut self, count: usize) -> Result<(), AllocError>
-        ensures { (u : _) → is_among u self.new ≡ is_among u self.old }
+        ensures same { (u : _) → is_among u self.new ≡ is_among u self.old }
+        ensures len { length self.new ≡ length self.old }
+        ensures err { OnErr result (self.new ≡ self.old) }
     {
         self.names.reserve(count)
     }
@@ -143,6 +146,8 @@ impl Used {
     pub fn merge(&mut self) -> Result<(), AllocError>
         ensures since { self.new.since ≡ self.old.since }
         ensures were { AreKept self.old.were self.new.were }
+        ensures kept { OnOk result (is_some self.new.were ≡ is_some self.old.were) }
+        ensures lost { OnErr result (self.new.were ≡ Nothing) }
     {
         let Some(names) = &mut self.were else {
             return Ok(());
@@ -228,8 +233,10 @@ impl UsedNames {
         self.messages.append(late)
     }
 
-    /// How many names these are.
-    pub fn len(&self) -> usize {
+    /// How many names these are, where one of a message and of a file in tmp counts twice; or as many as can be counted.
+    pub fn len(&self) -> usize
+        ensures { result ≡ min (length self.now) (2 ^ 64 - 1) }
+    {
         self.messages
             .len()
             .saturating_add(self.tmp.len())

@@ -41,8 +41,8 @@ module _ (r : Run) (s : State) (used : Used) (same : (u : List ℕ) → is_used_
   free u is = ap (λ b. first_met ((b, core.NameUsed) ∷ [])) (sym (same u) ∙ is)
 
   unmet-last : (call : Call) → makes_used s used call ≡ false → first_met (late_checks r call) ≡ None
-  unmet-last (Deliver folder u body chunk) = free u
-  unmet-last (Copy folder u to fresh tries) = free fresh
+  unmet-last (Deliver folder u body chunk) is = free u is
+  unmet-last (Copy folder u to fresh tries) is = free fresh is
   unmet-last call is = refl
 
   pub taken : (call : Call) → early_refusal r call ≡ None → makes_used s used call ≡ false → submit_refusal r call ≡ None

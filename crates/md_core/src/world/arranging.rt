@@ -6,8 +6,9 @@ use md_dirs::{Dirs, Place};
 use std::alloc::AllocError;
 
 impl<D: Dirs> World<D> {
-    /// Makes a folder ready to be listed, so that a listing need not find the order of its names anew. It costs nothing where nothing
-    /// changed since, else one sort of the names, and it does nothing where the folder is not there.
+    /// Makes a folder ready to be listed, so that a listing need not find the order of its names anew. It costs nothing if nothing changed
+    /// since, else one sort of the names. It does nothing if the folder is not there, or for hashed directories in which two names share a
+    /// unique part: these are sorted at each listing.
     ///
     /// It is refused only when out of memory. A listing then shows the same, later.
     pub fn arrange(&mut self, folder: u32) -> Result<(), AllocError>
@@ -23,18 +24,4 @@ impl<D: Dirs> World<D> {
     {
         self.dirs.arrange(folder, place)
     }
-}
-
-/// Makes the directories of all folders ready for looks at their names by their positions, tmp among them, as `World::arrange` makes a
-/// folder ready to be listed. `World::load` needs no order, unless a name has a fault: called before, this makes that of the first listing.
-pub fn arrange_all<D: Dirs>(dirs: &mut D) -> Result<(), AllocError>
-    ensures { D.device dirs.new ≡ D.device dirs.old }
-{
-    let folders = dirs.folders();
-    for folder in 0..folders {
-        dirs.arrange(folder, Place::Tmp)?;
-        dirs.arrange(folder, Place::New)?;
-        dirs.arrange(folder, Place::Cur)?;
-    }
-    Ok(())
 }

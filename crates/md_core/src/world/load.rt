@@ -24,9 +24,9 @@ pub struct LoadRefused<D> {
 impl<D: Dirs> World<D> {
     /// A world over directories. Its clock begins at the greatest stamp of their files, in seconds, or at 0.
     ///
-    /// Every name is looked at, by folder, then tmp, new and cur, then name. The first fault is the refusal: `BadName`, `LongUnique` and
-    /// `DuplicateUnique`, in this order at one name. `NoMemory` may come in place of any of these. The directories come back.
-    /// They are looked at as they lie: their order, where it isn't made, is asked for only where one has a fault.
+    /// Every name is looked at, as they lie. The refusal is the first fault by folder, then tmp, new and cur, then name: `BadName`, `LongUnique`
+    /// and `DuplicateUnique`, in this order at one name. `NoMemory` may come in place of any of these. The directories come back. Names are put
+    /// in order only if one has a fault.
     pub fn load(alloc: Global, dirs: D) -> Result<World<D>, LoadRefused<D>>
         ensures ok { IfOk result (λ w. w ≡ new_run (D.device dirs)) }
         ensures accepted { OnOk result (load_refusal (D.device dirs).state ≡ None) }

@@ -29,15 +29,16 @@ impl<D: Dirs> World<D> {
         self.log.effects.as_slice()
     }
 
-    /// The row at a position of the ordered names of a directory, from 0. None past the last, and where the folder is not there.
+    /// The row at a position of the ordered names of a directory, from 0. None past the last, and if the folder is not there. In hashed
+    /// directories whose order is not made (`arrange_directory`) it costs a look at each name for each position up to this one.
     pub fn names(&self, folder: u32, place: Place, at: usize) -> Option<RowRef<'_>>
         ensures { result ≡ slice_get (rows_of (dirs_of self.now) folder place) at }
     {
         self.dirs.row_at(folder, place, at)
     }
 
-    /// Rows of the ordered names of a directory from a position on, one after another: at least one, where there is one. It takes memory
-    /// for them, and is refused only when out of it.
+    /// Rows of the ordered names of a directory from a position on, one after another: at least one, if there is one. It takes memory for
+    /// them, and is refused only when out of it. In hashed directories whose order is not made it sorts all names each time.
     pub fn names_from(
         &self,
         alloc: Global,
@@ -67,8 +68,8 @@ impl<D: Dirs> World<D> {
         self.jobs.len() as u64
     }
 
-    /// The bytes of the message of a unique name, in new or cur of any folder. None where there is no such message. It looks at some names
-    /// alone, since those of a directory are in order.
+    /// The bytes of the message of a unique name, in new or cur of any folder. None if there is no such message. It looks once in new and once
+    /// in cur of each folder, up to that of the message.
     pub fn read(&self, unique: &[u8]) -> Option<&[u8]>
         ensures { option_map (λ b. b.now) result ≡ option_map (λ (e : Entry). e.bytes) (finmap.get (mailbox_of (dirs_of self.now)) unique.now) }
     {

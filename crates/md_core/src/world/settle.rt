@@ -20,7 +20,7 @@ pub enum SettleError {
     /// This job has no answer, and each job before it has one.
     #[error("job {0} has no answer")]
     Unanswered(JobId),
-    /// A growth was refused.
+    /// Out of memory. `World::settle` never answers it: it is for those who settle worlds behind other calls, as the library for C.
     #[error("no memory")]
     NoMemory,
 }

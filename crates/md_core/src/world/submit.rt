@@ -128,6 +128,8 @@ impl<D: Dirs> World<D> {
     ///
     /// It is refused, in this order, as `NoFolder`, `SameFolder`, `BadUnique`, `BadTries`, `BadChunk`, `BodyTooLong`, `TooManyJobs`,
     /// `NameUsed` and `NoMemory`. After a refusal nothing has changed, and the call comes back.
+    ///
+    /// The first delivery or copy gathers the names of all folders, unless `load` did. A clean copies the names in tmp of its folder.
     pub fn submit(&mut self, call: Call) -> Result<JobId, SubmitRefused>
         ensures ok { IfOk result (λ job. (self.new ≡ and_call self.old call) × (job ≡ length self.old.calls + 1)) }
         ensures effects { OnOk result (effects_of self.new ≡ effects_of self.old) }
