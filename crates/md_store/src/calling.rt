@@ -38,7 +38,8 @@ pub enum CallError {
 impl<D: Dirs, J: Naming> Store<D, J> {
     /// Submits a call and steps its job until that has its answer, each step at the moments `now` and `own`, in seconds, as `step` takes
     /// them. Other threads may step other jobs between. The answer is one of this call, in the store's own run, of which the pass was told.
-    /// Where it says that the call took effect, the pass was told of that effect, too.
+    /// If it says that the call took effect, the pass was told of that effect, too. Of the moments the contract says what the step was given
+    /// that answered, and not what those before it were.
     ///
     /// It takes the lock once for the submission and once a step: as many as the job makes directory calls. Refused `Refused` as `submit`
     /// is, else `NoMemory`, else `Unanswered` where another thread stepped this job to its answer, else `Untold` with the answer where

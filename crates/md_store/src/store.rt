@@ -76,8 +76,8 @@ impl<D: Dirs, J: Naming> Store<D, J> {
     /// where memory for publishing runs out, the news is `Later`, and the pass is told of no effect.
     ///
     /// `now` and `own` are in seconds. The store's clock becomes `now` where that is greater; `own` is the moment by the clock of the job's
-    /// host, and a job without one goes by the store's. Refused `NoJob`, `Answered`, or `NoMemory`: then no directory call was made, the
-    /// pass holds what it held, and an effect that was left from before may have been published.
+    /// host, and a job without one goes by the store's. Refused `NoJob`, `Answered`, or `NoMemory`: then no directory call was made, and the
+    /// pass holds what it held. After `NoMemory` an effect that was left from before may have been published.
     pub fn step<R: Wait>(
         &self,
         rt: &R,
