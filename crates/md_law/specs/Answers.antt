@@ -1,14 +1,9 @@
 -- What a program told its user of a message, and what it did since it last told of it.
 use Rattle.std.specs.Prelude.{ℕ, ◌≡◌, ◌⊎◌, List, false}
-use Rattle.md_dirs.specs.State.{State}
-use Rattle.md_dirs.specs.declared.paths.Path.{Path}
-use Rattle.md_dirs.specs.declared.paths.Place.{Place}
-use Rattle.md_log.specs.declared.line.Call.{Call}
+use Rattle.md_law.specs.Values.{State, Path, Place, Call, Reply, Said}
 use Rattle.md_log.specs.declared.line.Call.TheVariants as call
 use Rattle.md_log.specs.declared.line.Deed.TheVariants as deed
-use Rattle.md_log.specs.declared.line.Reply.{Reply}
 use Rattle.md_log.specs.declared.line.Reply.TheVariants as reply
-use Rattle.md_log.specs.declared.line.Said.{Said}
 use Rattle.md_law.specs.History.{History, at, before, IsCall, IsBy, Since}
 use Rattle.md_law.specs.Messages.{is_tmp, IsOf, IsMessageAt, IsThere}
 use Rattle.md_law.specs.Readings.{ShowsNames}

@@ -1,20 +1,12 @@
 -- The clauses of the law, each with its source. Each says of a history that its last step breaks the clause.
 use Rattle.std.specs.Prelude.{ℕ, ◌≡◌, ◌≢◌, ◌<◌, ◌-◌, ◌⊎◌, List, Option, Some, None, true, slice_get}
 use Rattle.md_dirs.specs.Path.{path_of}
-use Rattle.md_dirs.specs.State.{file_at, file_by}
+use Rattle.md_law.specs.Values.{file_at, file_by, File, Path, Place, Tmp, New, Cur, Call, Naming, Reply, Said}
 use Rattle.md_dirs.specs.declared.calls.DirError.{DirError}
 use Rattle.md_dirs.specs.declared.calls.DirError.TheVariants as error
-use Rattle.md_dirs.specs.declared.paths.File.{File}
-use Rattle.md_dirs.specs.declared.paths.Path.{Path}
-use Rattle.md_dirs.specs.declared.paths.Place.{Place}
-use Rattle.md_dirs.specs.declared.paths.Place.TheVariants.{Tmp, New, Cur}
-use Rattle.md_log.specs.declared.line.Call.{Call}
 use Rattle.md_log.specs.declared.line.Call.TheVariants as call
 use Rattle.md_log.specs.declared.line.Deed.TheVariants as deed
-use Rattle.md_log.specs.declared.line.Naming.{Naming}
-use Rattle.md_log.specs.declared.line.Reply.{Reply}
 use Rattle.md_log.specs.declared.line.Reply.TheVariants as reply
-use Rattle.md_log.specs.declared.line.Said.{Said}
 use Rattle.md_log.specs.declared.line.Said.TheVariants as said
 use Rattle.md_name.specs.Names.{unique_of}
 use Rattle.md_law.specs.History.{History, at, now, before, ask_at, ask_between, IsCall, IsBy, Once, Since}

@@ -1,11 +1,8 @@
 -- What the last step of a history does to files and paths, and what was done to a file so far.
 use Rattle.std.specs.Prelude.{ℕ, ◌≡◌, ◌≢◌, List, Some, None, true, length}
-use Rattle.md_dirs.specs.State.{file_at}
-use Rattle.md_dirs.specs.declared.paths.Path.{Path}
-use Rattle.md_dirs.specs.declared.paths.Place.TheVariants.{Cur}
+use Rattle.md_law.specs.Values.{file_at, Path, Cur, Reply}
 use Rattle.md_log.specs.declared.line.Call.TheVariants as call
 use Rattle.md_log.specs.declared.line.Deed.TheVariants as deed
-use Rattle.md_log.specs.declared.line.Reply.{Reply}
 use Rattle.md_log.specs.declared.line.Reply.TheVariants as reply
 use Rattle.md_law.specs.History.{History, at, before, IsCall, IsBy, Once, Since}
 use Rattle.md_law.specs.Messages.{is_message, IsSeen}

@@ -2,17 +2,11 @@
 -- last step, and what was so before is said as past-time temporal logic says it: once, since.
 use Rattle.std.specs.Prelude.{ℕ, ◌≡◌, ◌⊎◌, List, [], Option, Some, None, max}
 use Rattle.md_dirs.specs.Calls as dirs
-use Rattle.md_dirs.specs.State.{State}
-use Rattle.md_dirs.specs.declared.paths.Path.{Path}
-use Rattle.md_log.specs.declared.line.Call.{Call}
+use Rattle.md_law.specs.Values.{State, Path, Call, Deed, Naming, Reply, Step}
 use Rattle.md_log.specs.declared.line.Call.TheVariants as call
-use Rattle.md_log.specs.declared.line.Deed.{Deed}
 use Rattle.md_log.specs.declared.line.Deed.TheVariants as deed
-use Rattle.md_log.specs.declared.line.Naming.{Naming}
 use Rattle.md_log.specs.declared.line.Naming.TheVariants as naming
-use Rattle.md_log.specs.declared.line.Reply.{Reply}
 use Rattle.md_log.specs.declared.line.Reply.TheVariants as reply
-use Rattle.md_log.specs.declared.line.Step.{Step}
 
 -- the directories, and the clock in seconds
 pub record Moment : Type 0 where

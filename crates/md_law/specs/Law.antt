@@ -1,16 +1,11 @@
 -- The law: what no step of a lawful history does. Beside it stands what each program owes the others, so that a job beside them keeps its
 -- promises: the six clauses below, and TwoNames, Mixed, CleanedEarly and MovedBack of the law. A clause says of a history that its last
 -- step breaks it.
-use Rattle.std.specs.Prelude.{ℕ, ◌≡◌, ◌≢◌, ◌<◌, ◌≤◌, ◌-◌, List, Some, true}
-use Rattle.md_dirs.specs.State.{file_at, file_by}
-use Rattle.md_dirs.specs.declared.paths.File.{File}
-use Rattle.md_dirs.specs.declared.paths.Path.{Path}
-use Rattle.md_dirs.specs.declared.paths.Place.TheVariants.{Tmp}
+use Rattle.std.specs.Prelude.{ℕ, ◌≡◌, ◌≢◌, ◌≤◌, ◌-◌, List, Some, true}
+use Rattle.md_law.specs.Values.{file_at, file_by, File, Path, Tmp, Clause}
 use Rattle.md_name.specs.Names.{unique_of}
-use Rattle.md_log.specs.declared.clause.Clause.{Clause}
 use Rattle.md_log.specs.declared.clause.Clause.TheVariants as clause
-use Rattle.md_log.specs.Texts.{clause_index}
-use Rattle.md_law.specs.History.{History, opening, next, at, now, before, IsBy, Once}
+use Rattle.md_law.specs.History.{History, at, now, before, IsBy, Once}
 use Rattle.md_law.specs.Messages.{is_message, IsSeen, IsMessageAt}
 use Rattle.md_law.specs.Files.{Names, Adds, MayWrite, IsMaker}
 use Rattle.md_law.specs.Clauses as law
@@ -70,12 +65,3 @@ Breaks clause.Rewritten h = Rewritten h
 Breaks clause.UsedTwice h = UsedTwice h
 Breaks clause.MadeAgain h = MadeAgain h
 Breaks clause.WrittenLate h = WrittenLate h
-
--- the clause is one of the law
-abbrev pub IsOfLaw : Clause → Type 0
-IsOfLaw c = clause_index c < 13
-
--- A history is lawful if no step of it breaks a clause of the law.
-unfoldable pub IsLawful : History → Type 0
-IsLawful (opening m) = Unit {0}
-IsLawful (next past x) = IsLawful past × ((c : Clause) → IsOfLaw c → Breaks c (next past x) → ⊥)

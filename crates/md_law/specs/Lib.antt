@@ -1,3 +1,4 @@
+pub mod Values
 pub mod History
 pub mod Messages
 pub mod Files

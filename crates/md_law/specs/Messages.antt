@@ -1,18 +1,14 @@
 -- Messages: the names of new and cur that readers show, by maildir(5).
 use Rattle.std.specs.Prelude.{ℕ, ◌≡◌, List, Some, Bool, true, false, ◌&&◌, not, IsTrue}
 use Rattle.std.specs.FinSet as set
-use Rattle.md_dirs.specs.State.{State, file_at}
-use Rattle.md_dirs.specs.declared.paths.Path.{Path}
-use Rattle.md_dirs.specs.declared.paths.Place.{Place}
-use Rattle.md_dirs.specs.declared.paths.Place.TheVariants.{Tmp, New, Cur}
+use Rattle.md_law.specs.Values.{State, file_at, Path, Place, Tmp}
 use Rattle.md_name.specs.Letters.{Set}
 use Rattle.md_name.specs.Names.{unique_of, info_of, flags_of, is_message_name}
 
 -- the place is tmp
 abbrev pub is_tmp : Place → Bool
 is_tmp Tmp = true
-is_tmp New = false
-is_tmp Cur = false
+is_tmp p = false
 
 -- maildir(5): a message has a name in new or cur that begins with no dot; own: and has a unique part
 abbrev pub is_message : Path → Bool

@@ -2,16 +2,12 @@
 use Rattle.std.specs.Prelude.{ℕ, List, Bool, true, false, not, ◌&&◌, ◌||◌, ◌==◌, nat_lt}
 use Rattle.std.specs.FinSet as set
 use Rattle.std.specs.Str.{bytes_eq}
-use Rattle.md_dirs.specs.State.{State}
+use Rattle.md_law.specs.Values.{State, Call, Reply, Said, Step}
 use Rattle.md_name.specs.Letters.{Set}
 use Rattle.md_name.specs.Names.{info_of, flags_of}
-use Rattle.md_log.specs.declared.line.Call.{Call}
 use Rattle.md_log.specs.declared.line.Call.TheVariants as call
 use Rattle.md_log.specs.declared.line.Deed.TheVariants as deed
-use Rattle.md_log.specs.declared.line.Reply.{Reply}
-use Rattle.md_log.specs.declared.line.Said.{Said}
 use Rattle.md_log.specs.declared.line.Said.TheVariants as said
-use Rattle.md_log.specs.declared.line.Step.{Step}
 use Rattle.md_law.specs.History.{History, opening, next, at, now, after_call}
 use Rattle.md_law.specs.Answers.{Claim}
 use Rattle.md_law.specs.Messages.{is_tmp}

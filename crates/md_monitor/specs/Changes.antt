@@ -1,9 +1,7 @@
 -- Which path a call makes name another file than before, and which it takes away.
 use Rattle.std.specs.Prelude.{ℕ, Option, Some, None, Bool, false, ◌==◌, if◌then◌else◌, length}
 use Rattle.std.specs.Option.{option_map}
-use Rattle.md_dirs.specs.State.{State, file_at}
-use Rattle.md_dirs.specs.declared.paths.Path.{Path}
-use Rattle.md_log.specs.declared.line.Call.{Call}
+use Rattle.md_law.specs.Values.{State, file_at, Path, Call}
 use Rattle.md_log.specs.declared.line.Call.TheVariants as call
 use Rattle.md_log.specs.declared.line.Deed.TheVariants as deed
 use Rattle.md_log.specs.declared.line.Naming.TheVariants as naming

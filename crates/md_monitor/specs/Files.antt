@@ -3,16 +3,10 @@ use Rattle.std.specs.Prelude.{ℕ, List, Option, Some, None, Bool, true, false, 
 use Rattle.std.specs.List.{count_by}
 use Rattle.std.specs.Option.{option_map}
 use Rattle.std.specs.FinMap as finmap
-use Rattle.md_dirs.specs.State.{State, file_at}
-use Rattle.md_dirs.specs.declared.paths.Path.{Path}
-use Rattle.md_dirs.specs.declared.paths.Place.{Place}
-use Rattle.md_dirs.specs.declared.paths.Place.TheVariants.{Tmp, New, Cur}
-use Rattle.md_log.specs.declared.line.Call.{Call}
+use Rattle.md_law.specs.Values.{State, file_at, Path, Place, New, Cur, Call, Reply, Step}
 use Rattle.md_log.specs.declared.line.Call.TheVariants as call
 use Rattle.md_log.specs.declared.line.Deed.TheVariants as deed
-use Rattle.md_log.specs.declared.line.Reply.{Reply}
 use Rattle.md_log.specs.declared.line.Reply.TheVariants as reply
-use Rattle.md_log.specs.declared.line.Step.{Step}
 use Rattle.md_law.specs.History.{History, opening, next, at}
 use Rattle.md_law.specs.Messages.{is_message}
 use Rattle.md_monitor.specs.Changes.{change_of, is_file}
@@ -54,15 +48,13 @@ is_seen s n = nat_lt 0 (seen_times s n)
 
 -- the place is new
 abbrev pub is_new : Place → Bool
-is_new Tmp = false
 is_new New = true
-is_new Cur = false
+is_new p = false
 
 -- the place is cur
 abbrev pub is_cur : Place → Bool
-is_cur Tmp = false
-is_cur New = false
 is_cur Cur = true
+is_cur p = false
 
 -- the path is one of a message in cur
 abbrev pub is_cur_message : Path → Bool

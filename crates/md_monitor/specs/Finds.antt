@@ -1,7 +1,6 @@
 -- What is said of the monitor.
 use Rattle.std.specs.Prelude.{◌≡◌, ◌↔◌, true}
-use Rattle.md_log.specs.declared.clause.Clause.{Clause}
-use Rattle.md_log.specs.declared.line.Step.{Step}
+use Rattle.md_law.specs.Values.{Clause, Step}
 use Rattle.md_law.specs.History.{History, next, at, now}
 use Rattle.md_law.specs.Law.{Breaks}
 use Rattle.md_monitor.specs.Judged.{kept_of, kept_next, finds}

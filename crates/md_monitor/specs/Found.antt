@@ -1,15 +1,11 @@
 -- Which clauses a step breaks, by the directories before it, the clock after it, and what is kept of files.
 use Rattle.std.specs.Prelude.{ℕ, List, Option, Bool, false, not, ◌&&◌, ◌||◌, ◌-◌, nat_lt, nat_le, is_some}
 use Rattle.std.specs.Str.{bytes_eq}
-use Rattle.md_dirs.specs.State.{State, file_by}
-use Rattle.md_dirs.specs.declared.paths.Path.{Path}
-use Rattle.md_log.specs.declared.clause.Clause.{Clause}
+use Rattle.md_law.specs.Values.{State, file_by, Path, Clause, Call, Step}
 use Rattle.md_log.specs.declared.clause.Clause.TheVariants as clause
-use Rattle.md_log.specs.declared.line.Call.{Call}
 use Rattle.md_log.specs.declared.line.Call.TheVariants as call
 use Rattle.md_log.specs.declared.line.Deed.TheVariants as deed
 use Rattle.md_log.specs.declared.line.Reply.TheVariants as reply
-use Rattle.md_log.specs.declared.line.Step.{Step}
 use Rattle.md_law.specs.History.{after_call}
 use Rattle.md_law.specs.Messages.{is_message, is_tmp}
 use Rattle.md_monitor.specs.Changes.{change_of, turned_by}

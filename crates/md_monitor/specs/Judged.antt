@@ -1,16 +1,11 @@
 -- The monitor: what it keeps, and what it finds.
 use Rattle.std.specs.Prelude.{ℕ, List, Option, Bool, true, false, not, ◌&&◌}
 use Rattle.std.specs.Option.{option_map, option_or}
-use Rattle.md_dirs.specs.State.{State}
+use Rattle.md_law.specs.Values.{State, Path, Clause, Call, Reply, Step}
 use Rattle.md_dirs.specs.declared.calls.DirError.{DirError}
-use Rattle.md_dirs.specs.declared.paths.Path.{Path}
-use Rattle.md_log.specs.declared.clause.Clause.{Clause}
 use Rattle.md_log.specs.declared.clause.Clause.TheVariants as clause
-use Rattle.md_log.specs.declared.line.Call.{Call}
 use Rattle.md_log.specs.declared.line.Call.TheVariants as call
-use Rattle.md_log.specs.declared.line.Reply.{Reply}
 use Rattle.md_log.specs.declared.line.Reply.TheVariants as reply
-use Rattle.md_log.specs.declared.line.Step.{Step}
 use Rattle.md_law.specs.History.{History, ask_at, ask_between}
 use Rattle.md_law.specs.Answers.{Claim}
 use Rattle.md_law.specs.Readings.{Looker}

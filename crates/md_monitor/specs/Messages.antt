@@ -5,14 +5,11 @@ use Rattle.std.specs.Ordering.{eq_by_cmp}
 use Rattle.std.specs.Str.{bytes_eq}
 use Rattle.std.specs.FinSet as set
 use Rattle.md_dirs.specs.Path.{path_cmp}
-use Rattle.md_dirs.specs.State.{State, file_at}
-use Rattle.md_dirs.specs.declared.paths.Path.{Path}
+use Rattle.md_law.specs.Values.{State, file_at, Path, Call, Step}
 use Rattle.md_name.specs.Names.{unique_of, info_of, flags_of}
-use Rattle.md_log.specs.declared.line.Call.{Call}
 use Rattle.md_log.specs.declared.line.Call.TheVariants as call
 use Rattle.md_log.specs.declared.line.Deed.TheVariants as deed
 use Rattle.md_log.specs.declared.line.Reply.TheVariants as reply
-use Rattle.md_log.specs.declared.line.Step.{Step}
 use Rattle.md_law.specs.History.{History, opening, next, at, after_call}
 use Rattle.md_law.specs.Messages.{is_message, is_tmp}
 use Rattle.md_monitor.specs.Changes.{change_of}
