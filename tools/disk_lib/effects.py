@@ -8,7 +8,7 @@ import stat
 import subprocess
 import time
 
-from .boxes import MAIL, PROGRAM, UNIQUE, Box, BoxTest, run
+from .boxes import MAIL, PLACES, PROGRAM, UNIQUE, Box, BoxTest, run
 
 
 class Effects(BoxTest):
@@ -62,6 +62,21 @@ class Effects(BoxTest):
         self.box.put("cur", UNIQUE + b":2,")
         os.utime(self.box.path / "cur", (2**33, 2**33))
         self.assertEqual(self.run_well("list", "box").count(b"\n"), 1)
+
+    def test_directories_that_are_links(self) -> None:
+        """Tmp, new and cur may be symbolic links to directories elsewhere."""
+        for place in PLACES:
+            (self.box.path / place).rename(self.top / place)
+            (self.box.path / place).symlink_to(self.top / place)
+        os.utime(self.box.put("tmp", b"old"), (1000, 1000))
+        key = self.run_well("deliver", "box", "--print", given=MAIL)[:-1]
+        self.assertEqual(self.run_well("list", "box"), b"new\t-\t" + key + b"\n")
+        self.assertEqual(self.run_well("read", "box", key), MAIL)
+        self.run_well("seen", "box", key)
+        self.run_well("flag", "box", "+F", key)
+        self.run_well("clean", "box")
+        self.run_well("check", "box")
+        self.assertEqual(self.box.files(), {b"cur/" + key + b":2,FS": MAIL})
 
     def test_list_headers(self) -> None:
         self.box.put("cur", b"a:2,S", b"Date: Thu, 1 Jan 1970 00:16:40 +0000\nFrom: x\ty <a@b>\nSubject: d\xc3\xa9j\xc3\xa0\n\n")

@@ -6,6 +6,7 @@
 use crate::cause::Cause;
 use crate::error::CallError;
 use crate::names::{Names, is_entry};
+use crate::paths::within;
 use md_dirs::Bytes;
 use md_jobs::Purpose;
 use md_system::{Found, acts_on, is_named};
@@ -141,7 +142,9 @@ fn find_once<R: Files>(
 
 // Opens a directory to be read.
 fn open_names<R: Files>(alloc: Global, files: &R, path: &str) -> Result<Names<R::Dir>, CallError> {
-    let dir = files.open_dir(path).map_err(no_directory)?;
+    // Behind a slash the system follows a symlink to a directory.
+    let whole = within(alloc, path, "")?;
+    let dir = files.open_dir(whole.as_str()).map_err(no_directory)?;
     Ok(Names::new(alloc, dir)?)
 }
 
