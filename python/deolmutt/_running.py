@@ -159,7 +159,7 @@ def _used_files(directory: bytes) -> Iterator[_Row]:
     for name in os.listdir(directory):
         try:
             about = os.lstat(os.path.join(directory, name))
-        except OSError:
+        except FileNotFoundError:
             continue
         if stat.S_ISREG(about.st_mode):
             yield name, int(max(about.st_mtime, about.st_atime))

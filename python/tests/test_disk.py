@@ -206,6 +206,14 @@ class BesideCPythonTest(DiskCase):
         self.box.clean()
         self.assertEqual(["young"], self.names("tmp"))
 
+    def test_a_clean_that_may_not_look(self) -> None:
+        (self.path / "tmp/old").write_bytes(MESSAGE)
+        folders = [os.fsencode(self.path)]
+        with mock.patch.object(os, "lstat", side_effect=PermissionError), self.assertRaises(Fault):
+            _running.run(Clean(0), folders)
+        with mock.patch.object(os, "lstat", side_effect=FileNotFoundError):
+            self.assertEqual(0, _running.run(Clean(0), folders).removed)
+
 
 @needs_library
 class MeanwhileTest(DiskCase):

@@ -97,6 +97,15 @@ class Refusals(BoxTest):
         self.assertEqual((ended.status, ended.printed), (77, b""))
         self.assertEqual(self.box.files(), {b"new/" + UNIQUE: MAIL})
 
+    @unittest.skipIf(os.geteuid() != 0, "another user can't be asked")
+    def test_no_look_into_tmp(self) -> None:
+        """Where the names of tmp can be read and its files not looked at, it isn't said that none is old."""
+        os.utime(self.box.put("tmp", b"old"), (1000, 1000))
+        (self.box.path / "tmp").chmod(0o744)
+        for words in (("clean", "box"), ("check", "box")):
+            ended = run(*words, cwd=self.top, user=NOBODY, group=NOBODY, extra_groups=[])
+            self.assertEqual((ended.status, ended.printed), (77, b""), words)
+
     def test_full_disk(self) -> None:
         script = """mount -t tmpfs -o size=262144 none "$1" && mkdir -p "$1/b/tmp" "$1/b/new" "$1/b/cur" && cd "$1" || exit
             head -c 1000000 /dev/zero | "$2" deliver b; echo "status $?"; ls b/tmp b/new

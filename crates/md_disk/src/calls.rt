@@ -1,6 +1,6 @@
 //! Directory calls on a disk.
 use crate::cause::Cause;
-use crate::error::{CallError, unless_refused};
+use crate::error::CallError;
 use crate::paths::Folders;
 use crate::reading::{find_name, names_once, no_directory, rested_name};
 use md_dirs::{Bytes, Place, Row};
@@ -221,13 +221,28 @@ impl<'r, R: Files + Clock> Calls<'r, R> {
         let mut rows = Vec::new(alloc);
         let dir = self.folders.dir(alloc, folder, Place::Tmp)?;
         for name in names_once(alloc, self.files, dir.as_str())? {
-            let path = PathRef::new(folder, Place::Tmp, name.as_slice());
-            let about = unless_refused(self.metadata(alloc, &path))?;
-            if let Some(used) = about.and_then(|about| used_at(&about)) {
+            if let Some(used) = self.used_in_tmp(alloc, folder, name.as_slice())? {
                 rows.push(row_of(name, used))?;
             }
         }
         Ok(rows)
+    }
+
+    // The second of the last write or last read of a name in tmp. None where it is no regular file, where it is gone, and where it is not
+    // UTF-8, so that no call can be made on it.
+    fn used_in_tmp(
+        &self,
+        alloc: Global,
+        folder: u32,
+        name: &[u8],
+    ) -> Result<Option<u64>, CallError> {
+        match self.metadata(alloc, &PathRef::new(folder, Place::Tmp, name)) {
+            Ok(about) => Ok(used_at(&about)),
+            Err(CallError::Refused(Cause::System(ErrorKind::NotFound) | Cause::NotText)) => {
+                Ok(None)
+            }
+            Err(error) => Err(error),
+        }
     }
 }
 

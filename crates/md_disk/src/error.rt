@@ -35,12 +35,3 @@ impl From<io::Error> for CallError {
         CallError::Refused(Cause::System(error.kind()))
     }
 }
-
-/// What was made, if it was not refused. Refused only when out of memory.
-pub(crate) fn unless_refused<T>(made: Result<T, CallError>) -> Result<Option<T>, AllocError> {
-    match made {
-        Ok(value) => Ok(Some(value)),
-        Err(CallError::Refused(_)) => Ok(None),
-        Err(CallError::NoMemory) => Err(AllocError),
-    }
-}
