@@ -131,7 +131,7 @@ impl<'r, R: Files + Clock> Calls<'r, R> {
             return Err(CallError::Refused(Cause::Unflushed));
         }
         if let Err(error) = self.files.hard_link(from.as_str(), to.as_str()) {
-            return Err(self.unlinked(dir.as_str(), error));
+            return Err(self.no_new_name(dir.as_str(), error));
         }
         if self.sync && !self.flush_dir(dir.as_str()) {
             self.unflushed = true;
@@ -139,8 +139,8 @@ impl<'r, R: Files + Clock> Calls<'r, R> {
         Ok(())
     }
 
-    // Why a link into a directory was not made. ENOENT is of the old name only where the directory is there.
-    fn unlinked(&self, dir: &str, error: io::Error) -> CallError {
+    // Why a name was not given in a directory by a link or a rename. ENOENT is of the old name only where the directory is there.
+    fn no_new_name(&self, dir: &str, error: io::Error) -> CallError {
         if error.kind() == ErrorKind::NotFound && self.files.metadata(dir).is_err() {
             return CallError::Refused(Cause::NoPlace);
         }
@@ -166,6 +166,7 @@ impl<'r, R: Files + Clock> Calls<'r, R> {
     fn rename(&self, alloc: Global, old: &PathRef<'_>, new: &PathRef<'_>) -> Result<(), CallError> {
         let from = self.folders.file(alloc, old)?;
         let to = self.folders.file(alloc, new)?;
+        let dir = self.folders.dir(alloc, new.folder(), new.place())?;
         match self.files.symlink_metadata(to.as_str()) {
             // Where another process has just made this very call, the old name is gone, and that is the refusal.
             Ok(_) => {
@@ -173,7 +174,10 @@ impl<'r, R: Files + Clock> Calls<'r, R> {
                 Err(CallError::Refused(Cause::NameTaken))
             }
             Err(error) if error.kind() == ErrorKind::NotFound => {
-                Ok(self.files.rename(from.as_str(), to.as_str())?)
+                match self.files.rename(from.as_str(), to.as_str()) {
+                    Ok(()) => Ok(()),
+                    Err(error) => Err(self.no_new_name(dir.as_str(), error)),
+                }
             }
             Err(error) => Err(CallError::from(error)),
         }

@@ -30,7 +30,7 @@ pub enum Cause {
     /// The directory is not there: the folder is no maildir.
     #[error("its directory is not there")]
     NoDirectory,
-    /// The directory that the file was to be linked into is not there.
+    /// The directory in which the file was to get its new name is not there.
     #[error("the directory of its new name is not there")]
     NoPlace,
     /// The directory was not read, and no hint told of the message.

@@ -3,7 +3,7 @@ use super::HIGH;
 use super::act::Job::{Deliver, Errand};
 use super::act::Wanted::Fault;
 use super::act::Wish::{Expunge, Move};
-use super::beside::Beside::{Lacks, Maildir, Make, Put, Refused, Remove};
+use super::beside::Beside::{Has, Lacks, Maildir, Make, Put, Refused, Remove};
 use super::keeping::Kept::{Because, Hint, NoCause};
 use super::scene::play;
 use super::step::Step;
@@ -12,7 +12,7 @@ use md_dirs::Place::Cur;
 use md_disk::Cause;
 use std::io::ErrorKind;
 
-static CAUSES: [Step<'static>; 24] = [
+static CAUSES: [Step<'static>; 28] = [
     Keep(Hint(Cur, "u:2,S")),
     Keep(NoCause),
     // A delivery under a name that is no text.
@@ -32,6 +32,11 @@ static CAUSES: [Step<'static>; 24] = [
     Job(Deliver("u"), Fault),
     Keep(Because(Cause::NoPlace)),
     Beside(Lacks("inbox/tmp/u")),
+    // A message that was to go there stays, and isn't taken for gone.
+    Beside(Put("other/new/v")),
+    Job(Errand(1, "v", 1, Move(0)), Fault),
+    Keep(Because(Cause::NoPlace)),
+    Beside(Has("other/new/v")),
     Beside(Make("inbox/new")),
     // A delivery into a folder whose tmp is not there, and then is a file.
     Beside(Maildir("inbox")),
