@@ -54,7 +54,8 @@ impl<'r, R: Files + Clock> Calls<'r, R> {
         self.unflushed
     }
 
-    /// Why the last call that was not done was not: each reply but `Ok` has a cause, and a job that ends with `Fault` ends by its cause.
+    /// Why the last call that was not done was not: each reply but `Ok` has a cause, and a job that ends with `Fault` ends by its cause. A
+    /// delivery that could not take its file away either has the cause of that.
     pub fn cause(&self) -> Option<Cause> {
         self.cause.get()
     }
