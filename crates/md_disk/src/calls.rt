@@ -321,7 +321,7 @@ fn used_at(about: &Metadata) -> Option<u64> {
     }
 }
 
-/// A time of the system in seconds since 1970. Before that it is 0.
-pub(crate) fn second_of(time: i64) -> u64 {
+// A time of the system in seconds since 1970. Before that it is 0.
+fn second_of(time: i64) -> u64 {
     u64::try_from(time).unwrap_or(0)
 }

@@ -1,14 +1,12 @@
 //! Maildirs on a disk.
-use crate::calls::{Calls, second_of};
+use crate::calls::Calls;
 use crate::error::CallError;
-use crate::listing::{About, Listed};
 use crate::reading::{all_names, last_names};
 use md_dirs::{Bytes, Place};
-use md_jobs::{DirReply, PathRef};
+use md_jobs::DirReply;
 use md_system::{Hint, Logged, ReadAhead, Shown};
 use std::alloc::{AllocError, Global};
 use std::fs::Files;
-use std::os::unix::fs::MetadataExt;
 use std::time::Clock;
 
 /// Maildirs on a disk. A call on a name that is not UTF-8 is a fault, and is not made.
@@ -66,25 +64,6 @@ impl<'r, R: Files + Clock> Calls<'r, R> {
     /// Whether a look is a fault that no hint answers, and no directory is read. So an errand of one try ends without a reading.
     pub fn only_hints(&mut self, only: bool) {
         self.only_hints = only;
-    }
-
-    /// What a listing tells of a message for a call of the system. `NotFound` where its name is gone. Refused only when out of memory.
-    pub fn about(
-        &self,
-        alloc: Global,
-        folder: u32,
-        listed: &Listed,
-    ) -> Result<(DirReply, Option<About>), AllocError> {
-        let path = PathRef::new(folder, listed.place, listed.name.as_slice());
-        let (reply, about) = self.reply(self.metadata(alloc, &path))?;
-        match about {
-            None => Ok((reply, None)),
-            Some(about) => {
-                let size = about.len();
-                let changed = second_of(about.mtime());
-                Ok((reply, Some(About { size, changed })))
-            }
-        }
     }
 
     /// All names of a directory but `.` and `..`, in no order, of a reading in which it rested. Refused where it never does.

@@ -15,15 +15,6 @@ pub struct Listed {
     pub name: Bytes,
 }
 
-/// What a listing tells of a message beside its name.
-#[derive(Clone, Copy, Debug, PartialEq, Eq)]
-pub struct About {
-    /// Its size in bytes.
-    pub size: u64,
-    /// The second of the last change of its file, since 1970.
-    pub changed: u64,
-}
-
 /// The messages of a folder in order of the bytes of their unique names. New is read, and then cur; a message that both show is where cur
 /// shows it. Each is a reading in which its directory rested. The reply is that of the reading that was not done, and `Fault` where a
 /// directory never rests. Refused only when out of memory.

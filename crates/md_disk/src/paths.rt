@@ -1,5 +1,5 @@
 //! The paths of maildirs as the system takes them.
-ghost use Rattle.std.specs.Prelude.{◌≡◌, ◌++◌, ◌∷◌, [], IfOk, OnOk, OnErr, length, map, string_bytes};
+ghost use Rattle.std.specs.Prelude.{◌≡◌, map, string_bytes};
 
 use crate::cause::Cause;
 use crate::error::CallError;
@@ -28,19 +28,6 @@ impl Folders {
         ensures { result ≡ map string_bytes paths.items }
     {
         Folders { paths }
-    }
-
-    /// Adds a maildir, and gives its number. When out of memory, nothing has changed.
-    pub fn add(&mut self, path: String) -> Result<u32, AllocError>
-        ensures number { IfOk result (λ number. number ≡ length self.old) }
-        ensures added { OnOk result (self.new ≡ self.old ++ string_bytes path ∷ []) }
-        ensures kept { OnErr result (self.new ≡ self.old) }
-    {
-        let Ok(number) = u32::try_from(self.paths.len()) else {
-            return Err(AllocError);
-        };
-        self.paths.push(path)?;
-        Ok(number)
     }
 
     /// How many there are, up to the highest number of a folder.

@@ -1,15 +1,15 @@
-//! Messages that are read, and what is told of them.
+//! Messages that are read.
 use super::act::Job::Deliver;
 use super::act::Wanted::Delivered;
 use super::beside::Beside::{Make, Put};
 use super::keeping::Kept::{Because, Hint};
 use super::scene::play;
-use super::step::Look::{Shown, Told, Unread};
+use super::step::Look::{Shown, Unread};
 use super::step::Step;
 use super::step::Step::{Beside, Job, Keep, Look};
 use super::{BODY, name_of};
 use md_dirs::Place::Cur;
-use md_disk::{About, Cause, Disk, Listed, list_folder};
+use md_disk::{Cause, Disk};
 use md_jobs::{CoreError, DirReply};
 use std::alloc::Global;
 use std::fs::Files;
@@ -17,7 +17,7 @@ use std::io::Read;
 use std::time::Clock;
 
 // A message of new, one of cur by a hint that is out of date, none, and a directory in the place of one.
-static MESSAGES: [Step<'static>; 11] = [
+static MESSAGES: [Step<'static>; 10] = [
     Job(Deliver("u"), Delivered),
     Beside(Put("inbox/cur/v:2,S")),
     Keep(Hint(Cur, "v:2,F")),
@@ -28,7 +28,6 @@ static MESSAGES: [Step<'static>; 11] = [
     Beside(Make("inbox/cur/w:2,")),
     Look(Unread("w", DirReply::Fault)),
     Keep(Because(Cause::NotAFile)),
-    Look(Told),
 ];
 
 fn has_body<F: Read + Drop>(mut file: F) -> bool {
@@ -60,37 +59,6 @@ pub(super) fn is_unread<R: Files + Clock>(
 ) -> Result<bool, CoreError> {
     let (reply, _) = disk.system.open_message(alloc, 0, name_of(unique), 2)?;
     Ok(reply == wanted)
-}
-
-fn is_about(about: About) -> bool {
-    about.size == 6 && about.changed > 1_700_000_000
-}
-
-fn is_told_of<R: Files + Clock>(
-    alloc: Global,
-    disk: &Disk<'_, R>,
-    listed: &Listed,
-) -> Result<bool, CoreError> {
-    let (reply, about) = disk.system.about(alloc, 0, listed)?;
-    let (gone, none) = disk.system.about(alloc, 1, listed)?;
-    Ok(
-        reply == DirReply::Ok
-            && about.is_some_and(is_about)
-            && gone == DirReply::NotFound
-            && none.is_none(),
-    )
-}
-
-/// What is told of the first message of a listing: its second is that of its delivery, or later. In the other folder its name is gone.
-pub(super) fn is_told<R: Files + Clock>(
-    alloc: Global,
-    disk: &Disk<'_, R>,
-) -> Result<bool, CoreError> {
-    let (_, listed) = list_folder(alloc, disk, 0)?;
-    match listed.first() {
-        Some(listed) => is_told_of(alloc, disk, listed),
-        None => Ok(false),
-    }
 }
 
 #[test]

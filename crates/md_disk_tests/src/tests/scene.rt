@@ -44,14 +44,14 @@ fn make_boxes<R: Files + Clock>(
     files: &R,
     root: &str,
 ) -> Result<Folders, CoreError> {
-    let mut folders = Folders::new(Vec::new(alloc));
+    let mut paths = Vec::new(alloc);
     let _made = files.create_dir(root);
     for name in ["inbox", "other"] {
         let path = within(alloc, root, name)?;
         let _made = make_maildir(alloc, files, path.as_str());
-        folders.add(path)?;
+        paths.push(path)?;
     }
-    Ok(folders)
+    Ok(Folders::new(paths))
 }
 
 fn plays_in<H: Counted>(stage: &Stage<'_, H>, steps: &[Step<'_>]) -> Result<bool, CoreError> {

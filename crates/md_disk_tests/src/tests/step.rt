@@ -5,7 +5,7 @@ use super::checks::{FOUND, are_found};
 use super::counting::Counted;
 use super::jobs::JOBS;
 use super::keeping::{Kept, is_kept};
-use super::messages::{is_read, is_told, is_unread};
+use super::messages::{is_read, is_unread};
 use super::readings::{are_flagged, are_many};
 use super::real::{is_listed, is_no_folder};
 use super::scene::Stage;
@@ -30,8 +30,6 @@ pub(super) enum Look<'t> {
     Shown(&'t str),
     /// It is not opened, with this reply.
     Unread(&'t str, DirReply),
-    /// What is told of the first message of a listing.
-    Told,
     /// A check of both maildirs finds nothing, or what was put there for it.
     NoFlaws,
     Flaws,
@@ -52,7 +50,6 @@ fn is_seen<'h, H: Counted>(
     match look {
         Look::Shown(unique) => is_read(stage.alloc, disk, unique),
         Look::Unread(unique, reply) => is_unread(stage.alloc, disk, unique, reply),
-        Look::Told => is_told(stage.alloc, disk),
         Look::NoFlaws => are_found(stage.alloc, disk, &[]),
         Look::Flaws => are_found(stage.alloc, disk, &FOUND),
         Look::Listed => is_listed(stage.alloc, stage.host, disk),
