@@ -86,7 +86,7 @@ class _Watch:
     def rested_since(self) -> Optional[int]:
         """When it was changed last, if that is longer ago than the grain of its times.
 
-        Its time may be one to come, by another machine's clock or as a copy of a tree has it. Then it rests if it bears that time for
+        Its time may be one to come, by another machine's clock or where the clock was set back. Then it rests if it bears that time for
         so long.
         """
         changed, now = _changed_at(self._directory), time.monotonic_ns()
@@ -99,7 +99,8 @@ class _Watch:
 
 
 def _changed_at(directory: bytes) -> Optional[int]:
+    """The time of change and not that of modification, which anybody may set."""
     try:
-        return os.stat(directory).st_mtime_ns
+        return os.stat(directory).st_ctime_ns
     except OSError:
         return None

@@ -302,6 +302,18 @@ class MeanwhileTest(DiskCase):
         for place in ("new", "cur"):
             os.utime(self.path / place, (hour, hour))
         self.assertEqual([key], self.box.keys())
+        with mock.patch.object(time, "time_ns", lambda: 0):
+            self.assertEqual([key], self.box.keys())
+
+    def test_a_time_that_is_set_back_hides_no_change(self) -> None:
+        cur = os.fsencode(self.path / "cur")
+        modified = os.stat(cur).st_mtime_ns
+        before = _readings._changed_at(cur)
+        # Longer than the system's tick, so that the change has a time of its own.
+        time.sleep(0.05)
+        (self.path / "cur/u:2,").write_bytes(MESSAGE)
+        os.utime(cur, ns=(modified, modified))
+        self.assertNotEqual(before, _readings._changed_at(cur))
 
     def test_a_directory_that_never_rests_says_nothing(self) -> None:
         with mock.patch.object(_readings._Watch, "rested_since", lambda watch: None), mock.patch.object(
