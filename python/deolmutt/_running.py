@@ -14,7 +14,7 @@ from typing import Any, Iterator, List, Optional, Sequence, Tuple, Union
 from ._readings import find_name
 from .calls import Answer, Call, Clean
 from .driven import APPEND, CREATE, DONE, EXISTS, FAULTED, LINK, LIST, NOT_FOUND, UNLINK, Driven, Request
-from .errors import DeolmuttError, Failed
+from .errors import DeolmuttError, Failed, TwoNames
 from .lines import encoded
 
 PLACES = (b"tmp", b"new", b"cur")
@@ -30,7 +30,8 @@ _Row = Tuple[bytes, int]
 def run(call: Call, folders: Sequence[bytes], date: Optional[float] = None) -> Answer:
     """Runs the job of a call to its answer, over these maildirs, numbered from 0. A delivery's file gets the date, if there is one.
 
-    An answer that is no success is raised: `Failed`. Refused: as `deolmutt.driven.Driven`.
+    An answer that is no success is raised: `Failed`, from the error of the last call that failed, if one did. Refused: as
+    `deolmutt.driven.Driven`.
     """
     system = _System(folders, date)
     try:
@@ -42,7 +43,7 @@ def run(call: Call, folders: Sequence[bytes], date: Optional[float] = None) -> A
                     job.row(name, stamp)
                 answer = job.take(reply)
                 if isinstance(answer, Failed):
-                    raise answer
+                    raise answer from system.cause
                 if answer is not None:
                     return answer
     finally:
@@ -57,6 +58,8 @@ class _System:
         self._date = date
         # The file of the delivery that is under way.
         self._file: Optional[int] = None
+        # Why the last call that was not done was not.
+        self.cause: Optional[Exception] = None
 
     def make(self, request: Request, call: Call) -> tuple[int, List[_Row]]:
         """Makes a call, and says what was replied and read."""
@@ -67,10 +70,10 @@ class _System:
             if isinstance(call, Clean):
                 return DONE, list(_used_files(directory))
             found = find_name(directory, encoded(call.unique))
+            if found.is_twice:
+                raise TwoNames(f"two files have the unique name {call.unique}")
         except (OSError, DeolmuttError) as error:
-            return _refused(error), []
-        if found.is_twice:
-            return FAULTED, []
+            return self._refused(error), []
         return DONE, [] if found.name is None else [(found.name, 0)]
 
     def _reply(self, request: Request) -> int:
@@ -87,8 +90,15 @@ class _System:
                 target = self._path(request.to_folder, request.to_place, request.other)
                 return self._link(path, target) if request.call == LINK else _rename(path, target)
         except OSError as error:
-            return _refused(error)
+            return self._refused(error)
         return DONE
+
+    def _refused(self, error: Exception) -> int:
+        """What is replied to a call that failed so. The error is kept."""
+        self.cause = error
+        if isinstance(error, FileExistsError):
+            return EXISTS
+        return NOT_FOUND if isinstance(error, FileNotFoundError) else FAULTED
 
     def _append(self, body: bytes) -> int:
         if self._file is None:
@@ -140,7 +150,7 @@ def _rename(path: bytes, target: bytes) -> int:
         if number not in (errno.EINVAL, errno.ENOSYS):
             raise OSError(number, os.strerror(number), path)
     if os.path.lexists(target):
-        return EXISTS
+        raise FileExistsError(errno.EEXIST, os.strerror(errno.EEXIST), target)
     os.rename(path, target)
     return DONE
 
@@ -172,9 +182,3 @@ def flush_directory(directory: Union[str, bytes]) -> None:
         os.fsync(descriptor)
     finally:
         os.close(descriptor)
-
-
-def _refused(error: Exception) -> int:
-    if isinstance(error, FileExistsError):
-        return EXISTS
-    return NOT_FOUND if isinstance(error, FileNotFoundError) else FAULTED

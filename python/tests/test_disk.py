@@ -32,6 +32,7 @@ from deolmutt.errors import (
     OtherInfo,
     Restless,
     SameFolder,
+    TwoNames,
 )
 
 HOURS_37 = 37 * 3600
@@ -336,9 +337,27 @@ class MeanwhileTest(DiskCase):
 
     def test_a_disk_that_refuses(self) -> None:
         with mock.patch.object(os, "fsync", side_effect=OSError(5, "no")):
-            with self.assertRaises(Fault):
+            with self.assertRaises(Fault) as raised:
                 self.box.add(MESSAGE)
+        cause = raised.exception.__cause__
+        assert isinstance(cause, OSError)
+        self.assertEqual(5, cause.errno)
         self.assertEqual([], self.names("tmp") + self.names("new"))
+
+    def test_causes(self) -> None:
+        folders = [os.fsencode(self.path)]
+        with self.assertRaises(NotThere) as raised:
+            _running.run(Flag(0, "u", "F"), folders)
+        self.assertIsNone(raised.exception.__cause__)
+        for name in ("u:2,", "u:2,S"):
+            (self.path / "cur" / name).write_bytes(MESSAGE)
+        with self.assertRaises(Fault) as failed:
+            _running.run(Flag(0, "u", "F"), folders)
+        self.assertIsInstance(failed.exception.__cause__, TwoNames)
+        os.rmdir(self.path / "tmp")
+        with self.assertRaises(Failed) as refused:
+            _running.run(Deliver(0, "v", MESSAGE), folders)
+        self.assertIsInstance(refused.exception.__cause__, FileNotFoundError)
 
 
 class _Once:
