@@ -15,6 +15,8 @@ use std::alloc::{AllocError, Global};
 use std::collections::VecDeque;
 
 /// A system on which jobs are run. Each call that is made of it is logged, for contracts alone, at the second that its clock gave last.
+/// What is proved of a job is proved of the log. That each logged call is made once, and its reply passed on, is read and tested: a system
+/// has no contract.
 #[derive(Drop)]
 pub struct Logged<S> {
     /// What makes the calls.
