@@ -20,9 +20,9 @@ pub enum Refusal {
     Length,
     /// The caller's buffer has too little room.
     Room,
-    /// No kind of call.
+    /// A number of a call's kind that is not 1 to 7.
     BadKind,
-    /// No place.
+    /// A number of a place that is over 2.
     NoPlace,
     /// Records that end amid one.
     BadRecord,
@@ -38,7 +38,7 @@ pub enum Refusal {
     NotAsked,
     /// A call of the job waits for its reply.
     Asked,
-    /// No reply.
+    /// A number of a reply that is not 1 to 4.
     BadReply,
     /// What the store, a name or a line of a script is refused for.
     Kind(PlayKind),
@@ -50,7 +50,7 @@ pub enum Refusal {
 pub const NO_MEMORY: Refusal = Refusal::Kind(PlayKind::NoMemory);
 
 impl Refusal {
-    /// The number of a refusal, which is no other's.
+    /// The number of a refusal, which is no other's, but that out of memory has one, wherever it was met.
     pub fn number(self) -> u32
         ensures { result ≡ refusal_number self }
     {
