@@ -3,7 +3,7 @@
 //! A name may be out of date. An errand that acts on a name that is gone is answered ENOENT and looks again, so it may act on any name.
 //! What an errand answers without an act has to be so while it is under way: that is told only of a reading that counts, which began after
 //! the errand was asked for, and in which the directories rested.
-ghost use Rattle.std.specs.Prelude.{◌≡◌, IfOk};
+ghost use Rattle.std.specs.Prelude.{◌≡◌, false, IfOk};
 ghost use Rattle.md_system.specs.Hints.{MayTell};
 
 use crate::acting::{acts_on, looks_on};
@@ -34,7 +34,9 @@ pub struct Hints {
 
 impl Hints {
     /// No hint.
-    pub fn new(alloc: Global) -> Hints {
+    pub fn new(alloc: Global) -> Hints
+        ensures { result.ahead.counts ≡ false }
+    {
         Hints {
             given: None,
             ahead: ReadAhead::nothing(alloc),
@@ -42,7 +44,9 @@ impl Hints {
     }
 
     /// A caller knows this name. What was read of its message is told no more.
-    pub fn give(&mut self, hint: Hint) {
+    pub fn give(&mut self, hint: Hint)
+        ensures kept { self.new.ahead ≡ self.old.ahead }
+    {
         if self.ahead.folder == hint.folder {
             self.ahead.forget(unique_part(hint.name.as_slice()));
         }
@@ -58,7 +62,8 @@ impl Hints {
         unique: &[u8],
         purpose: &Purpose,
     ) -> Result<Told, AllocError>
-        ensures { IfOk result (MayTell self.old.ahead purpose.now place unique.now) }
+        ensures told { IfOk result (MayTell self.old.ahead purpose.now place unique.now) }
+        ensures kept { self.new.ahead ≡ self.old.ahead }
     {
         match self.tell_given(folder, place, unique, purpose) {
             Told::Nothing if self.ahead.folder == folder => {

@@ -1,5 +1,5 @@
 //! What one reading of a folder tells many errands.
-ghost use Rattle.std.specs.Prelude.{◌≡◌, ℕ, List, true, IfOk, IfSome, IsTrue, Some, slice_get};
+ghost use Rattle.std.specs.Prelude.{◌≡◌, ℕ, List, false, true, IfOk, IfSome, IsTrue, Some, slice_get};
 ghost use Rattle.md_jobs.specs.declared.purpose.Purpose.{Purpose as PurposeView};
 ghost use Rattle.md_system.specs.Hints.{IsActedOn, MayTell, names_ahead};
 
@@ -24,7 +24,9 @@ pub struct ReadAhead {
 
 impl ReadAhead {
     /// Nothing was read.
-    pub(crate) fn nothing(alloc: Global) -> ReadAhead {
+    pub(crate) fn nothing(alloc: Global) -> ReadAhead
+        ensures { result.counts ≡ false }
+    {
         ReadAhead {
             folder: 0,
             news: Shown::nothing(alloc),
@@ -42,7 +44,8 @@ impl ReadAhead {
         unique: &[u8],
         purpose: &Purpose,
     ) -> Result<Told, AllocError>
-        ensures { IfOk result (MayTell self.old purpose.now place unique.now) }
+        ensures told { IfOk result (MayTell self.old purpose.now place unique.now) }
+        ensures kept { self.new ≡ self.old }
     {
         if self.counts {
             self.tell_shown(alloc, place, unique)
@@ -52,7 +55,9 @@ impl ReadAhead {
     }
 
     /// The names of a message are told no more.
-    pub(crate) fn forget(&mut self, unique: &[u8]) {
+    pub(crate) fn forget(&mut self, unique: &[u8])
+        ensures { self.new ≡ self.old }
+    {
         self.news.forget(unique);
         self.curs.forget(unique);
     }
@@ -61,7 +66,8 @@ impl ReadAhead {
     #[tactic(auto, using(crate::proofs::Positions::one_shown))]
     fn tell_shown(&mut self, alloc: Global, place: Place, unique: &[u8]) -> Result<Told, AllocError>
         requires { self.old.counts ≡ true }
-        ensures { IfOk result (λ told. (purpose : PurposeView) → MayTell self.old purpose place unique.now told) }
+        ensures told { IfOk result (λ told. (purpose : PurposeView) → MayTell self.old purpose place unique.now told) }
+        ensures kept { self.new ≡ self.old }
     {
         match self.shown(place).find(unique) {
             Found::One(at) => match self.take(alloc, place, at)? {
@@ -84,7 +90,8 @@ impl ReadAhead {
         unique: &[u8],
         purpose: &Purpose,
     ) -> Result<Told, AllocError>
-        ensures { IfOk result (MayTell self.old purpose.now place unique.now) }
+        ensures told { IfOk result (MayTell self.old purpose.now place unique.now) }
+        ensures kept { self.new ≡ self.old }
     {
         match self.shown(place).find(unique) {
             Found::One(at) if self.is_acted_on(place, at, unique, purpose) => {
@@ -130,7 +137,8 @@ impl ReadAhead {
 
     // The name at a position, which is told now, unless an errand was told it.
     fn take(&mut self, alloc: Global, place: Place, at: usize) -> Result<Option<Bytes>, AllocError>
-        ensures { IfOk result (λ taken. IfSome taken (λ name. slice_get (names_ahead self.old place) at ≡ Some name)) }
+        ensures name { IfOk result (λ taken. IfSome taken (λ name. slice_get (names_ahead self.old place) at ≡ Some name)) }
+        ensures kept { self.new ≡ self.old }
     {
         match place {
             Place::Cur => self.curs.take(alloc, at),
