@@ -7,10 +7,9 @@ ghost use Rattle.std.specs.Prelude.{◌≡◌, false, IfOk};
 ghost use Rattle.md_system.specs.Hints.{MayTell};
 
 use crate::acting::{acts_on, looks_on};
-use crate::named::is_named;
 use crate::read_ahead::ReadAhead;
 use crate::told::Told;
-use md_dirs::{Bytes, Place};
+use md_dirs::{Bytes, Place, is_named};
 use md_jobs::Purpose;
 use md_name::unique_part;
 use std::alloc::{AllocError, Global};

@@ -5,10 +5,9 @@ ghost use Rattle.md_system.specs.Hints.{IsActedOn, MayTell, names_ahead};
 
 use crate::acting::{acts_on, looks_on};
 use crate::found::Found;
-use crate::named::is_named;
 use crate::shown::Shown;
 use crate::told::Told;
-use md_dirs::{Bytes, Place};
+use md_dirs::{Bytes, Place, is_named};
 use md_jobs::Purpose;
 use std::alloc::{AllocError, Global};
 

@@ -3,8 +3,7 @@ ghost use Rattle.std.specs.Prelude.{◌≡◌, IfOk};
 ghost use Rattle.std.specs.Option.{option_to_list};
 ghost use Rattle.md_dirs.specs.Rows.{row_named, is_old as is_old_by, old_names as old_names_of};
 
-use crate::named::is_named;
-use md_dirs::{FileName, Row};
+use md_dirs::{FileName, Row, is_named};
 use std::alloc::{AllocError, Global};
 use std::collections::VecDeque;
 

@@ -13,12 +13,11 @@ ghost use Rattle.md_system.specs.Steps.{Steps};
 use crate::logged::Logged;
 use crate::system::System;
 use md_dirs::{Bytes, Row};
-use md_jobs::{Answer, Cleaning, CoreError, Delivery, DirReply, Errand, Purpose, Request};
+use md_jobs::{
+    Answer, Cleaning, CoreError, Delivery, DirReply, Errand, LEAST_SECONDS, Purpose, Request,
+};
 use std::alloc::{AllocError, Global};
 use std::collections::VecDeque;
-
-/// A file of tmp that was not used for 36 hours, in seconds, is old (maildir(5)).
-pub const LEAST_SECONDS: u64 = 129_600;
 
 // Effects name the job that had them. Here each job is alone.
 const JOB: u64 = 1;

@@ -1,14 +1,12 @@
 //! What the rows of a reading say to a job.
 ghost use Rattle.std.specs.Prelude.{◌≡◌, IfOk};
-ghost use Rattle.md_dirs.specs.Rows.{row_named, is_named as is_named_by, ends_unique};
+ghost use Rattle.md_dirs.specs.Rows.{row_named};
 ghost use Rattle.md_jobs.specs.Machines.Clean.{is_old as is_old_by, old_names as old_names_of};
 
-use md_dirs::{FileName, Row};
+use md_dirs::{FileName, Row, is_named};
+use md_jobs::LEAST_SECONDS;
 use std::alloc::{AllocError, Global};
 use std::collections::VecDeque;
-
-/// A file of tmp that was not used for 36 hours, in seconds, is old (maildir(5)).
-const LEAST_SECONDS: u64 = 129_600;
 
 /// A copy of the first row that has the unique name. It is refused only when out of memory.
 pub(super) fn first_named(
@@ -26,23 +24,6 @@ pub(super) fn first_named(
         rest = more;
     }
     Ok(None)
-}
-
-// Whether a name is a unique name, or a unique name, a colon and more.
-fn is_named(name: &[u8], unique: &[u8]) -> bool
-    ensures { result ≡ is_named_by unique.now name.now }
-{
-    name.starts_with(unique) && ends_unique_name(&name[unique.len()..])
-}
-
-// Whether a unique name ends where this begins.
-fn ends_unique_name(rest: &[u8]) -> bool
-    ensures { result ≡ ends_unique rest.now }
-{
-    match rest {
-        [] => true,
-        [first, ..] => *first == b':',
-    }
 }
 
 /// Copies of the names of rows whose files were not used for 36 hours at a moment, in their order. It is refused only when out of memory.
