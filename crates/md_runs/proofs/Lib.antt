@@ -2,3 +2,4 @@ pub mod WordLists
 pub mod Submitting
 pub mod Reporting
 pub mod MadeTexts
+pub mod FirstLines

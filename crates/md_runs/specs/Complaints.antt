@@ -1,7 +1,23 @@
 -- What wrong words are answered with.
-use Rattle.std.specs.Prelude.{◌≡◌, ℕ, ◌⊎◌, List, [], ◌++◌, codes}
+use Rattle.std.specs.Prelude.{◌≡◌, ℕ, ◌⊎◌, List, [], ◌∷◌, ◌++◌, codes}
+use Rattle.std.specs.List.{before_first}
 use Rattle.std.specs.Str.Iter.{LacksByte}
+use Rattle.memchr.specs.Find.{is_byte}
 use Rattle.md_script.specs.Texts.{line_end}
+
+-- what is in front of the first line feed, or all
+abbrev pub first_line : List ℕ → List ℕ
+first_line text = before_first (is_byte 10) text
+
+-- a tip as a line of its own, if it isn't empty
+abbrev pub tip_line : List ℕ → List ℕ
+tip_line [] = []
+tip_line (b ∷ bytes) = (b ∷ bytes) ++ line_end
+
+-- A program's answer to wrong words: a line that says why they are wrong, and where help is; then the tip. Of both the first line is taken.
+abbrev pub complaint_of : List ℕ → List ℕ → List ℕ → List ℕ
+complaint_of program why tip =
+    program ++ codes ": " ++ first_line why ++ codes "; try '" ++ program ++ codes " --help'\n" ++ tip_line (first_line tip)
 
 -- nothing, or one more line
 abbrev pub IsTip : List ℕ → Type 0

@@ -1,15 +1,15 @@
 //! What wrong words are answered with.
-ghost use Rattle.std.specs.Prelude.{◌≡◌, ℕ, List, ◌++◌, IfOk, OnOk};
-ghost use Rattle.std.specs.Str.Iter.{LacksByte};
-ghost use Rattle.md_runs.specs.Complaints.{IsComplaint, IsTip};
+ghost use Rattle.std.specs.Prelude.{◌≡◌, ◌++◌, IfOk, OnOk};
+ghost use Rattle.md_runs.specs.Complaints.{IsComplaint, complaint_of, first_line, tip_line};
 
-use memchr::memchr;
+use md_text::cut;
 use std::alloc::{AllocError, Global};
 
 /// A line of a program that says why words are wrong, and a second line for a tip, if it isn't empty. Of both only what is in front of a
 /// line feed is taken: a word may hold one, as any text.
 pub fn complaint(alloc: Global, program: &str, why: &str, tip: &str) -> Result<Vec<u8>, AllocError>
-    ensures { IfOk result (λ line. IsComplaint program.now line.items) }
+    ensures text { IfOk result (λ line. line.items ≡ complaint_of program.now why.now tip.now) }
+    ensures lines { IfOk result (λ line. IsComplaint program.now line.items) }
 {
     let mut line = Vec::from_slice(alloc, program.as_bytes())?;
     line.extend_from_slice(b": ")?;
@@ -23,8 +23,7 @@ pub fn complaint(alloc: Global, program: &str, why: &str, tip: &str) -> Result<V
 
 // Appends a tip as a line of its own, if it isn't empty.
 fn push_tip(line: &mut Vec<u8>, tip: &[u8]) -> Result<(), AllocError>
-    requires { LacksByte 10 tip.now }
-    ensures { OnOk result ((added : List ℕ) × IsTip added × (line.new.items ≡ line.old.items ++ added)) }
+    ensures { OnOk result (line.new.items ≡ line.old.items ++ tip_line tip.now) }
 {
     if tip.is_empty() {
         return Ok(());
@@ -34,11 +33,9 @@ fn push_tip(line: &mut Vec<u8>, tip: &[u8]) -> Result<(), AllocError>
 }
 
 // The bytes in front of the first line feed, or all.
+#[tactic(auto, unfolding(md_text::specs::Words::cut_at))]
 fn first_line(bytes: &[u8]) -> &[u8]
-    ensures { LacksByte 10 result.now }
+    ensures { result.now ≡ first_line bytes.now }
 {
-    match memchr(b'\n', bytes) {
-        Some(end) => &bytes[..end],
-        None => bytes,
-    }
+    cut(bytes, b'\n').0
 }
