@@ -1,13 +1,14 @@
 -- A number, read digit by digit.
-use Rattle.std.proofs.Common.{◌≡◌, ◌∙◌, sym, ap, subst, ℕ, zero, suc, ◌+◌, ◌-◌, ◌*◌, ◌^◌, ◌%◌, ◌<◌, ◌≤◌, ◌==◌, Option, true, false, List, [], ◌∷◌, length, get_or, take, drop, refl, None, Some, inl, inr, arith, length-take-le}
+use Rattle.std.proofs.Common.{◌≡◌, ◌∙◌, sym, ap, subst, ℕ, zero, suc, ◌+◌, ◌-◌, ◌*◌, ◌^◌, ◌%◌, ◌<◌, ◌≤◌, ◌==◌, Option, true, false, List, [], ◌∷◌, length, get_or, take, drop, refl, None, Some, inl, inr, not, arith, length-take-le}
 use Rattle.std.proofs.lemmas.Bool.{cases_lt, eqb-true}
 use Rattle.std.proofs.lemmas.Bool.Decides.{nat_tests}
 use Rattle.std.proofs.lemmas.List.{take_all, get_or-take, length-take}
 use Rattle.std.proofs.lemmas.Option.{slice_get-get_or, slice_get_past, slice_get_read}
 use Rattle.std.proofs.lemmas.Int.Digits.{digits_value_more}
+use Rattle.std.proofs.lemmas.List.Sums.{passes_at_first, prefix_len-le-length}
 use Rattle.std.proofs.lemmas.Str.{digit_value_digit}
 use Rattle.std.proofs.lemmas.Str.Parse.{numerals_by_value, tells_all_ascii_digits, tells_by_index, IsNumeralModel, digit_at, digits_value-take-le, digits_value_short}
-use Rattle.std.specs.List.{slice_get}
+use Rattle.std.specs.List.{position_or_len, slice_get}
 use Rattle.std.specs.Option.{option_copied}
 use Rattle.std.specs.Slice.{IsItemAt}
 use denote.Bor.{Bor}
@@ -15,7 +16,7 @@ use Rattle.std.specs.Int.{IsInRange}
 use Rattle.std.specs.Str.{all_ascii_digits}
 use Rattle.std.specs.Str.Parse.{digits_value}
 use Rattle.memchr.specs.Find.{Nowhere, Passes, is_byte}
-use Rattle.md_text.specs.Words.{Rest, Spells, cut_at, nonempty_word, next_word, number_in}
+use Rattle.md_text.specs.Words.{Rest, Spells, SpellsNone, cut_at, nonempty_word, next_word, number_in}
 use Rattle.md_text.proofs.Cuts.{cut_nowhere, cut_first}
 
 own : IsNumeralModel (λ ds. all_ascii_digits ds ≡ true) (digits_value 10)
@@ -83,6 +84,15 @@ nonempty : (word : List ℕ) (rest : Rest) → 0 < length word → nonempty_word
 nonempty [] rest some = absurd (omega (arith, some))
 nonempty (b ∷ word) rest some = refl
 
+-- the word that is next
+abbrev taken : Option (List ℕ × Rest) → List ℕ
+taken None = []
+taken (Some read) = read.0
+
+word_of : (front : List ℕ) (rest : Rest) (word : List ℕ) (left : Rest) → nonempty_word (front, rest) ≡ Some (word, left) → word ≡ front
+word_of [] rest word left is = cc
+word_of (b ∷ front) rest word left is = sym (ap taken is)
+
 -- A word of so few digits is read as a number, whatever is left behind it.
 pub short_read : (text : List ℕ) (at value : ℕ) (rest : Rest) → cut_at 32 text ≡ (take at text, rest) → at ≤ length text → 0 < at → at ≤ 19 →
     value ≡ digits_value 10 (take at text) → ((i : ℕ) → i < at → IsInRange 48 57 (get_or text i 0)) → Spells 20 (Some text) value rest
@@ -126,3 +136,36 @@ number_whole most word at value all some short fits so_far digits =
     let same : value ≡ digits_value 10 word = so_far ∙ ap (digits_value 10) (take_all at word (omega arith)) in
     number_good most word some short (own.from word (by_index.to word (λ i h. digits i (omega (arith, all, h))))) (subst (λ n. n < 2 ^ 64) same fits)
     ∙ ap Some (sym same)
+
+-- A number's digits end at a place: where the word goes on there, it spells none of so few digits; else the place is the first.
+pub none_read : (text : List ℕ) (at most : ℕ) → at ≤ length text → ((i : ℕ) → i < at → IsInRange 48 57 (get_or text i 0))
+    → (at < most → ¬ IsInRange 48 57 (get_or text at 0)) → (slice_get text at ≡ None → at ≡ 0) → (slice_get text at ≡ Some 32 → at ≡ 0)
+    → SpellsNone most (Some text)
+unfolding next_word cut_at
+none_read text at most within digits stops ended spaced word left next =
+    let n = position_or_len (is_byte 32) text in
+    let least : n ≤ length text = prefix_len-le-length (λ b. not (is_byte 32 b)) text in
+    let long : length (take n text) ≡ n = length-take-le n text least in
+    let word_is = word_of (take n text) _ word left next in
+    let front : at ≤ n = elim (cases_lt n at) [
+      | inl before ↦ absurd (no_space text at digits n (omega arith) before (passes_at_first (is_byte 32) text 0 (omega (arith, before, within))))
+      | inr past ↦ omega (arith, past)
+    ] in
+    number_bad most word (λ some short all fits.
+    let size : length word ≡ n = ap length word_is ∙ long in
+    let goes_on : at < n = elim (cases_lt at n) [
+      | inl before ↦ before
+      | inr past ↦
+        let same : at ≡ n = omega (arith, past, front) in
+        elim (cases_lt at (length text)) [
+          | inl inside ↦
+            let space : get_or text at 0 ≡ 32 =
+            eqb-true (get_or text at 0) 32
+            (subst (λ k. is_byte 32 (get_or text k 0) ≡ true) (sym same) (passes_at_first (is_byte 32) text 0 (omega (arith, same, inside)))) in
+            absurd (omega (arith, spaced (slice_get-get_or text at 0 inside ∙ ap Some space), some, size, same))
+          | inr outside ↦ absurd (omega (arith, ended (slice_get_past text at (omega (arith, outside))), some, size, same))
+        ]
+    ] in
+    let digit : IsInRange 48 57 (get_or word at 0) = digit_at word at (own.to word all) (omega (arith, goes_on, size)) in
+    let same : get_or word at 0 ≡ get_or text at 0 = ap (λ bytes. get_or bytes at 0) word_is ∙ get_or-take n text at 0 goes_on in
+    absurd (stops (omega (arith, goes_on, size, short)) (subst (IsInRange 48 57) same digit)))

@@ -45,3 +45,7 @@ pub record Spells (most : ℕ) (rest : Rest) (number : ℕ) (left : Rest) : Type
   pub word : List ℕ
   pub next : next_word rest ≡ Some (word, left)
   pub is : number_in most word ≡ Some number
+
+-- The next word spells no number of 1 to so many digits.
+abbrev pub SpellsNone : ℕ → Rest → Type 0
+SpellsNone most rest = (word : List ℕ) (left : Rest) → next_word rest ≡ Some (word, left) → number_in most word ≡ None

@@ -1,9 +1,9 @@
 //! Numbers in decimal.
-ghost use Rattle.std.specs.Prelude.{◌≡◌, ◌+◌, ◌-◌, ◌*◌, ◌^◌, ◌<◌, ◌≤◌, ℕ, length, slice_get, slice_index, take, IfSome, Some, SomeIff};
+ghost use Rattle.std.specs.Prelude.{◌≡◌, ◌+◌, ◌-◌, ◌*◌, ◌^◌, ◌<◌, ◌≤◌, ℕ, length, slice_get, slice_index, take, IfNone, IfSome, Some, SomeIff};
 ghost use Rattle.std.specs.Int.{IsInRange};
 ghost use Rattle.std.specs.Option.{option_copied};
 ghost use Rattle.std.specs.Str.Parse.{digits_value};
-ghost use Rattle.md_text.specs.Words.{Spells, number_in};
+ghost use Rattle.md_text.specs.Words.{Spells, SpellsNone, number_in};
 
 use crate::words::Rest;
 
@@ -42,10 +42,11 @@ fn with_digit(value: u64, byte: u8) -> Option<u64>
     }
 }
 
-/// The next word as a number, where it has few digits, which make none that is too large. Other words are left to `number`.
+/// The next word as a number of 1 to 10 digits, which make none that is too large. Other words are left to `number`.
 #[inline(always)]
 pub fn short_number(text: &[u8]) -> Option<(u64, Rest<'_>)>
-    ensures { IfSome result (λ read. Spells 20 (Some text.now) read.0 (option_copied read.1)) }
+    ensures some { IfSome result (λ read. Spells 20 (Some text.now) read.0 (option_copied read.1)) }
+    ensures none { IfNone result (SpellsNone 10 (Some text.now)) }
 {
     match text.first_chunk::<MOST_SHORT>() {
         Some(near) => near_number(near, text),
@@ -58,7 +59,9 @@ pub fn short_number(text: &[u8]) -> Option<(u64, Rest<'_>)>
 fn near_number<'a>(near: &[u8], text: &'a [u8]) -> Option<(u64, Rest<'a>)>
     requires front { near.now ≡ take (length near.now) text.now }
     requires few { length near.now ≤ MOST_SHORT }
-    ensures { IfSome result (λ read. Spells 20 (Some text.now) read.0 (option_copied read.1)) }
+    requires rest { length near.now < MOST_SHORT → length near.now ≡ length text.now }
+    ensures some { IfSome result (λ read. Spells 20 (Some text.now) read.0 (option_copied read.1)) }
+    ensures none { IfNone result (SpellsNone 10 (Some text.now)) }
 {
     let mut value = 0;
     for at in 0..near.len() {
@@ -78,7 +81,9 @@ fn ended_number(text: &[u8], value: u64, end: usize, next: Option<u8>) -> Option
     requires value { value ≡ digits_value 10 (take end text.now) }
     requires within { (end ≤ length text.now) × (end ≤ MOST_SHORT) }
     requires next { next ≡ slice_get text.now end }
-    ensures { IfSome result (λ read. Spells 20 (Some text.now) read.0 (option_copied read.1)) }
+    requires stops { end < MOST_SHORT → ¬ IsInRange 48 57 (slice_index text.now end) }
+    ensures some { IfSome result (λ read. Spells 20 (Some text.now) read.0 (option_copied read.1)) }
+    ensures none { IfNone result (SpellsNone 10 (Some text.now)) }
 {
     match next {
         None if end > 0 => Some((value, None)),
