@@ -60,7 +60,8 @@ fn escape(byte: u8) -> &'static [u8]
     }
 }
 
-/// The bytes that a text with escapes stands for, those of a space among them or not; `None` where a backslash begins no escape.
+/// The bytes that a text with escapes stands for; with `spaces`, `\s` is a space. `None` if a backslash begins no escape. It fails only
+/// when out of memory.
 pub fn unescape(alloc: Global, spaces: bool, text: &[u8]) -> Result<Option<Vec<u8>>, AllocError>
     ensures { IfOk result (λ read. option_map (λ bytes. bytes.items) read ≡ unescaped spaces text.now) }
 {
