@@ -1,5 +1,5 @@
 -- The merge of two lists in order is their join.
-use Rattle.std.proofs.Common.{ℕ, zero, suc, ◌≡◌, ◌<◌, ◌≤◌, ◌+◌, ◌++◌, List, [], ◌∷◌, Some, None, true, false, cond, drop, get_or, length, refl, sym, ap, subst, ◌∙◌, arith}
+use Rattle.std.proofs.Common.{ℕ, zero, suc, ◌≡◌, ◌<◌, ◌≤◌, ◌+◌, ◌-◌, ◌*◌, ◌++◌, List, [], ◌∷◌, Some, None, true, false, cond, drop, get_or, length, refl, sym, ap, subst, ◌∙◌, arith}
 use Rattle.std.proofs.lemmas.List.{at_drop_more, length-drop}
 use Rattle.std.specs.Option.{option_or}
 use Rattle.std.specs.declared.cmp.Ordering.{Ordering}
@@ -149,18 +149,59 @@ comes-first c cur (n ∷ new) below =
     ap (λ o. by_order o (n ∷ merged new (c ∷ cur)) (merged new (c ∷ cur)) (c ∷ into n (merged new) cur))
     (turned n.unique c.unique Less (less _ (first _ _ below)))
 
+-- the merge is as long as each list
+all-of-cur : (n : Entry) (rest : List Entry → List Entry) → ((cs : List Entry) → length cs ≤ length (rest cs)) → (cur : List Entry) → length cur ≤ length (into n rest cur)
+all-of-cur n rest long [] = omega arith
+all-of-cur n rest long (c ∷ cur) =
+    elim (name_cmp n.unique c.unique)
+    as (λ o. suc (length cur) ≤ length (by_order o (n ∷ rest (c ∷ cur)) (rest (c ∷ cur)) (c ∷ into n rest cur))) [
+      | Less ↦ let least = long (c ∷ cur) in omega (arith, least)
+      | Equal ↦ let least = long (c ∷ cur) in omega (arith, least)
+      | Greater ↦ let least = all-of-cur n rest long cur in omega (arith, least)
+    ]
+
+cur-within : (new cur : List Entry) → length cur ≤ length (merged new cur)
+cur-within [] cur = omega arith
+cur-within (n ∷ new) cur = all-of-cur n (merged new) (cur-within new) cur
+
+all-of-new : (n : Entry) (new : List Entry) → IsBelow n.unique new → ((cs : List Entry) → length new ≤ length (merged new cs))
+    → (cur : List Entry) → suc (length new) ≤ length (into n (merged new) cur)
+all-of-new n new before long [] = let least = long [] in omega (arith, least)
+all-of-new n new before long (c ∷ cur) =
+    elim (name_cmp n.unique c.unique) as (λ o. name_cmp n.unique c.unique ≡ o →
+    suc (length new) ≤ length (by_order o (n ∷ merged new (c ∷ cur)) (merged new (c ∷ cur)) (c ∷ into n (merged new) cur))) [
+      | Less ↦ λ is. let least = long (c ∷ cur) in omega (arith, least)
+      | Equal ↦ λ is.
+          let below : IsBelow c.unique new = subst (λ u. IsBelow u new) (tie-same n.unique c.unique (ap is_eq is)) before in
+          let least = long cur in omega (arith, least, ap length (comes-first c cur new below))
+      | Greater ↦ λ is. let least = all-of-new n new before long cur in omega (arith, least)
+    ] refl
+
+new-within : (new cur : List Entry) → IsSorted new → length new ≤ length (merged new cur)
+new-within [] cur before = omega arith
+new-within (n ∷ new) cur before = all-of-new n new (first _ _ before) (λ cs. new-within new cs (second _ _ before)) cur
+
 -- how the join goes on from places in both lists
 module _ (new cur : List Entry) (before : IsSorted new) (sorted : IsSorted cur) where
   left-is : (i j : ℕ) → join_of (drop i new) (drop j cur) ≡ merged (drop i new) (drop j cur)
   left-is i j = sym (merged-join (drop i new) (drop j cur) (drop-sorted new i before) (drop-sorted cur j sorted))
 
-  pub length-left : (i j : ℕ) → length (join_of (drop i new) (drop j cur)) ≤ length new + length cur
+  pub length-left : (i j : ℕ) → length (join_of (drop i new) (drop j cur)) ≤ (length new - i) + (length cur - j)
   length-left i j =
       let most = length-merged (drop i new) (drop j cur) in
       let n = length-drop i new in
       let m = length-drop j cur in
       let same = ap length (left-is i j) in
       omega (arith, most, n, m, same)
+
+  pub half-left : (i j : ℕ) → (length new - i) + (length cur - j) ≤ 2 * length (join_of (drop i new) (drop j cur))
+  half-left i j =
+      let of_new = new-within (drop i new) (drop j cur) (drop-sorted new i before) in
+      let of_cur = cur-within (drop i new) (drop j cur) in
+      let n = length-drop i new in
+      let m = length-drop j cur in
+      let same = ap length (left-is i j) in
+      omega (arith, of_new, of_cur, n, m, same)
 
   pub both-ended : (i j : ℕ) → length new ≤ i → length cur ≤ j → join_of (drop i new) (drop j cur) ≡ []
   both-ended i j past ended = left-is i j ∙ (λ k. merged (drop-past new i past k) (drop-past cur j ended k))

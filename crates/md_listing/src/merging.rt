@@ -1,5 +1,5 @@
 // Two readings in order, merged one entry after another: the entries that are left, the two looked through as one list, and made one list.
-ghost use Rattle.std.specs.Prelude.{◌≡◌, ◌≤◌, ◌∷◌, [], IfOk, MatchOption, length, List, drop, IfErr};
+ghost use Rattle.std.specs.Prelude.{◌≡◌, ◌*◌, ◌≤◌, ◌∷◌, [], IfOk, MatchOption, length, List, drop, IfErr};
 ghost use Rattle.md_listing.specs.Readings.{join_of, IsInOrder};
 ghost use Rattle.md_listing.specs.declared.entry.Entry.{Entry};
 ghost use Rattle.md_listing.specs.declared.error.ViewError.TheVariants.{NoMemory};
@@ -43,11 +43,14 @@ impl<'s, 'a> Entries<'s, 'a> {
         }
     }
 
-    /// How many are left at most: an entry of new that cur has too is counted twice.
+    /// How many are left at most: an entry of new that cur has too counts twice, so that these are at least half as many.
     pub fn at_most(&self) -> usize
-        ensures { length self.now ≤ result }
+        ensures most { length self.now ≤ result }
+        ensures half { result ≤ 2 * length self.now }
     {
-        self.of_new.len() + self.of_cur.len()
+        let of_new = self.of_new.len().saturating_sub(self.from_new);
+        let of_cur = self.of_cur.len().saturating_sub(self.from_cur);
+        of_new + of_cur
     }
 
     /// The first one that is left. It is left no more.
