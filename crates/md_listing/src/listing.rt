@@ -27,7 +27,8 @@ pub struct BegunListing {
 }
 
 impl BegunListing {
-    /// Reads new of a folder. It is refused as `reading` is.
+    /// Reads new of a folder. It is refused as `reading` is. Call `World::arrange` first: if the names aren't in order, each reading sorts
+    /// them anew.
     pub fn begin<D: Dirs>(
         alloc: Global,
         world: &World<D>,
@@ -47,7 +48,8 @@ impl BegunListing {
     }
 
     /// Reads cur, at the same or a later moment of the same world, and joins the two. By the listing law the result shows each unique name
-    /// as it was in the folder at some moment between the two readings. It is refused as `reading` is.
+    /// as it was in the folder at some moment between the two readings. It is refused as `reading` is. Call `World::arrange` first, as for
+    /// `begin`.
     pub fn finish<D: Dirs>(&self, alloc: Global, world: &World<D>) -> Result<Vec<Entry>, ViewError>
         requires { HasBegun world.now self.now }
         ensures entries { IfOk result (λ all. all.items ≡ listing_of (names_at world.now) self.now.folder self.now.begun (length world.now.events)) }
@@ -59,7 +61,7 @@ impl BegunListing {
         Ok(copied(alloc, &all)?)
     }
 
-    /// The same, each entry lent by this listing or by the world: no name is copied.
+    /// The same, each entry lent by this listing or by the world: no name is copied. Call `World::arrange` first, as for `begin`.
     pub fn finish_lent<'a, D: Dirs>(
         &'a self,
         alloc: Global,
@@ -80,7 +82,8 @@ impl BegunListing {
     }
 }
 
-/// The listing of a folder whose readings are made at one moment: its messages now, by unique name. It is refused as `reading` is.
+/// The listing of a folder whose readings are made at one moment: its messages now, by unique name. It is refused as `reading` is. Call
+/// `World::arrange` first: if the names aren't in order, each reading sorts them anew.
 pub fn list<D: Dirs>(alloc: Global, world: &World<D>, folder: u32) -> Result<Vec<Entry>, ViewError>
     ensures entries { IfOk result (λ all. all.items ≡ listing_of (names_at world.now) folder (length world.now.events) (length world.now.events)) }
     ensures folder { IfOk result (λ _. folder < (dirs_of world.now).folders) }
@@ -90,7 +93,7 @@ pub fn list<D: Dirs>(alloc: Global, world: &World<D>, folder: u32) -> Result<Vec
     Ok(copied(alloc, &all)?)
 }
 
-/// The same, each entry lent by the world: no name is copied.
+/// The same, each entry lent by the world: no name is copied. Call `World::arrange` first, as for `list`.
 pub fn list_lent<'a, D: Dirs>(
     alloc: Global,
     world: &'a World<D>,

@@ -19,6 +19,8 @@ use std::alloc::{AllocError, Global};
 ///
 /// As in maildir(5), a name that begins with a dot is no message's, and neither is one with nothing in front of its first colon. It is
 /// refused where the folder isn't there, and otherwise only when out of memory.
+///
+/// Call `World::arrange` first: if the names aren't in order, each reading sorts them anew.
 pub fn reading<D: Dirs>(
     alloc: Global,
     world: &World<D>,
@@ -34,7 +36,7 @@ pub fn reading<D: Dirs>(
     Ok(copied(alloc, &all)?)
 }
 
-/// The same, each entry lent by its directory: no name is copied. It is refused as `reading` is.
+/// The same, each entry lent by its directory: no name is copied. It is refused as `reading` is. Call `World::arrange` first, as there.
 pub fn lent_reading<'a, D: Dirs>(
     alloc: Global,
     world: &'a World<D>,
