@@ -19,18 +19,6 @@ pub struct Entry {
 }
 
 impl Entry {
-    /// A copy.
-    pub(crate) fn again(&self, alloc: Global) -> Result<Entry, AllocError>
-        ensures { IfOk result (λ entry. entry ≡ self.now) }
-    {
-        Ok(Entry {
-            unique: self.unique.again(alloc)?,
-            place: self.place,
-            name: self.name.again(alloc)?,
-            size: self.size,
-        })
-    }
-
     /// The same entry, its names lent.
     pub fn lent(&self) -> EntryRef<'_>
         ensures { result ≡ self.now }
