@@ -43,8 +43,8 @@ pub fn a_listing_of_histories_is_good<D: Dirs>(
 
 /// A listing that has begun may be finished after any steps of the world's jobs, and after calls that were submitted.
 pub fn a_listing_may_wait()
-    ensures { (before names_after : Run) → IsRun before → IsRun names_after → Continues before names_after
-        → (listing : BegunListing) → HasBegun before listing → HasBegun names_after listing }
+    ensures { (before later : Run) → IsRun before → IsRun later → Continues before later
+        → (listing : BegunListing) → HasBegun before listing → HasBegun later listing }
 {
     md_core::laws::steps_keep_moments();
     md_core::laws::calls_keep_moments();
