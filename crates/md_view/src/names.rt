@@ -71,8 +71,8 @@ impl<L: EntryList> NamesIn<L> {
     }
 
     /// Makes a change, where it fits, and otherwise none: where a folder or the old name isn't there, a place is tmp, the new name is no
-    /// message's, or another message has its unique name. A rename that keeps its place in the order moves no other name, and a name at the
-    /// end of the order none either. It is refused only when out of memory, and then nothing has changed.
+    /// message's, or another message has its unique name. A rename that keeps folder, place and unique name moves no other name. Else each
+    /// folder is searched for the new unique name. It is refused only when out of memory, and then nothing has changed.
     pub fn apply(&mut self, change: &Change) -> Result<(), ViewError>
         ensures names { OnOk result (self.new ≡ after_change self.old change.now) }
         ensures unchanged { OnErr result (self.new ≡ self.old) }
