@@ -24,7 +24,7 @@ const BAD_WORDS: u8 = 2;
 ///
 /// `play`, `threads N` and `index N` run the script that the source gives and print on the sink: the status is 0, or 1 where the run is
 /// refused, and then one line `line N: TEXT` goes to the errors. Help and the version go to the sink. Wrong words are answered with one
-/// line to the errors and the status 2. Memory that is refused before a run is one more refusal, of the line 0.
+/// line or two to the errors and the status 2. Memory that is refused before a run is one more refusal, of the line 0.
 pub fn program<R: Threads + Wait + Sync, S: Source, T: Sink, E: Sink>(
     rt: &R,
     alloc: Global,

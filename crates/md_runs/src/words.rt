@@ -11,7 +11,7 @@ pub const MOST_WORKERS: u64 = 64;
 /// What a command line asks for.
 #[derive(Clone, Copy, Debug, PartialEq, Eq)]
 pub enum Run {
-    /// `play`: the script on standard input is played.
+    /// `play`: the script that the source gives is played.
     Play,
     /// `threads N`: its jobs are run by 1 to 16 threads.
     Threads(u64),
