@@ -3,3 +3,4 @@ pub mod Submitting
 pub mod Reporting
 pub mod MadeTexts
 pub mod FirstLines
+pub mod Stops

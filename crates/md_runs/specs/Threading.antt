@@ -65,13 +65,17 @@ abbrev pub IsStop : RunFault → Type 0
 IsStop (Play e) = e ≡ at_no_line NoMemory
 IsStop other = Unit {0}
 
+-- a script sets up a store with jobs
+abbrev pub Begins : List ℕ → Type 0
+Begins script = (begun : Run) × (begun_of script ≡ Ok begun)
+
 -- why there is no report of a script
 abbrev pub IsUnreported : List ℕ → RunFault → Type 0
 IsUnreported script (Play e) = (e ≡ at_no_line NoMemory) ⊎ (begun_of script ≡ Err e)
-IsUnreported script other = Unit {0}
+IsUnreported script other = Begins script
 
--- The answer of `threads`. Where no thread took part, or what is published could not be entered, nothing was written.
+-- The answer of `threads`. A script that sets up a store ended as `NoReader` or `Closed`, and nothing was written.
 abbrev pub RunsThreads : Source → Source → Sink → Sink → Result (Unit {0}) RunFault → Type 0
 RunsThreads old new before after (Ok done) = Wrote Reports old new before after
 RunsThreads old new before after (Err (Play e)) = Refuses (λ script. begun_of script ≡ Err e) old new before after e
-RunsThreads old new before after (Err other) = Withheld (λ script. Unit {0}) old new before after
+RunsThreads old new before after (Err other) = Withheld Begins old new before after
