@@ -1,10 +1,11 @@
 -- What the program does for the words of its command line: its status, and what it read, printed and said on standard error.
-use Rattle.std.specs.Prelude.{◌≡◌, ℕ, ◌⊎◌, List, ◌++◌, Result, Ok, Err, codes}
+use Rattle.std.specs.Prelude.{◌≡◌, ℕ, ◌+◌, ◌≤◌, ◌⊎◌, List, ◌++◌, Result, Ok, Err, codes}
 use Rattle.std.specs.Fmt.{decimal}
 use Rattle.md_script.specs.declared.error.PlayKind.TheVariants.{NoMemory}
 use Rattle.md_script.specs.declared.sink.Put.{Put}
 use Rattle.md_script.specs.Kinds.{at_no_line}
 use Rattle.md_script.specs.Play.{Writes}
+use Rattle.md_script.specs.Reading.{most_reads}
 use Rattle.md_script.specs.Sinks.{Sink, Puts}
 use Rattle.md_script.specs.Sources.{Source}
 use Rattle.md_script.specs.Texts.{line_end}
@@ -46,12 +47,13 @@ WritesText before after text (Ok done) = Writes before after text (Ok done)
 WritesText before after text (Err (fault.Play e)) = (e ≡ at_no_line e.kind) × Writes before after text (Err e.kind)
 WritesText before after text (Err other) = ⊥
 
--- The words name a run, it was made, and its answer reported.
+-- The words name a run, it was made in so many reads at most, and its answer reported.
 pub record Ran (words : List (List ℕ)) (old new : Streams) (status : ℕ) : Type 0 where
   pub run : Run
   pub named : WordsName words run
   pub answer : Result (Unit {0}) RunFault
   pub performed : Performs run old.input new.input old.output new.output answer
+  pub reads : new.input.reads ≤ old.input.reads + most_reads
   pub reported : Reported old.errors new.errors answer status
 
 -- The words name no run, and ask for help or for the version. It was printed, or why not is reported; nothing was read.

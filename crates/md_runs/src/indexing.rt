@@ -1,7 +1,8 @@
-//! The index of a script's messages: a line for each, with the summary of its header.
-ghost use Rattle.std.specs.Prelude.{◌≡◌, ◌≢◌, ◌≤◌, ◌⊎◌, ℕ, false, List, Ok, Err, MatchResult};
+//! The index of a script's messages: for each its name, the lines of its summary and `end`.
+ghost use Rattle.std.specs.Prelude.{◌≡◌, ◌≢◌, ◌+◌, ◌≤◌, ◌⊎◌, ℕ, false, List, Ok, Err, MatchResult};
 ghost use Rattle.md_text.specs.Folders.{names_of};
 ghost use Rattle.md_script.specs.Kinds.{at_no_line};
+ghost use Rattle.md_script.specs.Reading.{most_reads};
 ghost use Rattle.md_script.specs.ReadSetups.{SetsUp};
 ghost use Rattle.md_script.specs.declared.error.PlayKind.TheVariants.{NoMemory};
 ghost use Rattle.md_script.specs.Indexing.{index_of_script, index_over};
@@ -39,7 +40,8 @@ pub(crate) fn run_index<R: Threads + Wait + Sync, S: Source, T: Sink>(
     sink: &mut T,
 ) -> Result<(), PlayError>
     requires { (1 ≤ workers) × (workers ≤ 64) }
-    ensures { Indexes (S.state source.old) (S.state source.new) (T.state sink.old) (T.state sink.new) result }
+    ensures index { Indexes (S.state source.old) (S.state source.new) (T.state sink.old) (T.state sink.new) result }
+    ensures reads { (S.state source.new).reads ≤ (S.state source.old).reads + most_reads }
 {
     let read = read_image(alloc, source, false)?;
     let text = index_text(rt, alloc, seed, workers, read)?;

@@ -1,6 +1,7 @@
 //! The jobs of a script, run by threads.
 
-ghost use Rattle.std.specs.Prelude.{◌≤◌, ℕ, true, List, MatchResult};
+ghost use Rattle.std.specs.Prelude.{◌+◌, ◌≤◌, ℕ, true, List, MatchResult};
+ghost use Rattle.md_script.specs.Reading.{most_reads};
 ghost use Rattle.md_script.specs.ReadSetups.{SetsUp};
 ghost use Rattle.md_runs.specs.Threading.{Reports, IsUnreported, RunsThreads};
 
@@ -41,7 +42,8 @@ pub(crate) fn run_threads<R: Threads + Wait + Sync, S: Source, T: Sink>(
     sink: &mut T,
 ) -> Result<(), RunFault>
     requires { (1 ≤ threads) × (threads ≤ 16) }
-    ensures { RunsThreads (S.state source.old) (S.state source.new) (T.state sink.old) (T.state sink.new) result }
+    ensures threads { RunsThreads (S.state source.old) (S.state source.new) (T.state sink.old) (T.state sink.new) result }
+    ensures reads { (S.state source.new).reads ≤ (S.state source.old).reads + most_reads }
 {
     let read = read_image(alloc, source, true)?;
     let text = threads_text(rt, alloc, seed, threads, read)?;
