@@ -1,10 +1,9 @@
-//! Why a run on threads ended without its text.
+//! Why a run ended without its text.
 ghost use Rattle.std.specs.Prelude.{◌≡◌, ◌≤◌, length};
 ghost use Rattle.md_script.specs.Kinds.{at_no_line};
 ghost use Rattle.md_script.specs.declared.error.PlayKind.TheVariants.{NoMemory};
 ghost use Rattle.md_runs.specs.declared.fault.RunFault.TheVariants as fault;
-ghost use Rattle.md_runs.specs.Faults.{refused_line, refusal_text};
-ghost use Rattle.md_runs.specs.Threading.{IsStop};
+ghost use Rattle.md_runs.specs.Faults.{core_fault, list_fault, open_fault, refused_line, refusal_text};
 
 use md_core::CoreError;
 use md_script::{PlayError, PlayKind};
@@ -12,7 +11,7 @@ use md_store::{ListError, OpenError, StoreError};
 use std::alloc::AllocError;
 use std::fmt::{self, Display, Formatter};
 
-/// Why a run on threads ended without its text.
+/// Why a run ended without its text.
 #[derive(Clone, Copy, Debug, PartialEq, Eq)]
 pub enum RunFault {
     /// As a script that is played.
@@ -81,7 +80,7 @@ impl From<AllocError> for RunFault {
 }
 
 impl From<OpenError> for RunFault {
-    ghost from_gives = { λ _ fault. IsStop fault };
+    ghost from_gives = { λ error result. result ≡ open_fault error };
 
     // There are 1 to 16 passes, so that `BadPasses` is not met.
     fn from(error: OpenError) -> RunFault {
@@ -93,7 +92,7 @@ impl From<OpenError> for RunFault {
 }
 
 impl From<CoreError> for RunFault {
-    ghost from_gives = { λ _ fault. IsStop fault };
+    ghost from_gives = { λ error result. result ≡ core_fault error };
 
     // A job that is there, and that no other thread steps, is refused a step only when out of memory.
     fn from(error: CoreError) -> RunFault {
@@ -105,7 +104,7 @@ impl From<CoreError> for RunFault {
 }
 
 impl From<StoreError> for RunFault {
-    ghost from_gives = { λ _ fault. IsStop fault };
+    ghost from_gives = { λ _ result. result ≡ fault.Play (at_no_line NoMemory) };
 
     fn from(StoreError::NoMemory: StoreError) -> RunFault {
         RunFault::from(PlayKind::NoMemory)
@@ -113,7 +112,7 @@ impl From<StoreError> for RunFault {
 }
 
 impl From<ListError> for RunFault {
-    ghost from_gives = { λ _ fault. IsStop fault };
+    ghost from_gives = { λ error result. result ≡ list_fault error };
 
     // The folders that a script names are there, so that `NoFolder` is not met.
     fn from(error: ListError) -> RunFault {
