@@ -1,5 +1,6 @@
 //! The messages of a folder, and the lines of one.
 ghost use Rattle.std.specs.Prelude.{◌≡◌, ◌<◌, ◌++◌, IfOk, IfErr, OnOk};
+ghost use mathlib.Core.List.{IsPrefix};
 ghost use Rattle.md_core.specs.Mailbox.{mailbox_of};
 ghost use Rattle.md_core.specs.Runs.{dirs_of};
 ghost use Rattle.md_listing.specs.Readings.{reading_refusal};
@@ -35,13 +36,15 @@ pub fn bytes_of<'a, D: Dirs>(world: &'a World<D>, unique: &[u8]) -> &'a [u8]
 
 /// Appends the lines of a message: `FOLDER UNIQUE`, the lines of its summary (RFC 5322), and `end`. Where it is refused, memory was, and
 /// some of them may have been appended.
+#[tactic(auto, using(md_text::proofs::Growing::grown, md_text::proofs::Growing::grown_if, md_text::proofs::Growing::grown_on))]
 pub fn push_indexed(
     out: &mut Vec<u8>,
     name: &[u8],
     unique: &[u8],
     summary: &Summary,
 ) -> Result<(), AllocError>
-    ensures { OnOk result (out.new.items ≡ out.old.items ++ indexed_text name.now unique.now summary.now) }
+    ensures text { OnOk result (out.new.items ≡ out.old.items ++ indexed_text name.now unique.now summary.now) }
+    ensures kept { IsPrefix out.old.items out.new.items }
 {
     out.extend_from_slice(name)?;
     out.push(b' ')?;
