@@ -48,7 +48,7 @@ pub record ReadsOn (old new : Source) : Type 0 where
 
 -- why a script was not read whole
 abbrev pub Unread : Source → Source → PlayKind → Type 0
-Unread old new ReadFault = new.failures ≡ old.failures + 1
+Unread old new ReadFault = (new.failures ≡ old.failures + 1) × Endless old new
 Unread old new TooLong = GivesTooMuch old new
 Unread old new TooManyReads = ReadsOn old new
 Unread old new NoMemory = Sound old new

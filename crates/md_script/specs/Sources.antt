@@ -37,4 +37,4 @@ pub record Paused (old new : Source) : Type 0 where
 abbrev pub Reads : Source → Source → List ℕ → Got → Type 0
 Reads old new room (Bytes count) = Gave old new room count
 Reads old new room Interrupted = Paused old new
-Reads old new room Failed = new.failures ≡ old.failures + 1
+Reads old new room Failed = (new.failures ≡ old.failures + 1) × (new.ends ≡ old.ends)
