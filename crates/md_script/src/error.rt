@@ -7,7 +7,6 @@ ghost use Rattle.md_script.specs.Refusals.{core_text, name_text, kind_text};
 use md_core::{CoreError, SubmitRefused};
 use md_head::HeadError;
 use md_name::NameError;
-use md_view::ViewError;
 use std::alloc::{AllocError, AllocFailed};
 use std::fmt::{self, Display, Formatter};
 use thiserror::Error;
@@ -36,7 +35,7 @@ pub enum PlayKind {
     SamePath,
     /// The store refuses the line; out of memory is never among these.
     Core(CoreError),
-    /// Flags are none, or no unique name is made of the words; out of memory is never among these.
+    /// A word that should be flags is none, or no unique name is made of the words; out of memory is never among these.
     Name(NameError),
     /// The reader failed.
     ReadFault,
@@ -152,15 +151,6 @@ impl From<HeadError> for PlayKind {
     ghost from_gives = { λ _ kind. kind ≡ NoMemory };
 
     fn from(_refused: HeadError) -> PlayKind {
-        PlayKind::NoMemory
-    }
-}
-
-impl From<ViewError> for PlayKind {
-    ghost from_gives = { λ _ kind. kind ≡ NoMemory };
-
-    // The folders that a line names are there, so that only memory can be wanting.
-    fn from(_refused: ViewError) -> PlayKind {
         PlayKind::NoMemory
     }
 }

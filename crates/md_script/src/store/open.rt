@@ -87,6 +87,7 @@ impl<D: Storage> OpenStore<D> {
     }
 }
 
+// The folders that a line names are there, so that only memory can be wanting to a listing.
 impl<D: Storage> OpenStore<D> {
     // Makes a folder ready to be listed. Where memory is refused to that, a listing shows the same, later.
     fn arrange(&mut self, folder: u32)
@@ -100,7 +101,9 @@ impl<D: Storage> OpenStore<D> {
     fn list(&self, folder: u32, out: &mut Vec<u8>) -> Result<(), PlayKind>
         ensures { Steps (on_run self.now (list_in self.now.run folder)) self.now out.old.items out.new.items result }
     {
-        let listing = list_lent(self.alloc, &self.world, folder)?;
+        let Ok(listing) = list_lent(self.alloc, &self.world, folder) else {
+            return Err(PlayKind::NoMemory);
+        };
         push_listing(out, &listing)?;
         Ok(())
     }
@@ -118,7 +121,9 @@ impl<D: Storage> OpenStore<D> {
     fn first(&mut self, folder: u32) -> Result<(), PlayKind>
         ensures { Steps (read_first self.old folder) self.new [] [] result }
     {
-        let listing = BegunListing::begin(self.alloc, &self.world, folder)?;
+        let Ok(listing) = BegunListing::begin(self.alloc, &self.world, folder) else {
+            return Err(PlayKind::NoMemory);
+        };
         keep(&mut self.kept, listing)?;
         Ok(())
     }
@@ -130,7 +135,9 @@ impl<D: Storage> OpenStore<D> {
         let Some(begun) = kept_of(&self.kept, folder) else {
             return Err(PlayKind::NoFirst);
         };
-        let listing = begun.finish_lent(self.alloc, &self.world)?;
+        let Ok(listing) = begun.finish_lent(self.alloc, &self.world) else {
+            return Err(PlayKind::NoMemory);
+        };
         push_listing(out, &listing)?;
         drop(listing);
         use_up(&mut self.kept, folder);

@@ -24,6 +24,6 @@ returns g c = (
   _,
   second-read c.args.self.now c.args.folder c.self.inside.world c.self.inside.kept.items c.self.view_is _ c.in-Some.begun.now _
       (sym (rw c.deref.ensures.value at c.in-Some.ensures)) c.self.invariant
-      c.use_up.ensures c.in_ok-listing.ensures.entries,
+      c.use_up.ensures c.in-Ok.ensures.entries,
   c.in_ok-push_listing.ensures,
 )
