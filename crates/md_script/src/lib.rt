@@ -28,7 +28,6 @@ mod words;
 
 pub use error::{PlayError, PlayKind};
 pub use indexing::{bytes_of, folders_text, index_text, list_folder, load, push_indexed, refused};
-pub use lines::count_lines;
 pub use listing::push_entries;
 pub use observer::Observer;
 pub use player::{observe, play, play_last, transcript, transcript_over, write_whole};

@@ -5,7 +5,7 @@ ghost use Rattle.md_head.specs.Header.{lines_of};
 use md_head::cut_line;
 
 /// How many lines a script has, those that are passed over included.
-pub fn count_lines(script: &[u8]) -> u64
+pub(crate) fn count_lines(script: &[u8]) -> u64
     ensures { result ≡ length (lines_of script.now) }
 {
     let mut left = script;
