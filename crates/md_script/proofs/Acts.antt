@@ -28,29 +28,29 @@ use Rattle.md_script.specs.Observing.{IsTaken}
 use Rattle.md_script.specs.Texts.{job_text, shown_text, out_text}
 
 -- a refusal by the store is the line's, and want of memory is none
-pub store_refuses : {S : Type 0} (o : Option CoreError) (step_of : S × List ℕ) (s : S) (text : List ℕ) (e : CoreError) → IsRefusal o e →
-    Steps (unless_refused o step_of) s text text (Err (core_kind e))
-store_refuses None step_of s text e is = λ some. absurd (some (ap core_kind is))
-store_refuses {S = S} (Some refusal) step_of s text e is =
+pub store_refuses : {S : Type 0} (o : Option CoreError) (done : S × List ℕ) (s : S) (text : List ℕ) (e : CoreError) → IsRefusal o e →
+    Steps (unless_refused o done) s text text (Err (core_kind e))
+store_refuses None done s text e is = λ some. absurd (some (ap core_kind is))
+store_refuses {S = S} (Some refusal) done s text e is =
     subst (λ (x : CoreError). Steps {S = S} (Err (Core refusal)) s text text (Err (core_kind x))) (sym is) (by refusal)
   where
     by : (x : CoreError) → Steps {S = S} (Err (Core x)) s text text (Err (core_kind x))
     by core.NoMemory = λ some. absurd (some refl)
     by other = λ some. (refl, refl)
 
-pub refuses : {S : Type 0} (o : Option CoreError) (step_of : S × List ℕ) (s : S) (text : List ℕ) (e : CoreError) (result : Result (Unit {0}) PlayKind) →
-    IsRefusal o e → IsErrAnd result (λ kind. kind ≡ core_kind e) → Steps (unless_refused o step_of) s text text result
-refuses o step_of s text e (Ok x) is from = absurd from
-refuses o step_of s text e (Err kind) is from =
-    subst (λ (x : PlayKind). Steps (unless_refused o step_of) s text text (Err x)) (sym from) (store_refuses o step_of s text e is)
+pub refuses : {S : Type 0} (o : Option CoreError) (done : S × List ℕ) (s : S) (text : List ℕ) (e : CoreError) (result : Result (Unit {0}) PlayKind) →
+    IsRefusal o e → IsErrAnd result (λ kind. kind ≡ core_kind e) → Steps (unless_refused o done) s text text result
+refuses o done s text e (Ok x) is from = absurd from
+refuses o done s text e (Err kind) is from =
+    subst (λ (x : PlayKind). Steps (unless_refused o done) s text text (Err x)) (sym from) (store_refuses o done s text e is)
 
 -- what is not refused is done
-pub is_done : {S : Type 0} (o : Option CoreError) (step_of : S × List ℕ) → o ≡ None → unless_refused o step_of ≡ Ok step_of
-is_done o step_of is = ap (λ x. unless_refused x step_of) is
+pub is_done : {S : Type 0} (o : Option CoreError) (done : S × List ℕ) → o ≡ None → unless_refused o done ≡ Ok done
+is_done o done is = ap (λ x. unless_refused x done) is
 
-pub was_done : {S : Type 0} (o : Option CoreError) (step_of after : S × List ℕ) → unless_refused o step_of ≡ Ok after → (o ≡ None) × (step_of ≡ after)
-was_done None step_of after is = (refl, cc)
-was_done (Some e) step_of after is = cc
+pub was_done : {S : Type 0} (o : Option CoreError) (done after : S × List ℕ) → unless_refused o done ≡ Ok after → (o ≡ None) × (done ≡ after)
+was_done None done after is = (refl, cc)
+was_done (Some e) done after is = cc
 
 pub submitted-ok : (r r' : Run) (c : Call) (job : ℕ) → submit_refusal r c ≡ None → r' ≡ and_call r c → job ≡ length r.calls + 1 →
     submit_in r c ≡ Ok (r', job_text job)
@@ -103,16 +103,16 @@ passes step s text text' kind (Ok x) from is = absurd from
 passes step s text text' kind (Err other) from is = subst (λ (x : PlayKind). Steps step s text text' (Err x)) (sym from) is
 
 -- of two things, each done unless the store refuses it, the second is refused as the first
-pub refused_too : {S T : Type 0} (o : Option CoreError) (step_of : S × List ℕ) (other : T × List ℕ) (s : S) (t : T) (text text' : List ℕ)
-    (kind : PlayKind) → Steps (unless_refused o step_of) s text text' (Err kind) → Steps (unless_refused o other) t text text' (Err kind)
-refused_too None step_of other s t text text' kind is = λ some. absurd (let no = (is some).0 in cc)
-refused_too (Some refusal) step_of other s t text text' kind is =
+pub refused_too : {S T : Type 0} (o : Option CoreError) (done : S × List ℕ) (other : T × List ℕ) (s : S) (t : T) (text text' : List ℕ)
+    (kind : PlayKind) → Steps (unless_refused o done) s text text' (Err kind) → Steps (unless_refused o other) t text text' (Err kind)
+refused_too None done other s t text text' kind is = λ some. absurd (let no = (is some).0 in cc)
+refused_too (Some refusal) done other s t text text' kind is =
     λ some. (let same : Core refusal ≡ kind = (let given = (is some).0 in cc) in ap Err same, (is some).1)
 
 -- what is done to the run of a store
 pub on-run : (t u : ScriptStore) (r : Run) (answer : Result (Run × List ℕ) PlayKind) (before after : List ℕ) (result : Result (Unit {0}) PlayKind)
     → (let after : ScriptStore = record t { run = r } in after) ≡ u → Steps answer r before after result → Steps (on_run t answer) u before after result
-on-run t u r answer before after (Ok step_of) same is =
+on-run t u r answer before after (Ok done) same is =
     (is.0, ap (λ (x : Result (Run × List ℕ) PlayKind). on_run t x) is.1 ∙ (λ i. Ok (same i, is.0)), is.2)
 on-run t u r answer before after (Err kind) same is = λ some. (ap (λ (x : Result (Run × List ℕ) PlayKind). on_run t x) (is some).0, (is some).1)
 
@@ -120,9 +120,9 @@ on-run t u r answer before after (Err kind) same is = λ some. (ap (λ (x : Resu
 pub obeyed : {S : Type 0} (step : Result (S × List ℕ) PlayKind) (read : Result Command PlayKind) (act : Command → Result (S × List ℕ) PlayKind)
     (command : Command) (s' : S) (text text' : List ℕ) (result : Result (Unit {0}) PlayKind)
     → step ≡ read >>= act → read ≡ Ok command → Steps (act command) s' text text' result → Steps step s' text text' result
-obeyed {S = S} step read act command s' text text' result by is step_of =
+obeyed {S = S} step read act command s' text text' result by is done =
     let same : step ≡ act command = by ∙ ap (λ (x : Result Command PlayKind). x >>= act) is in
-    subst (λ (x : Result (S × List ℕ) PlayKind). Steps x s' text text' result) (sym same) step_of
+    subst (λ (x : Result (S × List ℕ) PlayKind). Steps x s' text text' result) (sym same) done
 
 -- a line that spells no command
 pub unread : {S X : Type 0} (view : X → Command) (step : Result (S × List ℕ) PlayKind) (read : Result Command PlayKind) (act : Command →

@@ -54,8 +54,8 @@ files_beside (Some t) files = []
 
 -- refused by the store, or done
 abbrev pub unless_refused : {X : Type 0} → Option CoreError → X → Result X PlayKind
-unless_refused None step_of = Ok step_of
-unless_refused (Some e) step_of = Err (Core e)
+unless_refused None done = Ok done
+unless_refused (Some e) done = Err (Core e)
 
 -- The directories that files are. The folder of each is there, so that the only refusal is that two have one path.
 unfoldable pub image_of : ℕ → List ImageFile → Result State PlayKind
@@ -135,7 +135,7 @@ read_in r unique = Ok (r, bytes_text (option_map (λ (e : Entry). e.bytes) (finm
 
 -- what is done to the run of a store: the readings that it keeps stay
 abbrev pub on_run : ScriptStore → Result (Run × List ℕ) PlayKind → Result (ScriptStore × List ℕ) PlayKind
-on_run t answer = answer >>= (λ step_of. Ok (record t { run = step_of.0 }, step_of.1))
+on_run t answer = answer >>= (λ done. Ok (record t { run = done.0 }, done.1))
 
 -- the kept reading of a folder
 abbrev pub first_of : ℕ → List First → Option First
@@ -159,7 +159,7 @@ read_second t folder = do
 
 -- What is done to the store of a session. It is opened where it was not, and nothing is done where it can't be.
 abbrev pub in_store : Session → (ScriptStore → Result (ScriptStore × List ℕ) PlayKind) → Result (Session × List ℕ) PlayKind
-in_store s act = store_of s >>= (λ t. act t >>= (λ step_of. Ok (with_store s step_of.0, step_of.1)))
+in_store s act = store_of s >>= (λ t. act t >>= (λ done. Ok (with_store s done.0, done.1)))
 
 -- what a command makes of an open store; one that asks nothing of it does nothing
 abbrev pub act : ScriptStore → Command → Result (ScriptStore × List ℕ) PlayKind
