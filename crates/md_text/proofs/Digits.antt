@@ -156,15 +156,15 @@ none_read text at most within digits stops ended spaced word left next =
     let goes_on : at < n = elim (cases_lt at n) [
       | inl before ↦ before
       | inr past ↦
-        let same : at ≡ n = omega (arith, past, front) in
-        elim (cases_lt at (length text)) [
-          | inl inside ↦
-            let space : get_or text at 0 ≡ 32 =
-            eqb-true (get_or text at 0) 32
-            (subst (λ k. is_byte 32 (get_or text k 0) ≡ true) (sym same) (passes_at_first (is_byte 32) text 0 (omega (arith, same, inside)))) in
-            absurd (omega (arith, spaced (slice_get-get_or text at 0 inside ∙ ap Some space), some, size, same))
-          | inr outside ↦ absurd (omega (arith, ended (slice_get_past text at (omega (arith, outside))), some, size, same))
-        ]
+          let same : at ≡ n = omega (arith, past, front) in
+          elim (cases_lt at (length text)) [
+            | inl inside ↦
+                let space : get_or text at 0 ≡ 32 =
+                eqb-true (get_or text at 0) 32
+                (subst (λ k. is_byte 32 (get_or text k 0) ≡ true) (sym same) (passes_at_first (is_byte 32) text 0 (omega (arith, same, inside)))) in
+                absurd (omega (arith, spaced (slice_get-get_or text at 0 inside ∙ ap Some space), some, size, same))
+            | inr outside ↦ absurd (omega (arith, ended (slice_get_past text at (omega (arith, outside))), some, size, same))
+          ]
     ] in
     let digit : IsInRange 48 57 (get_or word at 0) = digit_at word at (own.to word all) (omega (arith, goes_on, size)) in
     let same : get_or word at 0 ≡ get_or text at 0 = ap (λ bytes. get_or bytes at 0) word_is ∙ get_or-take n text at 0 goes_on in

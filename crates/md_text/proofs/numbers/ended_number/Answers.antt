@@ -31,9 +31,9 @@ returns-in_default-clause-none c =
     elim c.in_default.branch [
       | in_default-via-in-None+else-end-gt0 w ↦ let zero : end ≡ 0 = omega (arith, w.if-end-gt0.false) in read (λ none. zero) (λ space. zero)
       | in_default-via-in-Some-eq32+else-end-gt0-2 w ↦
-        let zero : end ≡ 0 = omega (arith, w.if-end-gt0-2.false) in read (λ none. zero) (λ space. zero)
+          let zero : end ≡ 0 = omega (arith, w.if-end-gt0-2.false) in read (λ none. zero) (λ space. zero)
       | in_default-via-in-Some+in_default w ↦
-        read (λ none. absurd (w.in_default.not-None (c.requires.next ∙ none)))
-        (λ space. let same = sym w.in_default.is ∙ c.requires.next ∙ space in
-        let byte : w.in_default.field-0 ≡ 32 = cc in absurd (w.in_default.field-0-test.1 (w.in_default.field-0-is ∙ byte)))
+          read (λ none. absurd (w.in_default.not-None (c.requires.next ∙ none)))
+          (λ space. let same = sym w.in_default.is ∙ c.requires.next ∙ space in
+          let byte : w.in_default.field-0 ≡ 32 = cc in absurd (w.in_default.field-0-test.1 (w.in_default.field-0-is ∙ byte)))
     ]
