@@ -14,7 +14,8 @@ use std::alloc::Global;
 use std::sync::Wait;
 use std::thread::Threads;
 
-/// Makes a run of the script that the source gives, in at most 1,048,576 reads. It is the last thing that a process does: the memory of the store isn't given back.
+/// Makes a run of the script that the source gives, in at most 1,048,576 reads. It is the last thing that a process does: the memory of the
+/// store isn't given back.
 pub fn perform<R: Threads + Wait + Sync, S: Source, T: Sink>(
     rt: &R,
     alloc: Global,
