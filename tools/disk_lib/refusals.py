@@ -85,6 +85,18 @@ class Refusals(BoxTest):
             self.assertEqual(done.returncode, 74, words)
             self.assertIn(b"writing failed", done.stderr)
 
+    def test_full_output_of_deliveries(self) -> None:
+        """A message whose name is not printed is delivered, and so are those after it."""
+        for words, given, count in (((), MAIL, 1), (("--many",), b"From a\n1\n\nFrom b\n2\n", 2)):
+            before = self.box.names("new")
+            with open("/dev/full", "wb") as full:
+                command = [PROGRAM, "deliver", "box", "--print", *words]
+                done = subprocess.run(command, input=given, stdout=full, stderr=subprocess.PIPE, cwd=self.top, check=False)
+            names = [name for name in self.box.names("new") if name not in before]
+            self.assertEqual((done.returncode, len(names)), (74, count), words)
+            why = b": delivered, but its name could not be printed: No space left on device (os error 28)"
+            self.assertEqual(sorted(done.stderr.splitlines()), sorted(b"deolmutt: " + name + why for name in names))
+
     @unittest.skipIf(os.geteuid() != 0, "another user can't be asked")
     def test_no_rights(self) -> None:
         self.box.put("new", UNIQUE)

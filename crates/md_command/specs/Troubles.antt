@@ -7,7 +7,7 @@ use Rattle.md_command.specs.declared.trouble.Trouble.{Trouble}
 use Rattle.md_command.specs.declared.trouble.Trouble.TheVariants.{Unflushed, BadKey, BadChange, BadFolder, BadClause, BadCall, BadGrade, SameMaildir, NotThere}
 use Rattle.md_command.specs.declared.trouble.Trouble.TheVariants.{NotTrashed, OtherInfo, TooLong, NotText, NotAFile, NoMailbox}
 use Rattle.md_command.specs.declared.trouble.Trouble.TheVariants.{Flawed, NoMaildir, NoDirectory, NoLog, NameTaken, CannotMake}
-use Rattle.md_command.specs.declared.trouble.Trouble.TheVariants.{Unread, Unwritten, Lost, TimedOut, TmpGone, Fault, NoName, NoMemory}
+use Rattle.md_command.specs.declared.trouble.Trouble.TheVariants.{Unread, Unwritten, Unprinted, Lost, TimedOut, TmpGone, Fault, NoName, NoMemory}
 use Rattle.md_command.specs.declared.trouble.Trouble.TheVariants.{NoRights}
 
 -- the status of a command that ends so
@@ -35,6 +35,7 @@ status_of NameTaken = CannotCreate
 status_of CannotMake = CannotCreate
 status_of Unread = InputOutput
 status_of Unwritten = InputOutput
+status_of Unprinted = InputOutput
 status_of Lost = TryAgain
 status_of TimedOut = TryAgain
 status_of TmpGone = TryAgain
@@ -68,6 +69,7 @@ text_of NameTaken = codes "the name is taken"
 text_of CannotMake = codes "it can't be made"
 text_of Unread = codes "reading failed"
 text_of Unwritten = codes "writing failed"
+text_of Unprinted = codes "delivered, but its name could not be printed"
 text_of Lost = codes "others kept changing the message"
 text_of TimedOut = codes "the delivery took more than 24 hours"
 text_of TmpGone = codes "the file in tmp is gone"

@@ -38,6 +38,8 @@ pub enum Trouble {
     /// A message could not be read, or what was read not be written.
     Unread,
     Unwritten,
+    /// A message is delivered, and its name not printed.
+    Unprinted,
     /// It may be tried again.
     Lost,
     TimedOut,
@@ -73,7 +75,7 @@ impl Trouble {
             | Trouble::Flawed => Status::DataError,
             Trouble::NoMaildir | Trouble::NoDirectory | Trouble::NoLog => Status::NoInput,
             Trouble::NameTaken | Trouble::CannotMake => Status::CannotCreate,
-            Trouble::Unread | Trouble::Unwritten => Status::InputOutput,
+            Trouble::Unread | Trouble::Unwritten | Trouble::Unprinted => Status::InputOutput,
             Trouble::Lost
             | Trouble::TimedOut
             | Trouble::TmpGone
@@ -113,6 +115,7 @@ impl Trouble {
             Trouble::CannotMake => "it can't be made",
             Trouble::Unread => "reading failed",
             Trouble::Unwritten => "writing failed",
+            Trouble::Unprinted => "delivered, but its name could not be printed",
             Trouble::Lost => "others kept changing the message",
             Trouble::TimedOut => "the delivery took more than 24 hours",
             Trouble::TmpGone => "the file in tmp is gone",

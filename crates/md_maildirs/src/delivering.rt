@@ -42,8 +42,9 @@ pub enum MailSource<'a> {
 }
 
 /// Delivers what is on standard input, a message or those of an mbox (mboxrd), or the regular files of a directory in order of their names,
-/// each of at most 16 MiB. It ends at the first that is not delivered; a file that is no message is passed over. Refused before the first
-/// where there is no such maildir, and where no unique name can be made.
+/// each of at most 16 MiB. It ends at the first that is not delivered; a file that is no message is passed over. Where a name is not printed
+/// of a message that was delivered, that is told, and the others are delivered. Refused before the first where there is no such maildir, and
+/// where no unique name can be made.
 pub fn delivered<R: Host>(
     session: &Session<'_, R>,
     maildir: &str,
@@ -106,8 +107,8 @@ impl<'r, R: Host> Sending<'r, R> {
         Ok(status)
     }
 
-    // Delivers a message.
-    fn send(&mut self, session: &Session<'_, R>, message: &[u8]) -> Result<(), Failure> {
+    // Delivers a message. The status is of what was done after that.
+    fn send(&mut self, session: &Session<'_, R>, message: &[u8]) -> Result<Status, Failure> {
         let alloc = session.alloc;
         for _ in 0..NAMES {
             let unique = fresh(session, &mut self.namer)?;
@@ -115,7 +116,7 @@ impl<'r, R: Host> Sending<'r, R> {
             let body = Bytes::copied(alloc, message)?;
             let answer = deliver(alloc, &mut self.disk, 0, unique, body, CHUNK)?;
             match trouble_of(answer) {
-                None => return self.sent(session, name.as_slice()),
+                None => return Ok(self.sent(session, name.as_slice())),
                 Some(Trouble::NameTaken) => {}
                 Some(trouble) => return Err(self.failure(session, trouble)),
             }
@@ -131,16 +132,16 @@ impl<'r, R: Host> Sending<'r, R> {
         }
     }
 
-    // A message was delivered under this name.
-    fn sent(&mut self, session: &Session<'_, R>, name: &[u8]) -> Result<(), Failure> {
+    // A message was delivered under this name. Where that can't be printed it is delivered all the same, and nobody has to try again.
+    fn sent(&mut self, session: &Session<'_, R>, name: &[u8]) -> Status {
         self.progress.step(session);
         if !self.prints {
-            return Ok(());
+            return Status::Done;
         }
-        let mut line = Vec::new(session.alloc);
-        push_escaped(&mut line, name)?;
-        line.push(b'\n')?;
-        print(session, line.as_slice())
+        match print_name(session, name) {
+            Ok(()) => Status::Done,
+            Err(failure) => session.tell(name, &unprinted(failure)),
+        }
     }
 
     // Delivers all that is read as a message.
@@ -149,8 +150,7 @@ impl<'r, R: Host> Sending<'r, R> {
         session: &Session<'_, R>,
         lines: Lines<L>,
     ) -> Result<Status, Failure> {
-        self.send(session, message(session.alloc, lines)?.as_slice())?;
-        Ok(Status::Done)
+        self.send(session, message(session.alloc, lines)?.as_slice())
     }
 
     // Delivers the messages of an mbox, until one is not delivered.
@@ -160,15 +160,17 @@ impl<'r, R: Host> Sending<'r, R> {
         lines: Lines<L>,
     ) -> Result<Status, Failure> {
         let mut messages = Messages::new(session.alloc, lines);
+        let mut worst = Status::Done;
         for count in 1..u64::MAX {
             let Some(draft) = messages.next_message(session.alloc)? else {
                 break;
             };
-            if let Err(failure) = self.send_draft(session, &draft) {
-                return told(session, count, &failure);
+            match self.send_draft(session, &draft) {
+                Ok(status) => worst = worst.worse(status),
+                Err(failure) => return Ok(worst.worse(told(session, count, &failure)?)),
             }
         }
-        Ok(Status::Done)
+        Ok(worst)
     }
 
     // Delivers the files of a directory, until one is not delivered. One that is no message is passed over.
@@ -177,22 +179,45 @@ impl<'r, R: Host> Sending<'r, R> {
         for name in &names_of(session, dir)? {
             let path = path_in(session.alloc, dir, name.as_slice())?;
             match message_of(session, path.as_slice()) {
-                Ok(message) => {
-                    if let Err(failure) = self.send(session, message.as_slice()) {
+                Ok(message) => match self.send(session, message.as_slice()) {
+                    Ok(status) => worst = worst.worse(status),
+                    Err(failure) => {
                         return Ok(worst.worse(session.tell(path.as_slice(), &failure)));
                     }
-                }
+                },
                 Err(failure) => worst = worst.worse(session.tell(path.as_slice(), &failure)),
             }
         }
         Ok(worst)
     }
 
-    fn send_draft(&mut self, session: &Session<'_, R>, draft: &Draft) -> Result<(), Failure> {
+    fn send_draft(&mut self, session: &Session<'_, R>, draft: &Draft) -> Result<Status, Failure> {
         if draft.is_too_long {
             return Err(Failure::from(Trouble::TooLong));
         }
         self.send(session, draft.bytes.as_slice())
+    }
+}
+
+// Prints a unique name, in a line.
+fn print_name<R: Host>(session: &Session<'_, R>, name: &[u8]) -> Result<(), Failure> {
+    let mut line = Vec::new(session.alloc);
+    push_escaped(&mut line, name)?;
+    line.push(b'\n')?;
+    print(session, line.as_slice())
+}
+
+// That a name was not printed, with what the system said of it.
+fn unprinted(failure: Failure) -> Failure {
+    let Failure {
+        trouble: _,
+        cause,
+        path: _,
+    } = failure;
+    Failure {
+        trouble: Trouble::Unprinted,
+        cause,
+        path: None,
     }
 }
 
