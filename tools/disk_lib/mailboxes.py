@@ -73,8 +73,12 @@ class Files(DeliveryTest):
     def test_in_order(self) -> None:
         (self.top / "link").symlink_to("letters")
         for path in ("letters", "letters//", "link", self.letters):
-            printed = self.run_well("deliver", "box", "--from", path, "--many", "--print", given=b"not read")
+            printed = self.run_well("deliver", "box", "--from", path, "--print", given=b"not read")
             self.assertEqual(self.delivered(printed), [b".c", b"a", b"a b", b"b"])
+
+    def test_not_as_mailboxes(self) -> None:
+        ended = run("deliver", "box", "--from", "letters", "--many", cwd=self.top)
+        self.assertEqual((ended.status, ended.printed, self.box.files()), (64, b"", {}))
 
     def test_what_is_no_message(self) -> None:
         """It is refused by name, and the others are delivered."""

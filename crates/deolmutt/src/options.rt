@@ -213,12 +213,18 @@ fn deliver<'a>(alloc: Global) -> Result<Command<'a>, AllocError> {
         "no-sync",
         "Leaves it to the system when what was written reaches the disk",
     ))?
-    .arg(switch(
+    .arg(with_many(alloc)?)?
+    .arg(switch(alloc, "print", "Prints the unique name of each message"))
+}
+
+// Files are a message each, and no mailboxes.
+fn with_many<'a>(alloc: Global) -> Result<Arg<'a>, AllocError> {
+    switch(
         alloc,
         "many",
         "Reads an mbox (mboxrd), and stops at the first message that is not delivered",
-    ))?
-    .arg(switch(alloc, "print", "Prints the unique name of each message"))
+    )
+    .conflicts_with_all(&["from"])
 }
 
 fn list<'a>(alloc: Global) -> Result<Command<'a>, AllocError> {
