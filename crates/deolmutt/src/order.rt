@@ -173,7 +173,9 @@ fn acting<'a>(
         "seen" => (Act::Seen, None),
         "move" => (Act::Move, Some(other(maildir, words)?)),
         "copy" => (Act::Copy, Some(other(maildir, words)?)),
-        _ => (Act::Expunge, None),
+        "expunge" => (Act::Expunge, None),
+        // The options know no other. One without an arm must change no mail.
+        _ => return Err(Mistake::Unexpected),
     };
     Ok(Work::Act { act, to, keys })
 }

@@ -223,20 +223,21 @@ impl<'r, R: Host> Acting<'r, R> {
         Ok(run_errand(session.alloc, &mut self.disk, 0, unique, purpose, tries)?)
     }
 
-    // What an errand is for. A copy's has a fresh name.
+    // What an errand is for. A copy's has a fresh name, and there is none without what makes names.
     fn purpose(&mut self, session: &Session<'_, R>) -> Result<Purpose, Failure> {
         if let Some(namer) = &mut self.namer {
             let fresh = fresh(session, namer)?;
             return Ok(Purpose::Copy { to: 1, fresh });
         }
         match &self.act {
+            Act::Seen => Ok(Purpose::Seen(seen())),
             Act::Flag(change) => Ok(Purpose::Flag {
                 add: change.add,
                 remove: change.remove,
             }),
             Act::Move => Ok(Purpose::Move { to: 1 }),
+            Act::Copy => Err(Failure::from(Trouble::NoName)),
             Act::Expunge => Ok(Purpose::Expunge),
-            _ => Ok(Purpose::Seen(seen())),
         }
     }
 }
