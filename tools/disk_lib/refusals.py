@@ -50,6 +50,18 @@ class Refusals(BoxTest):
             ended = run("seen", "box", "--", key, cwd=self.top)
             self.assertEqual(ended.status, 64, key)
 
+    def test_keys_that_cannot_be_read(self) -> None:
+        """The keys before them are done, and no key after them."""
+        for name in (b"a", b"b"):
+            self.box.put("new", name)
+        folder = os.open(self.top, os.O_RDONLY)
+        self.addCleanup(os.close, folder)
+        command = [PROGRAM, "seen", "box", "none", "a", "-", "b"]
+        done = subprocess.run(command, stdin=folder, capture_output=True, cwd=self.top, check=False)
+        self.assertEqual((done.returncode, done.stderr), (
+            74, b"deolmutt: standard input: reading failed: Is a directory (os error 21)\ndeolmutt: none: no such message\n"))
+        self.assertEqual((self.box.names("new"), self.box.names("cur")), ([b"b"], [b"a:2,S"]))
+
     def test_wrong_changes(self) -> None:
         self.box.put("cur", UNIQUE + b":2,")
         for change in ("+", "-", "F", "+F-", "+-F", "+F+S", "+F-S-T", "+1", ""):

@@ -41,10 +41,10 @@ pub enum Act {
     Expunge,
 }
 
-/// Does with each message what is to be done, in the order of the keys that name them; the key `-` stands for the lines of standard input.
-/// The status is the worst one of a message, and standard error has a line for each that failed. It is refused before anything is done if a
-/// maildir is not there, or if no unique name can be made for copies; and after what the keys before it named was done if standard input
-/// can't be read, and when out of memory.
+/// Does with the message of each key what is to be done; the key `-` stands for the lines of standard input. What a hint allows is done at
+/// once, and the others in the order of their keys. The status is the worst one of a message, and standard error has a line for each that
+/// failed. It is refused before anything is done if a maildir is not there, if no unique name can be made for copies, and when out of memory.
+/// That standard input can't be read is told, and no key after it is taken.
 pub fn acted<R: Host>(
     session: &Session<'_, R>,
     maildir: &str,
@@ -56,7 +56,7 @@ pub fn acted<R: Host>(
     let taken = acting.take_words(session, keys);
     let done = acting.run_waiting(session);
     acting.progress.end(session);
-    Ok(taken?.worse(done))
+    Ok(taken.worse(done))
 }
 
 // What is done with messages of a maildir.
@@ -97,25 +97,25 @@ impl<'r, R: Host> Acting<'r, R> {
         })
     }
 
-    // The messages that words name.
-    fn take_words(&mut self, session: &Session<'_, R>, words: &[&str]) -> Result<Status, Failure> {
+    // The messages that words name, up to a failure of standard input.
+    fn take_words(&mut self, session: &Session<'_, R>, words: &[&str]) -> Status {
         let mut worst = Status::Done;
         for word in words {
-            let status = if *word == FROM_INPUT {
-                self.take_lines(session)?
+            if *word == FROM_INPUT {
+                if let Err(failure) = self.take_lines(session, &mut worst) {
+                    return worst.worse(session.tell(b"standard input", &failure));
+                }
             } else {
-                self.take(session, word.as_bytes())
-            };
-            worst = worst.worse(status);
+                worst = worst.worse(self.take(session, word.as_bytes()));
+            }
         }
-        Ok(worst)
+        worst
     }
 
-    // The messages that the lines of standard input name.
-    fn take_lines(&mut self, session: &Session<'_, R>) -> Result<Status, Failure> {
+    // The messages that the lines of standard input name. The worst status takes those of the lines before a failure too.
+    fn take_lines(&mut self, session: &Session<'_, R>, worst: &mut Status) -> Result<(), Failure> {
         let mut lines = Lines::new(session.alloc, session.host.reader())?;
         let mut line = Vec::new(session.alloc);
-        let mut worst = Status::Done;
         for _ in 0..u64::MAX {
             let status = match lines.next(&mut line, MOST_KEY) {
                 Ok(Line::End) => break,
@@ -123,9 +123,9 @@ impl<'r, R: Host> Acting<'r, R> {
                 Ok(Line::TooLong) => session.tell(b"-", &Failure::from(Trouble::BadKey)),
                 Err(error) => return Err(Failure::of(session.alloc, Trouble::Unread, &error)),
             };
-            worst = worst.worse(status);
+            *worst = worst.worse(status);
         }
-        Ok(worst)
+        Ok(())
     }
 
     // The message that a line names.
