@@ -3,8 +3,9 @@
 from __future__ import annotations
 
 import os
+import subprocess
 
-from .boxes import BoxTest, run
+from .boxes import PROGRAM, BoxTest, run
 
 MANY = b"""From a@b Thu Jan  1 00:00:00 1970
 Subject: one
@@ -49,8 +50,15 @@ class Mailboxes(DeliveryTest):
 
     def test_no_mailbox(self) -> None:
         for given in (b"Subject: a\n\n", b"\nFrom a\n"):
-            self.run_badly(65, b"box: no line 'From ' begins the first message", "deliver", "box", "--many", given=given)
+            self.run_badly(65, b"message 1: no line 'From ' begins the first message", "deliver", "box", "--many", given=given)
         self.assertEqual(self.box.files(), {})
+
+    def test_unread(self) -> None:
+        folder = os.open(self.top, os.O_RDONLY)
+        self.addCleanup(os.close, folder)
+        command = [PROGRAM, "deliver", "box", "--many"]
+        done = subprocess.run(command, stdin=folder, capture_output=True, cwd=self.top, check=False)
+        self.assertEqual((done.returncode, done.stderr), (74, b"deolmutt: message 1: reading failed: Is a directory (os error 21)\n"))
 
     def test_a_long_one(self) -> None:
         """The first message that is too long ends it, and those before it are delivered."""

@@ -1,7 +1,6 @@
 //! Messages that are delivered.
 use crate::boxes::{must_be_maildir, target};
 use crate::causes::{failure_caused, trouble_of};
-use crate::mailbox::Draft;
 use crate::messages::Messages;
 use crate::names::{fresh, namer};
 use md_command::{
@@ -89,22 +88,30 @@ impl<'r, R: Host> Sending<'r, R> {
         })
     }
 
-    // Delivers what a source has.
+    // Delivers what a source has. However that ends, it is told if the directory could not be flushed.
     fn send_from(
         &mut self,
         session: &Session<'_, R>,
         source: MailSource<'_>,
     ) -> Result<Status, Failure> {
-        let status = match source {
-            MailSource::Message => self.send_rest(session, input(session)?)?,
-            MailSource::Mailbox => self.send_all(session, input(session)?)?,
-            MailSource::Files(path) => self.send_files(session, path)?,
-        };
+        let sent = self.send_each(session, source);
         self.progress.end(session);
         if self.disk.system.is_unflushed() {
             session.tell(self.folder.as_bytes(), &Failure::from(Trouble::Unflushed));
         }
-        Ok(status)
+        sent
+    }
+
+    fn send_each(
+        &mut self,
+        session: &Session<'_, R>,
+        source: MailSource<'_>,
+    ) -> Result<Status, Failure> {
+        match source {
+            MailSource::Message => self.send_rest(session, input(session)?),
+            MailSource::Mailbox => self.send_all(session, input(session)?),
+            MailSource::Files(path) => self.send_files(session, path),
+        }
     }
 
     // Delivers a message. The status is of what was done after that.
@@ -153,7 +160,7 @@ impl<'r, R: Host> Sending<'r, R> {
         self.send(session, message(session.alloc, lines)?.as_slice())
     }
 
-    // Delivers the messages of an mbox, until one is not delivered.
+    // Delivers the messages of an mbox, until one is not read or not delivered. Its number says which ones were.
     fn send_all<L: Read + Drop>(
         &mut self,
         session: &Session<'_, R>,
@@ -162,11 +169,9 @@ impl<'r, R: Host> Sending<'r, R> {
         let mut messages = Messages::new(session.alloc, lines);
         let mut worst = Status::Done;
         for count in 1..u64::MAX {
-            let Some(draft) = messages.next_message(session.alloc)? else {
-                break;
-            };
-            match self.send_draft(session, &draft) {
-                Ok(status) => worst = worst.worse(status),
+            match self.send_next(session, &mut messages) {
+                Ok(Some(status)) => worst = worst.worse(status),
+                Ok(None) => break,
                 Err(failure) => return Ok(worst.worse(told(session, count, &failure)?)),
             }
         }
@@ -191,11 +196,19 @@ impl<'r, R: Host> Sending<'r, R> {
         Ok(worst)
     }
 
-    fn send_draft(&mut self, session: &Session<'_, R>, draft: &Draft) -> Result<Status, Failure> {
+    // Delivers the next message of an mbox. None past the last.
+    fn send_next<L: Read + Drop>(
+        &mut self,
+        session: &Session<'_, R>,
+        messages: &mut Messages<L>,
+    ) -> Result<Option<Status>, Failure> {
+        let Some(draft) = messages.next_message(session.alloc)? else {
+            return Ok(None);
+        };
         if draft.is_too_long {
             return Err(Failure::from(Trouble::TooLong));
         }
-        self.send(session, draft.bytes.as_slice())
+        Ok(Some(self.send(session, draft.bytes.as_slice())?))
     }
 }
 
