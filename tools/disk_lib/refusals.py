@@ -83,7 +83,7 @@ class Refusals(BoxTest):
 
     def test_too_long(self) -> None:
         body = b"a" * MOST_BYTES
-        self.run_badly(65, b"box: the message is longer than 16777216 bytes", "deliver", "box", given=body + b"a")
+        self.run_badly(65, b"standard input: the message is longer than 16777216 bytes", "deliver", "box", given=body + b"a")
         self.assertEqual(self.box.files(), {})
         self.run_well("deliver", "box", given=body)
         self.assertEqual([*self.box.files().values()], [body])
@@ -95,7 +95,7 @@ class Refusals(BoxTest):
                 command = [PROGRAM, *(os.fsencode(word) for word in words)]
                 done = subprocess.run(command, stdout=full, stderr=subprocess.PIPE, cwd=self.top, check=False)
             self.assertEqual(done.returncode, 74, words)
-            self.assertIn(b"writing failed", done.stderr)
+            self.assertEqual(done.stderr, b"deolmutt: standard output: writing failed: No space left on device (os error 28)\n")
 
     def test_full_output_of_deliveries(self) -> None:
         """A message whose name is not printed is delivered, and so are those after it."""

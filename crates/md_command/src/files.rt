@@ -17,7 +17,7 @@ pub fn names_of<R: Host>(session: &Session<'_, R>, path: &str) -> Result<Vec<Vec
     // Behind a slash the system follows a symlink to a directory.
     let whole = format!(in session.alloc; "{path}/")?;
     match session.host.open_dir(whole.as_str()) {
-        Ok(dir) => sorted_names(session.alloc, dir),
+        Ok(dir) => sorted_names(session.alloc, path, dir),
         Err(error) => Err(no_directory(session, path, &error)),
     }
 }
@@ -26,8 +26,12 @@ fn no_directory<R: Host>(session: &Session<'_, R>, path: &str, error: &Error) ->
     Failure::of(session.alloc, Trouble::NoDirectory, error).at(session.alloc, path)
 }
 
-// The names that a reader gives, each ended by a NUL.
-fn sorted_names<D: Read + Drop>(alloc: Global, dir: D) -> Result<Vec<Vec<u8>>, Failure> {
+// The names that a reader of the directory of this path gives, each ended by a NUL.
+fn sorted_names<D: Read + Drop>(
+    alloc: Global,
+    path: &str,
+    dir: D,
+) -> Result<Vec<Vec<u8>>, Failure> {
     let mut lines = Lines::ended_by(alloc, dir, 0)?;
     let mut line = Vec::new(alloc);
     let mut names = Vec::new(alloc);
@@ -35,7 +39,7 @@ fn sorted_names<D: Read + Drop>(alloc: Global, dir: D) -> Result<Vec<Vec<u8>>, F
         match lines.next(&mut line, MOST_NAME) {
             Ok(Line::End) => break,
             Ok(_) => push_name(alloc, &mut names, line.as_slice())?,
-            Err(error) => return Err(Failure::of(alloc, Trouble::Unread, &error)),
+            Err(error) => return Err(Failure::of(alloc, Trouble::Unread, &error).at(alloc, path)),
         }
     }
     names.sort_unstable();

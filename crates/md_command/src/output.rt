@@ -5,10 +5,13 @@ use crate::trouble::Trouble;
 use std::io;
 use std::io::Write;
 
-/// Writes bytes to standard output, whole. Refused as `Unwritten`, `NoRights` or `NoMemory`; a part may then be written.
+/// Writes bytes to standard output, whole. Refused as `Unwritten`, `NoRights` or `NoMemory` of it; a part may then be written.
 pub fn print<R: Host>(session: &Session<'_, R>, bytes: &[u8]) -> Result<(), Failure> {
     match io::writer(session.host).write_all(bytes) {
         Ok(()) => Ok(()),
-        Err(error) => Err(Failure::of(session.alloc, Trouble::Unwritten, &error)),
+        Err(error) => {
+            let failure = Failure::of(session.alloc, Trouble::Unwritten, &error);
+            Err(failure.at(session.alloc, "standard output"))
+        }
     }
 }

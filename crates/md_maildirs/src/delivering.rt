@@ -157,7 +157,10 @@ impl<'r, R: Host> Sending<'r, R> {
         session: &Session<'_, R>,
         lines: Lines<L>,
     ) -> Result<Status, Failure> {
-        self.send(session, message(session.alloc, lines)?.as_slice())
+        match message(session.alloc, lines) {
+            Ok(message) => self.send(session, message.as_slice()),
+            Err(failure) => Err(failure.at(session.alloc, "standard input")),
+        }
     }
 
     // Delivers the messages of an mbox, until one is not read or not delivered. Its number says which ones were.
