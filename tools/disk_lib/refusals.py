@@ -130,6 +130,18 @@ class Refusals(BoxTest):
             ended = run(*words, cwd=self.top, user=NOBODY, group=NOBODY, extra_groups=[])
             self.assertEqual((ended.status, ended.printed), (77, b""), words)
 
+    @unittest.skipIf(os.geteuid() != 0, "another user can't be asked")
+    def test_no_right_to_a_message(self) -> None:
+        """It is listed without its headers, and the others with theirs."""
+        for name in (b"a", b"b", b"c"):
+            self.box.put("new", name)
+        os.chmod(self.box.path / "new" / "b", 0)
+        other = {"user": NOBODY, "group": NOBODY, "extra_groups": []}
+        ended = run("list", "box", "--headers", cwd=self.top, **other)
+        self.assertEqual((ended.status, ended.said), (77, b"deolmutt: box/new/b: permission denied\n"))
+        columns = b"\t%d\t-\ta@example.org\tone\n" % len(MAIL)
+        self.assertEqual(ended.printed, b"new\t-\ta" + columns + b"new\t-\tb\t-\t-\t-\t-\n" + b"new\t-\tc" + columns)
+
     def test_full_disk(self) -> None:
         script = """mount -t tmpfs -o size=262144 none "$1" && mkdir -p "$1/b/tmp" "$1/b/new" "$1/b/cur" && cd "$1" || exit
             head -c 1000000 /dev/zero | "$2" deliver b; echo "status $?"; ls b/tmp b/new

@@ -23,8 +23,8 @@ const CHUNK: usize = 65_536;
 const PAGE: usize = 65_536;
 
 /// Prints a line for each message of a maildir, in order of their unique names. With headers each file is opened, and its beginning read,
-/// some 256 KiB. Refused where there is no such maildir, where a directory or a file can't be read, where writing fails, and when out of
-/// memory.
+/// some 256 KiB; one that can't be read is told, and its line has none. The status is the worst one of a file. Refused where there is no
+/// such maildir, where a directory can't be read, where writing fails, and when out of memory.
 pub fn listed<R: Host>(
     session: &Session<'_, R>,
     maildir: &str,
@@ -36,8 +36,7 @@ pub fn listed<R: Host>(
         return Err(failure_caused(session.alloc, Trouble::Fault, disk.system.cause()));
     }
     let mut page = Vec::new(session.alloc);
-    print_all(session, maildir, shape, all.as_slice(), &mut page)?;
-    Ok(Status::Done)
+    print_all(session, maildir, shape, all.as_slice(), &mut page)
 }
 
 // Prints the lines of messages, by a page that is lent and empty.
@@ -47,47 +46,58 @@ fn print_all<R: Host>(
     shape: Shape,
     all: &[Listed],
     page: &mut Vec<u8>,
-) -> Result<(), Failure> {
+) -> Result<Status, Failure> {
+    let mut worst = Status::Done;
     for message in all {
-        push_listed(session, maildir, shape, message, page)?;
+        worst = worst.worse(push_listed(session, maildir, shape, message, page)?);
         if page.len() >= PAGE {
             print(session, page.as_slice())?;
             page.clear();
         }
     }
-    print(session, page.as_slice())
+    print(session, page.as_slice())?;
+    Ok(worst)
 }
 
-// Appends the line of a message. A name that is none of a message has no line.
+// Appends the line of a message. A name that is none of a message has no line. The status is that of reading its headers.
 fn push_listed<R: Host>(
     session: &Session<'_, R>,
     maildir: &str,
     shape: Shape,
     message: &Listed,
     page: &mut Vec<u8>,
-) -> Result<(), Failure> {
+) -> Result<Status, Failure> {
     let name = message.name.as_slice();
     if !is_message(name, unique_part(name)) {
-        return Ok(());
+        return Ok(Status::Done);
     }
-    let headers = if shape.with_headers {
+    let (headers, status) = if shape.with_headers {
         headers_of(session, maildir, message)?
     } else {
-        None
+        (None, Status::Done)
     };
-    Ok(push_message(page, shape, message.place, name, headers.as_ref())?)
+    push_message(page, shape, message.place, name, headers.as_ref())?;
+    Ok(status)
 }
 
-// What the headers of a message say. None where it is gone from its name by now.
+// What the headers of a message say, as far as it can be read. What fails is told, and is the status.
 fn headers_of<R: Host>(
     session: &Session<'_, R>,
     maildir: &str,
     message: &Listed,
-) -> Result<Option<Headers>, Failure> {
+) -> Result<(Option<Headers>, Status), Failure> {
     let Some(path) = path_of(session, maildir, message)? else {
-        return Ok(None);
+        return Ok((None, Status::Done));
     };
-    let mut file = match opened(session, path.as_str()) {
+    match read_headers(session, path.as_str()) {
+        Ok(headers) => Ok((headers, Status::Done)),
+        Err(failure) => Ok((None, session.tell(path.as_bytes(), &failure))),
+    }
+}
+
+// What the headers of the message at a path say. None where it is gone from its name by now.
+fn read_headers<R: Host>(session: &Session<'_, R>, path: &str) -> Result<Option<Headers>, Failure> {
+    let mut file = match opened(session, path) {
         Ok(Some(file)) => file,
         Ok(None) => return Ok(None),
         Err(error) if error.kind() == ErrorKind::NotFound => return Ok(None),
