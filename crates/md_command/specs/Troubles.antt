@@ -1,5 +1,7 @@
 -- Why something is not done: its status, and what is said of it.
 use Rattle.std.specs.Prelude.{ℕ, List, codes}
+use Rattle.std_io.specs.declared.io.kind.ErrorKind.{ErrorKind}
+use Rattle.std_io.specs.declared.io.kind.ErrorKind.TheVariants as kind
 use Rattle.md_command.specs.declared.status.Status.{Status}
 use Rattle.md_command.specs.declared.status.Status.TheVariants.{Done, Usage, DataError, NoInput}
 use Rattle.md_command.specs.declared.status.Status.TheVariants.{CannotCreate, InputOutput, TryAgain, NoPermission}
@@ -43,6 +45,12 @@ status_of Fault = TryAgain
 status_of NoName = TryAgain
 status_of NoMemory = TryAgain
 status_of NoRights = NoPermission
+
+-- what a trouble is by the error that the system told: lack of rights or of memory, or itself
+abbrev pub trouble_by : Trouble → ErrorKind → Trouble
+trouble_by trouble kind.PermissionDenied = NoRights
+trouble_by trouble kind.OutOfMemory = NoMemory
+trouble_by trouble _ = trouble
 
 -- what is said of it
 abbrev pub text_of : Trouble → List ℕ

@@ -1,7 +1,10 @@
 //! A trouble with what the system said of it, and the line that says both.
 ghost use Rattle.std.specs.Prelude.{◌≡◌, ◌++◌, IfOk, OnOk};
 ghost use Rattle.std.specs.Option.{option_copied};
+ghost use Rattle.std_io.specs.IoError.{error_kind};
 ghost use Rattle.md_command.specs.Lines.{failure_line as line_of, cause_text};
+ghost use Rattle.md_command.specs.Troubles.{trouble_by};
+ghost use Rattle.md_command.specs.declared.trouble.Trouble.TheVariants.{NoMemory};
 
 use crate::escape::push_escaped;
 use crate::trouble::Trouble;
@@ -21,7 +24,9 @@ pub struct Failure {
 
 impl Failure {
     /// The same of this path.
-    pub fn at(self, alloc: Global, path: &str) -> Failure {
+    pub fn at(self, alloc: Global, path: &str) -> Failure
+        ensures { result.trouble ≡ self.trouble }
+    {
         let Failure {
             trouble,
             cause,
@@ -35,7 +40,9 @@ impl Failure {
     }
 
     /// A trouble, and what the system said of it. Without rights, and without memory, that is the trouble.
-    pub fn of(alloc: Global, trouble: Trouble, error: &io::Error) -> Failure {
+    pub fn of(alloc: Global, trouble: Trouble, error: &io::Error) -> Failure
+        ensures { result.trouble ≡ trouble_by trouble (error_kind error.now) }
+    {
         match error.kind() {
             ErrorKind::PermissionDenied => Failure::from(Trouble::NoRights),
             ErrorKind::OutOfMemory => Failure::from(Trouble::NoMemory),
@@ -49,6 +56,8 @@ impl Failure {
 }
 
 impl From<Trouble> for Failure {
+    ghost from_gives = { λ trouble result. result.trouble ≡ trouble };
+
     fn from(trouble: Trouble) -> Failure {
         Failure {
             trouble,
@@ -59,12 +68,16 @@ impl From<Trouble> for Failure {
 }
 
 impl From<AllocError> for Failure {
+    ghost from_gives = { λ _ result. result.trouble ≡ NoMemory };
+
     fn from(_error: AllocError) -> Failure {
         Failure::from(Trouble::NoMemory)
     }
 }
 
 impl<T: Drop> From<AllocFailed<T>> for Failure {
+    ghost from_gives = { λ _ result. result.trouble ≡ NoMemory };
+
     fn from(_error: AllocFailed<T>) -> Failure {
         Failure::from(Trouble::NoMemory)
     }
