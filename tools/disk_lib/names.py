@@ -71,8 +71,7 @@ class Names(BoxTest):
         self.box.put("cur", b"m:2,S", b"one")
         self.box.put("cur", b"m:2,F", b"two")
         before = self.box.files()
-        ended = run("flag", "box", "+T", "m", cwd=self.top)
-        self.assertEqual(ended.status, 75)
+        self.run_badly(65, b"m: it has two names", "flag", "box", "+T", "m")
         self.assertEqual(self.box.files(), before)
 
     def test_names_that_begin_alike(self) -> None:

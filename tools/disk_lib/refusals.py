@@ -142,6 +142,21 @@ class Refusals(BoxTest):
         columns = b"\t%d\t-\ta@example.org\tone\n" % len(MAIL)
         self.assertEqual(ended.printed, b"new\t-\ta" + columns + b"new\t-\tb\t-\t-\t-\t-\n" + b"new\t-\tc" + columns)
 
+    def test_other_file_system(self) -> None:
+        script = """mount -t tmpfs none "$1" && mkdir -p "$1/b/tmp" "$1/b/new" "$1/b/cur" || exit
+            for act in move copy; do "$2" $act box "$1/b" "$3"; echo "status $?"; done
+            ls "$1/b/new" """
+        self.box.put("new", UNIQUE)
+        place = self.top / "other"
+        place.mkdir()
+        command = ["unshare", "-rm", "sh", "-c", script, "sh", str(place), PROGRAM, UNIQUE.decode()]
+        done = subprocess.run(command, capture_output=True, cwd=self.top, check=False)
+        if b"status" not in done.stdout:
+            self.skipTest("no file system of its own")
+        self.assertEqual(done.stdout, b"status 73\nstatus 73\n", done.stderr)
+        self.assertEqual(done.stderr, 2 * (b"deolmutt: " + UNIQUE + b": it is on another file system\n"))
+        self.assertEqual(self.box.files(), {b"new/" + UNIQUE: MAIL})
+
     def test_full_disk(self) -> None:
         script = """mount -t tmpfs -o size=262144 none "$1" && mkdir -p "$1/b/tmp" "$1/b/new" "$1/b/cur" && cd "$1" || exit
             head -c 1000000 /dev/zero | "$2" deliver b; echo "status $?"; ls b/tmp b/new

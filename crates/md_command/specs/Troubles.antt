@@ -7,8 +7,8 @@ use Rattle.md_command.specs.declared.status.Status.TheVariants.{Done, Usage, Dat
 use Rattle.md_command.specs.declared.status.Status.TheVariants.{CannotCreate, InputOutput, TryAgain, NoPermission}
 use Rattle.md_command.specs.declared.trouble.Trouble.{Trouble}
 use Rattle.md_command.specs.declared.trouble.Trouble.TheVariants.{Unflushed, BadKey, BadChange, BadFolder, BadClause, BadCall, BadGrade, SameMaildir, NotThere}
-use Rattle.md_command.specs.declared.trouble.Trouble.TheVariants.{NotTrashed, OtherInfo, TooLong, NotText, NotAFile, NoMailbox}
-use Rattle.md_command.specs.declared.trouble.Trouble.TheVariants.{Flawed, NoMaildir, NoDirectory, NoLog, NameTaken, CannotMake}
+use Rattle.md_command.specs.declared.trouble.Trouble.TheVariants.{NotTrashed, OtherInfo, TooLong, NotText, NotAFile, NoMailbox, TwoNames}
+use Rattle.md_command.specs.declared.trouble.Trouble.TheVariants.{Flawed, NoMaildir, NoDirectory, NoLog, NameTaken, CannotMake, OtherSystem}
 use Rattle.md_command.specs.declared.trouble.Trouble.TheVariants.{Unread, Unwritten, Unprinted, Lost, TimedOut, TmpGone, Fault, NoName, NoMemory}
 use Rattle.md_command.specs.declared.trouble.Trouble.TheVariants.{NoRights}
 
@@ -29,12 +29,14 @@ status_of TooLong = DataError
 status_of NotText = DataError
 status_of NotAFile = DataError
 status_of NoMailbox = DataError
+status_of TwoNames = DataError
 status_of Flawed = DataError
 status_of NoMaildir = NoInput
 status_of NoDirectory = NoInput
 status_of NoLog = NoInput
 status_of NameTaken = CannotCreate
 status_of CannotMake = CannotCreate
+status_of OtherSystem = CannotCreate
 status_of Unread = InputOutput
 status_of Unwritten = InputOutput
 status_of Unprinted = InputOutput
@@ -69,12 +71,14 @@ text_of TooLong = codes "the message is longer than 16777216 bytes"
 text_of NotText = codes "its name is not UTF-8"
 text_of NotAFile = codes "it is no regular file"
 text_of NoMailbox = codes "no line 'From ' begins the first message"
+text_of TwoNames = codes "it has two names"
 text_of Flawed = codes "the maildir has flaws"
 text_of NoMaildir = codes "no such maildir"
 text_of NoDirectory = codes "no such directory"
 text_of NoLog = codes "it can't be opened"
 text_of NameTaken = codes "the name is taken"
 text_of CannotMake = codes "it can't be made"
+text_of OtherSystem = codes "it is on another file system"
 text_of Unread = codes "reading failed"
 text_of Unwritten = codes "writing failed"
 text_of Unprinted = codes "delivered, but its name could not be printed"

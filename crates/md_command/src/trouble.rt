@@ -25,6 +25,7 @@ pub enum Trouble {
     NotText,
     NotAFile,
     NoMailbox,
+    TwoNames,
     Flawed,
     /// There is no such maildir.
     NoMaildir,
@@ -35,6 +36,7 @@ pub enum Trouble {
     /// A name can't be made.
     NameTaken,
     CannotMake,
+    OtherSystem,
     /// A message could not be read, or what was read not be written.
     Unread,
     Unwritten,
@@ -72,9 +74,12 @@ impl Trouble {
             | Trouble::NotText
             | Trouble::NotAFile
             | Trouble::NoMailbox
+            | Trouble::TwoNames
             | Trouble::Flawed => Status::DataError,
             Trouble::NoMaildir | Trouble::NoDirectory | Trouble::NoLog => Status::NoInput,
-            Trouble::NameTaken | Trouble::CannotMake => Status::CannotCreate,
+            Trouble::NameTaken | Trouble::CannotMake | Trouble::OtherSystem => {
+                Status::CannotCreate
+            }
             Trouble::Unread | Trouble::Unwritten | Trouble::Unprinted => Status::InputOutput,
             Trouble::Lost
             | Trouble::TimedOut
@@ -107,12 +112,14 @@ impl Trouble {
             Trouble::NotText => "its name is not UTF-8",
             Trouble::NotAFile => "it is no regular file",
             Trouble::NoMailbox => "no line 'From ' begins the first message",
+            Trouble::TwoNames => "it has two names",
             Trouble::Flawed => "the maildir has flaws",
             Trouble::NoMaildir => "no such maildir",
             Trouble::NoDirectory => "no such directory",
             Trouble::NoLog => "it can't be opened",
             Trouble::NameTaken => "the name is taken",
             Trouble::CannotMake => "it can't be made",
+            Trouble::OtherSystem => "it is on another file system",
             Trouble::Unread => "reading failed",
             Trouble::Unwritten => "writing failed",
             Trouble::Unprinted => "delivered, but its name could not be printed",

@@ -7,7 +7,7 @@ use Rattle.md_disk.specs.declared.cause.Cause.TheVariants as cause
 use Rattle.md_jobs.specs.declared.answer.Answer.{Answer}
 use Rattle.md_jobs.specs.declared.answer.Answer.TheVariants as answer
 use Rattle.md_command.specs.declared.trouble.Trouble.{Trouble}
-use Rattle.md_command.specs.declared.trouble.Trouble.TheVariants.{NotThere, NotTrashed, OtherInfo, NotText, NotAFile, NoMaildir}
+use Rattle.md_command.specs.declared.trouble.Trouble.TheVariants.{NotThere, NotTrashed, OtherInfo, NotText, NotAFile, TwoNames, NoMaildir, OtherSystem}
 use Rattle.md_command.specs.declared.trouble.Trouble.TheVariants.{NameTaken, Lost, TimedOut, TmpGone, Fault, NoMemory, NoRights}
 
 -- why a job that ended with this answer has not done what it was for, if it has not
@@ -38,6 +38,7 @@ abbrev pub trouble_caused : Cause → Trouble
 trouble_caused (cause.System error) = trouble_of_kind error
 trouble_caused cause.NotText = NotText
 trouble_caused cause.NotAFile = NotAFile
+trouble_caused cause.TwoNames = TwoNames
 trouble_caused cause.NoDirectory = NoMaildir
 trouble_caused cause.NoMessage = NotThere
 trouble_caused cause.NameTaken = NameTaken
@@ -48,3 +49,8 @@ trouble_caused _ = Fault
 abbrev pub trouble_told : Trouble → Option Cause → Trouble
 trouble_told Fault (Some cause) = trouble_caused cause
 trouble_told trouble _ = trouble
+
+-- the same of an errand, which never gets a message to another file system
+abbrev pub errand_told : Trouble → Option Cause → Trouble
+errand_told Fault (Some (cause.System kind.CrossesDevices)) = OtherSystem
+errand_told trouble cause = trouble_told trouble cause

@@ -2,7 +2,7 @@
 //!
 //! What a hint allows is done at once. All else waits, until one reading of the maildir serves many.
 use crate::boxes::maildirs;
-use crate::causes::{failure_caused, trouble_of};
+use crate::causes::{errand_failure, trouble_of};
 use crate::change::Change;
 use crate::key::parse_key;
 use crate::names::{fresh, namer};
@@ -204,7 +204,7 @@ impl<'r, R: Host> Acting<'r, R> {
                 None => return Ok(()),
                 Some(Trouble::NameTaken) if self.namer.is_some() => {}
                 Some(trouble) => {
-                    return Err(failure_caused(session.alloc, trouble, self.disk.system.cause()));
+                    return Err(errand_failure(session.alloc, trouble, self.disk.system.cause()));
                 }
             }
         }

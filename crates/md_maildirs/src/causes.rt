@@ -1,6 +1,6 @@
 //! Why a job on a disk has not done what it was for.
 ghost use Rattle.std.specs.Prelude.{◌≡◌};
-ghost use Rattle.md_maildirs.specs.Causes.{trouble_of as trouble_by, trouble_caused as caused_by, trouble_told as told_by};
+ghost use Rattle.md_maildirs.specs.Causes.{trouble_of as trouble_by, trouble_caused as caused_by, trouble_told as told_by, errand_told};
 
 use md_command::{Failure, Trouble};
 use md_disk::Cause;
@@ -39,6 +39,7 @@ pub(crate) fn trouble_caused(cause: Cause) -> Trouble
         Cause::System(ErrorKind::OutOfMemory) => Trouble::NoMemory,
         Cause::NotText => Trouble::NotText,
         Cause::NotAFile => Trouble::NotAFile,
+        Cause::TwoNames => Trouble::TwoNames,
         Cause::NoDirectory => Trouble::NoMaildir,
         Cause::NoMessage => Trouble::NotThere,
         Cause::NameTaken => Trouble::NameTaken,
@@ -73,5 +74,19 @@ pub(crate) fn failure_caused(alloc: Global, trouble: Trouble, cause: Option<Caus
         trouble: told,
         cause: said,
         path: None,
+    }
+}
+
+/// The same of an errand, which never gets a message to another file system, however often it is tried.
+pub(crate) fn errand_failure(alloc: Global, trouble: Trouble, cause: Option<Cause>) -> Failure
+    ensures { result.trouble ≡ errand_told trouble cause }
+{
+    match (trouble, cause) {
+        (Trouble::Fault, Some(Cause::System(ErrorKind::CrossesDevices))) => Failure {
+            trouble: Trouble::OtherSystem,
+            cause: None,
+            path: None,
+        },
+        _ => failure_caused(alloc, trouble, cause),
     }
 }
