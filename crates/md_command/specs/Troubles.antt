@@ -6,7 +6,8 @@ use Rattle.md_command.specs.declared.status.Status.{Status}
 use Rattle.md_command.specs.declared.status.Status.TheVariants.{Done, Usage, DataError, NoInput}
 use Rattle.md_command.specs.declared.status.Status.TheVariants.{CannotCreate, InputOutput, TryAgain, NoPermission}
 use Rattle.md_command.specs.declared.trouble.Trouble.{Trouble}
-use Rattle.md_command.specs.declared.trouble.Trouble.TheVariants.{Unflushed, BadKey, BadChange, BadFolder, BadClause, BadCall, BadGrade, SameMaildir, NotThere}
+use Rattle.md_command.specs.declared.trouble.Trouble.TheVariants.{Unflushed, BadKey, BadChange, BadFolder, BadClause, BadCall, BadGrade, NeedsOwed}
+use Rattle.md_command.specs.declared.trouble.Trouble.TheVariants.{SameMaildir, NotThere}
 use Rattle.md_command.specs.declared.trouble.Trouble.TheVariants.{NotTrashed, OtherInfo, TooLong, NotText, NotAFile, NoMailbox, TwoNames}
 use Rattle.md_command.specs.declared.trouble.Trouble.TheVariants.{Flawed, NoMaildir, NoDirectory, NoLog, NameTaken, CannotMake, OtherSystem}
 use Rattle.md_command.specs.declared.trouble.Trouble.TheVariants.{Unread, Unwritten, Unprinted, Lost, TimedOut, TmpGone, Fault, NoName, NoMemory}
@@ -21,6 +22,7 @@ status_of BadFolder = Usage
 status_of BadClause = Usage
 status_of BadCall = Usage
 status_of BadGrade = Usage
+status_of NeedsOwed = Usage
 status_of SameMaildir = Usage
 status_of NotThere = DataError
 status_of NotTrashed = DataError
@@ -63,6 +65,7 @@ text_of BadFolder = codes "not the name of a folder"
 text_of BadClause = codes "not the name of a clause that may be allowed"
 text_of BadCall = codes "not a call of a job: deliver, seen, flag, move, copy, expunge or clean"
 text_of BadGrade = codes "not a grade: lost, misled, owed or custom"
+text_of NeedsOwed = codes "it goes with --owed or --relies"
 text_of SameMaildir = codes "the message is there already"
 text_of NotThere = codes "no such message"
 text_of NotTrashed = codes "the message has not the flag T"

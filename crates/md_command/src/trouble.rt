@@ -16,6 +16,7 @@ pub enum Trouble {
     BadClause,
     BadCall,
     BadGrade,
+    NeedsOwed,
     SameMaildir,
     /// The message can't be had, or is not as the command wants it.
     NotThere,
@@ -66,6 +67,7 @@ impl Trouble {
             | Trouble::BadClause
             | Trouble::BadCall
             | Trouble::BadGrade
+            | Trouble::NeedsOwed
             | Trouble::SameMaildir => Status::Usage,
             Trouble::NotThere
             | Trouble::NotTrashed
@@ -104,6 +106,7 @@ impl Trouble {
             Trouble::BadCall =>
                 "not a call of a job: deliver, seen, flag, move, copy, expunge or clean",
             Trouble::BadGrade => "not a grade: lost, misled, owed or custom",
+            Trouble::NeedsOwed => "it goes with --owed or --relies",
             Trouble::SameMaildir => "the message is there already",
             Trouble::NotThere => "no such message",
             Trouble::NotTrashed => "the message has not the flag T",

@@ -86,9 +86,16 @@ pub fn read_judging<'a>(alloc: Global, words: &ArgMatches<'a>) -> Result<Judging
 }
 
 fn read_rules<'a>(alloc: Global, words: &ArgMatches<'a>) -> Result<Rules<'a>, Mistake<'a>> {
+    let ours = words.get_strs("by").unwrap_or(&[]);
     let clauses = match words.get_str("relies") {
         Some(call) => read_relied(call)?,
         None if words.get_flag("owed") => &OWED,
+        None if !ours.is_empty() => {
+            return Err(Mistake::Wrong {
+                word: "--by",
+                trouble: Trouble::NeedsOwed,
+            });
+        }
         None => {
             return Ok(Rules::Law(Strictness {
                 allowed: read_allowed(alloc, words)?,
@@ -96,11 +103,10 @@ fn read_rules<'a>(alloc: Global, words: &ArgMatches<'a>) -> Result<Rules<'a>, Mi
             }));
         }
     };
-    let mut ours = Vec::new(alloc);
-    for actor in words.get_strs("by").unwrap_or(&[]) {
-        ours.push(*actor)?;
-    }
-    Ok(Rules::Owed(Owing { clauses, ours }))
+    Ok(Rules::Owed(Owing {
+        clauses,
+        ours: Vec::from_slice(alloc, ours)?,
+    }))
 }
 
 fn read_relied<'a>(call: &'a str) -> Result<&'static [Clause], Mistake<'a>> {
