@@ -184,6 +184,16 @@ class Readings(BoxTest):
         self.assertEqual([call for call in calls if _READING.match(call)], [])
         self.assertEqual(self.box.names("cur"), sorted(b"m%d:2,FS" % number for number in range(1000)))
 
+    def test_no_reading_for_a_path_that_is_read(self) -> None:
+        """One that is out of date is looked for."""
+        self.box.put("cur", b"m:2,S")
+        log = self.top / "log"
+        before = ["strace", "-o", str(log), "-e", "trace=openat"]
+        self.assertEqual(self.run_well("read", "box", "box/cur/m:2,S", before=before), MAIL)
+        self.assertEqual([call for call in log.read_bytes().splitlines() if _READING.match(call)], [])
+        for key in ("box/cur/m:2,", "box/new/m"):
+            self.assertEqual(self.run_well("read", "box", key), MAIL)
+
     def test_keys_of_all_kinds(self) -> None:
         """By name and by path, right and out of date, twice, of no message, and no keys: each is answered as it would be alone."""
         for name in (b"a:2,", b"b:2,", b"c:2,S", b"d:2,F", b"e:1,x"):

@@ -2,9 +2,10 @@
 use crate::acting::TRIES;
 use crate::boxes::maildirs;
 use crate::causes::failure_caused;
-use crate::key::parse_key;
+use crate::key::{Key, parse_key};
 use crate::row::{Headers, Shape, place_name, push_message};
 use md_command::{Failure, Host, Session, Status, Trouble, opened, print};
+use md_dirs::Bytes;
 use md_disk::{Disk, Listed, list_folder};
 use md_head::{HeadError, summary};
 use md_jobs::DirReply;
@@ -154,7 +155,7 @@ pub fn read<R: Host>(
 ) -> Result<Status, Failure> {
     let mut disk = maildirs(session, &[maildir])?;
     let read = match parse_key(maildir.as_bytes(), word.as_bytes()) {
-        Some(key) => copied_out(session, &mut disk, key.unique),
+        Some(key) => copied_out(session, &mut disk, &key),
         None => Err(Failure::from(Trouble::BadKey)),
     };
     match read {
@@ -163,13 +164,20 @@ pub fn read<R: Host>(
     }
 }
 
-// Copies a message to standard output.
+// Copies a message to standard output. Its path is a hint, so that no directory is read where the name is still there.
 fn copied_out<R: Host>(
     session: &Session<'_, R>,
     disk: &mut Disk<'_, R>,
-    unique: &[u8],
+    key: &Key<'_>,
 ) -> Result<(), Failure> {
-    match disk.system.open_message(session.alloc, 0, unique, TRIES)? {
+    if let Some(place) = key.place {
+        let name = Bytes::copied(session.alloc, key.name)?;
+        disk.system.hint(0, place, name);
+    }
+    match disk
+        .system
+        .open_message(session.alloc, 0, key.unique, TRIES)?
+    {
         (_, Some(mut file)) => poured(session, &mut file),
         _ => Err(failure_caused(session.alloc, Trouble::Fault, disk.system.cause())),
     }
