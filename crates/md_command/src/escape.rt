@@ -113,7 +113,8 @@ enum Reading {
     Digit(u8),
 }
 
-/// The bytes that a column shows so. None where a backslash begins no escape that `push_escaped` makes.
+/// The bytes that a column shows so. None where a backslash begins none of `\\`, `\t`, `\n`, `\r` and `\xHH`, with digits as `push_escaped`
+/// has them. What needs no escape may have one.
 pub fn unescaped(alloc: Global, column: &[u8]) -> Result<Option<Vec<u8>>, AllocError> {
     let mut bytes = Vec::with_capacity(alloc, column.len())?;
     let mut reading = Reading::Outside;
