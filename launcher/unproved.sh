@@ -100,6 +100,8 @@ run_unbuilt() {
       check_run "$@"
       run_unproved "$@"
       ;;
+    # To a mail server any status but 75 may be final, and the message goes back to its sender.
+    deliver) refuse 75 "$1 can't be run, since $why: $remedy" ;;
     *) refuse 70 "$1 can't be run, since $why: $remedy" ;;
   esac
   exit

@@ -90,6 +90,7 @@ Status: the program's own, or if the launcher fails, one of sysexits.h:
   66  a file can't be read              73  a file or folder can't be made
   69  rt, the toolchain, is missing         or taken away
   129, 130, 143  ended by a signal      74  reading or writing failed
+                                        75  as 70, of a delivery
 END
 }
 

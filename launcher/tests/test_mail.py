@@ -14,14 +14,14 @@ class Unbuilt(Scene):
     def test_nothing_is_run_and_the_remedy_is_named(self):
         for command in COMMANDS:
             text = f"{command} can't be run, since deolmutt is not built: '{self.top}/deolmutt build' proves and builds it"
-            self.refused(70, text, command, 'Mail')
+            self.refused(75 if command == 'deliver' else 70, text, command, 'Mail')
         self.assertEqual(self.calls(), [])
 
     def test_what_it_is_given_to_read_is_not_read(self):
         with open(self.script('a message'), encoding='utf-8') as message:
             words = [os.path.join(self.top, 'deolmutt'), 'deliver', 'Mail']
             ran = subprocess.run(words, stdin=message, env=self.environment, capture_output=True, check=False)
-            self.assertEqual((ran.returncode, ran.stdout), (70, b''))
+            self.assertEqual((ran.returncode, ran.stdout), (75, b''))
             self.assertEqual(message.read(), SCRIPT)
 
     def test_a_missing_toolchain_is_not_asked_for(self):
