@@ -44,7 +44,7 @@ pub enum Act {
 /// Does with the message of each key what is to be done; the key `-` stands for the lines of standard input. What a hint allows is done at
 /// once, and the others in the order of their keys. The status is the worst one of a message, and standard error has a line for each that
 /// failed. It is refused before anything is done if a maildir is not there, if no unique name can be made for copies, and when out of memory.
-/// That standard input can't be read is told, and no key after it is taken.
+/// That standard input can't be read is told, and no key after it is taken; and so is a directory that could not be flushed after a copy.
 pub fn acted<R: Host>(
     session: &Session<'_, R>,
     maildir: &str,
@@ -56,6 +56,10 @@ pub fn acted<R: Host>(
     let taken = acting.take_words(session, keys);
     let done = acting.run_waiting(session);
     acting.progress.end(session);
+    if acting.disk.system.is_unflushed() {
+        let copied_to = to.unwrap_or(maildir);
+        session.tell(copied_to.as_bytes(), &Failure::from(Trouble::Unflushed));
+    }
     Ok(taken.worse(done))
 }
 
