@@ -1,11 +1,10 @@
 //! What words ask for.
-ghost use Rattle.std.specs.Prelude.{◌≡◌};
-ghost use Rattle.deolmutt.specs.Folders.{is_folder};
-
 use clap::ArgMatches;
 use md_command::{Mistake, Trouble};
 use md_findings::{Judging, read_judging};
-use md_maildirs::{Act, Change, Delivering, MailSource, Shape, parse_change, parse_letters};
+use md_maildirs::{
+    Act, Change, Delivering, MailSource, Shape, is_folder, parse_change, parse_letters,
+};
 use md_name::Flags;
 use std::alloc::Global;
 
@@ -114,13 +113,6 @@ fn mail_source<'a>(words: &ArgMatches<'a>) -> Result<MailSource<'a>, Mistake<'a>
         None if words.get_flag("many") => Ok(MailSource::Mailbox),
         None => Ok(MailSource::Message),
     }
-}
-
-// Whether a folder of Maildir++ may have the name: it is not empty, begins with no dot, and holds no slash.
-fn is_folder(name: &[u8]) -> bool
-    ensures { result ≡ is_folder name.now }
-{
-    !name.is_empty() && !name.starts_with(b".") && !name.contains(&b'/')
 }
 
 // A change of flags: by options, or by the first word.

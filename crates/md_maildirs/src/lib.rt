@@ -21,5 +21,6 @@ pub use change::{Change, parse_change, parse_letters};
 pub use checking::checked;
 pub use cleaning::cleaned;
 pub use delivering::{Delivering, MailSource, delivered};
+pub use names::is_folder;
 pub use row::Shape;
 pub use showing::{listed, read};

@@ -1,8 +1,18 @@
-//! Unique names that a command makes.
+//! Unique names that a command makes, and names of folders.
+ghost use Rattle.std.specs.Prelude.{◌≡◌};
+ghost use Rattle.md_maildirs.specs.Folders.{is_folder};
+
 use md_command::{Failure, Host, Session, Trouble};
 use md_dirs::Bytes;
 use md_disk::{Namer, host_name};
 use md_name::NameError;
+
+/// Whether a folder of Maildir++ may have the name: it is not empty, begins with no dot, and holds no slash.
+pub fn is_folder(name: &[u8]) -> bool
+    ensures { result ≡ is_folder name.now }
+{
+    !name.is_empty() && !name.starts_with(b".") && !name.contains(&b'/')
+}
 
 /// What makes unique names. A command makes one at most.
 pub(crate) fn namer<R: Host>(session: &Session<'_, R>) -> Result<Namer, Failure> {
