@@ -24,11 +24,13 @@ Status:
   1   a line of the script failed, or its run: `line N: TEXT` on standard error says which; `judge` found something
   2   `judge` was given no log, or it could not be read: `line N: TEXT` says which line is wrong
   64  usage error
-  65  no such message, it lacks the flag T, its flags can't be read, or it is longer than 16777216 bytes; `check` found flaws
+  65  no such message, or it has two names, lacks the flag T, has flags that can't be read, is longer than 16777216 bytes
+      or is no regular file; a name is not UTF-8; what is read is no mbox; `check` found flaws
   66  no such maildir, no such directory of messages, or no such log
-  73  a name is taken, or can't be made
-  74  a message could not be read, or what was read not be written
-  75  a call of the system failed: it may be tried again
+  73  a name is taken, or can't be made; the other maildir is on another file system
+  74  a message could not be read, or what was read not be written; a message is delivered, and its name not printed
+  75  it may be tried again: a call of the system failed, others kept changing the message, the delivery took more than
+      24 hours, the name of this host makes no unique name, or memory ran out
   77  permission denied
 Of several keys it is the largest. Standard error has a line for each that failed.
 
