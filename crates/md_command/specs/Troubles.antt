@@ -6,11 +6,13 @@ use Rattle.md_command.specs.declared.status.Status.{Status}
 use Rattle.md_command.specs.declared.status.Status.TheVariants.{Done, Usage, DataError, NoInput}
 use Rattle.md_command.specs.declared.status.Status.TheVariants.{CannotCreate, InputOutput, TryAgain, NoPermission}
 use Rattle.md_command.specs.declared.trouble.Trouble.{Trouble}
-use Rattle.md_command.specs.declared.trouble.Trouble.TheVariants.{Unflushed, BadKey, BadChange, BadFolder, BadClause, BadCall, BadGrade, NeedsOwed}
+use Rattle.md_command.specs.declared.trouble.Trouble.TheVariants.{Unflushed, BadKey, BadChange, BadFolder}
+use Rattle.md_command.specs.declared.trouble.Trouble.TheVariants.{BadClause, BadCall, BadGrade, NeedsOwed}
 use Rattle.md_command.specs.declared.trouble.Trouble.TheVariants.{SameMaildir, NotThere}
 use Rattle.md_command.specs.declared.trouble.Trouble.TheVariants.{NotTrashed, OtherInfo, TooLong, NotText, NotAFile, NoMailbox, TwoNames}
 use Rattle.md_command.specs.declared.trouble.Trouble.TheVariants.{Flawed, NoMaildir, NoDirectory, NoLog, NameTaken, CannotMake, OtherSystem}
-use Rattle.md_command.specs.declared.trouble.Trouble.TheVariants.{Unread, Unwritten, Unprinted, Lost, TimedOut, TmpGone, Fault, NoName, NoMemory}
+use Rattle.md_command.specs.declared.trouble.Trouble.TheVariants.{Unread, Unwritten, Unprinted, Lost, TimedOut}
+use Rattle.md_command.specs.declared.trouble.Trouble.TheVariants.{TmpGone, Fault, NoName, NoMemory}
 use Rattle.md_command.specs.declared.trouble.Trouble.TheVariants.{NoRights}
 
 -- the status of a command that ends so

@@ -7,7 +7,8 @@ use Rattle.md_disk.specs.declared.cause.Cause.TheVariants as cause
 use Rattle.md_jobs.specs.declared.answer.Answer.{Answer}
 use Rattle.md_jobs.specs.declared.answer.Answer.TheVariants as answer
 use Rattle.md_command.specs.declared.trouble.Trouble.{Trouble}
-use Rattle.md_command.specs.declared.trouble.Trouble.TheVariants.{NotThere, NotTrashed, OtherInfo, NotText, NotAFile, TwoNames, NoMaildir, OtherSystem}
+use Rattle.md_command.specs.declared.trouble.Trouble.TheVariants.{NotThere, NotTrashed, OtherInfo, NotText}
+use Rattle.md_command.specs.declared.trouble.Trouble.TheVariants.{NotAFile, TwoNames, NoMaildir, OtherSystem}
 use Rattle.md_command.specs.declared.trouble.Trouble.TheVariants.{NameTaken, Lost, TimedOut, TmpGone, Fault, NoMemory, NoRights}
 
 -- why a job that ended with this answer has not done what it was for, if it has not

@@ -43,7 +43,7 @@ pub enum Act {
 
 /// Does with the message of each key what is to be done; the key `-` stands for the lines of standard input. What a hint allows is done at
 /// once, and the others in the order of their keys. The status is the worst one of a message, and standard error has a line for each that
-/// failed. It is refused before anything is done if a maildir is not there, if no unique name can be made for copies, and when out of memory.
+/// failed. Refused before anything is done if a maildir is not there, if no unique name can be made for copies, and when out of memory.
 /// That standard input can't be read is told, and no key after it is taken; and so is a directory that could not be flushed after a copy.
 pub fn acted<R: Host>(
     session: &Session<'_, R>,

@@ -3,8 +3,8 @@ use md_command::{Failure, Host, Session, Status, Trouble};
 use md_disk::{Calls, Disk, Folders, has_cur, is_maildir, make_maildir};
 use std::io;
 
-/// The maildirs of these paths, each of which must be there, with tmp, new and cur. A directory is flushed after a copy into it. When renames
-/// and removals reach the disk is left to the system.
+/// The maildirs of these paths, each of which must be there, with tmp, new and cur. A directory is flushed after a copy into it. When
+/// renames and removals reach the disk is left to the system.
 pub(crate) fn maildirs<'r, R: Host>(
     session: &Session<'r, R>,
     paths: &[&str],

@@ -41,9 +41,9 @@ pub enum MailSource<'a> {
 }
 
 /// Delivers what is on standard input, a message or those of an mbox (mboxrd), or the regular files of a directory in order of their names,
-/// each of at most 16 MiB. It ends at the first that is not delivered; a file that is no message is passed over. Where a name is not printed
-/// of a message that was delivered, that is told, and the others are delivered. Refused before the first where there is no such maildir, and
-/// where no unique name can be made.
+/// each of at most 16 MiB. It ends at the first that is not delivered; a file that is no message is passed over. Where the name of one that
+/// was delivered can't be printed, that is told, and the others are delivered. Refused before the first where there is no such maildir,
+/// and where no unique name can be made.
 pub fn delivered<R: Host>(
     session: &Session<'_, R>,
     maildir: &str,
