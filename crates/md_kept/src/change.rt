@@ -32,10 +32,7 @@ pub(crate) const NO_CHANGE: Change<'static> = Change {
 pub(crate) fn with_file(path: &Path, file: Option<usize>) -> Option<Named<'_>>
     ensures { option_map lent result ≡ with_file path.now file }
 {
-    match file {
-        None => None,
-        Some(file) => Some((path, file)),
-    }
+    file.map(|file| (path, file))
 }
 
 /// The unique name of a message's path.

@@ -32,13 +32,11 @@ impl Drafts {
     {
         let folder = path.folder as usize;
         let name = path.name.as_slice();
-        if self.other.get(folder, name).is_some() {
-            return true;
-        }
-        match self.first.get(folder, name) {
-            None => false,
-            Some(first) => *first != file,
-        }
+        self.other.get(folder, name).is_some()
+            || self
+                .first
+                .get(folder, name)
+                .is_some_and(|first| *first != file)
     }
 
     /// A path comes to name a file.

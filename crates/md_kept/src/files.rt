@@ -46,71 +46,52 @@ impl Files {
     pub fn is_maker(&self, file: usize, actor: &[u8]) -> bool
         ensures { result ≡ is_maker_in self.now.all.items file actor.now }
     {
-        match self.all.get(file) {
-            None => false,
-            Some(kept) => match &kept.maker {
-                None => false,
-                Some(maker) => maker.as_slice() == actor,
-            },
-        }
+        let Some(kept) = self.all.get(file) else {
+            return false;
+        };
+        kept.maker
+            .as_ref()
+            .is_some_and(|maker| maker.as_slice() == actor)
     }
 
     /// Whether the file was written to, and not flushed since.
     pub fn is_unflushed(&self, file: usize) -> bool
         ensures { result ≡ is_unflushed_in self.now.all.items file }
     {
-        match self.all.get(file) {
-            None => false,
-            Some(kept) => kept.is_unflushed,
-        }
+        self.all.get(file).is_some_and(|kept| kept.is_unflushed)
     }
 
     /// Whether the last write to the file failed.
     pub fn is_cut(&self, file: usize) -> bool
         ensures { result ≡ is_cut_in self.now.all.items file }
     {
-        match self.all.get(file) {
-            None => false,
-            Some(kept) => kept.is_cut,
-        }
+        self.all.get(file).is_some_and(|kept| kept.is_cut)
     }
 
     pub fn was_cur(&self, file: usize) -> bool
         ensures { result ≡ was_cur_in self.now.all.items file }
     {
-        match self.all.get(file) {
-            None => false,
-            Some(kept) => kept.was_cur,
-        }
+        self.all.get(file).is_some_and(|kept| kept.was_cur)
     }
 
     pub fn was_seen(&self, file: usize) -> bool
         ensures { result ≡ was_seen_in self.now.all.items file }
     {
-        match self.all.get(file) {
-            None => false,
-            Some(kept) => kept.was_seen,
-        }
+        self.all.get(file).is_some_and(|kept| kept.was_seen)
     }
 
     /// Whether readers see the file.
     pub fn is_seen(&self, file: usize) -> bool
         ensures { result ≡ is_seen_in self.now.all.items file }
     {
-        match self.all.get(file) {
-            None => false,
-            Some(kept) => kept.times > 0,
-        }
+        self.all.get(file).is_some_and(|kept| kept.times > 0)
     }
 
     /// When the file was last made or written to.
     pub fn stamp(&self, file: usize) -> u64
         ensures { result ≡ stamp_in self.now.all.items file }
     {
-        match self.all.get(file) {
-            None => 0,
-            Some(kept) => kept.stamp,
-        }
+        self.all.get(file).map_or(0, |kept| kept.stamp)
     }
 
     pub fn make(&mut self, maker: Option<Bytes>, stamp: u64) -> Result<(), AllocError>

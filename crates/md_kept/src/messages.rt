@@ -105,30 +105,24 @@ impl Messages {
     pub fn count_in(&self, folder: u32, unique: &[u8]) -> usize
         ensures { result ≡ count_in_folder self.now folder unique.now }
     {
-        match self.in_folder(folder, unique) {
-            None => 0,
-            Some(there) => there.times,
-        }
+        self.in_folder(folder, unique)
+            .map_or(0, |there| there.times)
     }
 
     /// By how many it is in any folder.
     pub fn count(&self, unique: &[u8]) -> usize
         ensures { result ≡ count_anywhere self.now unique.now }
     {
-        match self.all.get(0, unique) {
-            None => 0,
-            Some(message) => message.times,
-        }
+        self.all.get(0, unique).map_or(0, |message| message.times)
     }
 
     /// By how many paths the file is the message, in any folder.
     pub fn count_as(&self, unique: &[u8], file: usize) -> usize
         ensures { result ≡ count_as_file self.now unique.now file }
     {
-        match self.all.get(0, unique) {
-            None => 0,
-            Some(message) => message.files.get(file).copied().unwrap_or(0),
-        }
+        self.all
+            .get(0, unique)
+            .map_or(0, |message| message.files.get(file).copied().unwrap_or(0))
     }
 
     /// Whether the message was in the folder.
@@ -142,10 +136,8 @@ impl Messages {
     pub fn was_file_in(&self, folder: u32, unique: &[u8], file: usize) -> bool
         ensures { result ≡ was_in_folder_as self.now folder unique.now file }
     {
-        match self.in_folder(folder, unique) {
-            None => false,
-            Some(there) => there.files.get(file).is_some(),
-        }
+        self.in_folder(folder, unique)
+            .is_some_and(|there| there.files.get(file).is_some())
     }
 
     /// The first file that it was there, by the numbers of files.
@@ -166,10 +158,9 @@ impl Messages {
     pub fn was_file(&self, unique: &[u8], file: usize) -> bool
         ensures { result ≡ was_as_file self.now unique.now file }
     {
-        match self.all.get(0, unique) {
-            None => false,
-            Some(message) => message.files.get(file).is_some(),
-        }
+        self.all
+            .get(0, unique)
+            .is_some_and(|message| message.files.get(file).is_some())
     }
 
     fn in_folder<'a>(&'a self, folder: u32, unique: &'a [u8]) -> Option<&'a InFolder>

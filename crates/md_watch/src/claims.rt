@@ -81,9 +81,8 @@ impl Claims {
     fn is_left(&self, actor: &[u8], folder: u32, unique: &[u8]) -> bool
         ensures { result ≡ is_left_of (actor_in self.now actor.now) folder unique.now }
     {
-        match self.actors.get(0, actor) {
-            None => false,
-            Some(actor) => actor.is_left(folder, unique),
-        }
+        self.actors
+            .get(0, actor)
+            .is_some_and(|actor| actor.is_left(folder, unique))
     }
 }

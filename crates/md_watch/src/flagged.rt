@@ -95,10 +95,9 @@ impl Shown {
     fn is(&self, folder: usize, unique: &[u8]) -> bool
         ensures { result ≡ nat_lt 0 (count_of (Some self.now) folder unique.now) }
     {
-        match self.all.get(folder, unique) {
-            None => false,
-            Some(showing) => showing.is(),
-        }
+        self.all
+            .get(folder, unique)
+            .is_some_and(|showing| showing.is())
     }
 
     /// Whether the message showed the flags at a moment from one to now.
@@ -106,10 +105,9 @@ impl Shown {
         ensures { result
             ≡ ever_by (nat_lt 0 (count_of (Some self.now) folder unique.now)) (spell_of (Some self.now) folder unique.now) first }
     {
-        match self.all.get(folder, unique) {
-            None => false,
-            Some(showing) => showing.spell.was_ever(showing.is(), first),
-        }
+        self.all
+            .get(folder, unique)
+            .is_some_and(|showing| showing.spell.was_ever(showing.is(), first))
     }
 
     /// At the beginning one more name shows them.
@@ -175,20 +173,18 @@ impl Flagged {
     pub(crate) fn is_shown(&self, folder: u32, unique: &[u8], flags: Flags) -> bool
         ensures { result ≡ is_in self.now folder unique.now flags }
     {
-        match self.sets.get(&flags.bits()) {
-            None => false,
-            Some(shown) => shown.is(folder as usize, unique),
-        }
+        self.sets
+            .get(&flags.bits())
+            .is_some_and(|shown| shown.is(folder as usize, unique))
     }
 
     /// Whether it showed them at a moment from one to now.
     pub(crate) fn was_shown(&self, folder: u32, unique: &[u8], flags: Flags, first: usize) -> bool
         ensures { result ≡ ever_by (is_in self.now folder unique.now flags) (spell_in self.now folder unique.now flags) first }
     {
-        match self.sets.get(&flags.bits()) {
-            None => false,
-            Some(shown) => shown.was(folder as usize, unique, first),
-        }
+        self.sets
+            .get(&flags.bits())
+            .is_some_and(|shown| shown.was(folder as usize, unique, first))
     }
 
     /// At the beginning a path names a file.

@@ -28,13 +28,9 @@ pub(crate) fn in_folders(messages: &Messages, change: &Change<'_>) -> InFolders
 fn is_in_folder(messages: &Messages, named: Option<Named<'_>>) -> bool
     ensures { result ≡ is_in_folder messages.now (lent_as named.entry) }
 {
-    let Some((path, _)) = named else {
-        return false;
-    };
-    match message_of(path) {
-        None => false,
-        Some(unique) => messages.count_in(path.folder, unique) > 0,
-    }
+    named.is_some_and(|(path, _)| {
+        message_of(path).is_some_and(|unique| messages.count_in(path.folder, unique) > 0)
+    })
 }
 
 /// When names were in directories, and messages in folders.

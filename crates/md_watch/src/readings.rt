@@ -221,10 +221,7 @@ fn had_name(
 ) -> bool
     ensures { result ≡ has_then (option_copied directory.entry) names.now number begun name.now }
 {
-    let is = match directory {
-        None => false,
-        Some(directory) => directory.file(name).is_some(),
-    };
+    let is = directory.is_some_and(|directory| directory.file(name).is_some());
     names.was_ever(number, name, is, begun)
 }
 

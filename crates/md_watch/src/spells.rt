@@ -104,32 +104,25 @@ impl Spells {
     ) -> bool
         ensures { result ≡ always_by is (spell_at self.now number name.now) first last }
     {
-        match self.all.get(number, name) {
-            None => is,
-            Some(spell) => {
-                is && spell.since <= first || was_through(spell.ended.as_slice(), first, last)
-            }
-        }
+        self.all.get(number, name).map_or(is, |spell| {
+            is && spell.since <= first || was_through(spell.ended.as_slice(), first, last)
+        })
     }
 
     /// Whether it was there at a moment from one to now.
     pub(crate) fn was_ever(&self, number: usize, name: &[u8], is: bool, first: usize) -> bool
         ensures { result ≡ ever_by is (spell_at self.now number name.now) first }
     {
-        match self.all.get(number, name) {
-            None => is,
-            Some(spell) => spell.was_ever(is, first),
-        }
+        self.all
+            .get(number, name)
+            .map_or(is, |spell| spell.was_ever(is, first))
     }
 
     /// Since which moment it is there, where it is.
     pub(crate) fn since(&self, number: usize, name: &[u8]) -> usize
         ensures { result ≡ since_of (spell_at self.now number name.now) }
     {
-        match self.all.get(number, name) {
-            None => 0,
-            Some(spell) => spell.since,
-        }
+        self.all.get(number, name).map_or(0, |spell| spell.since)
     }
 
     /// The last moment at which it was there before.

@@ -17,7 +17,7 @@ use crate::marks::{Marks, There};
 use crate::memory::{Heard, Memory};
 use crate::presences::in_folders;
 use finding::is_from_new;
-use law::{empties_trash, turns};
+use law::empties_trash;
 pub use look_ups::{OpenReading, Presence};
 use md_dirs::Path;
 use md_kept::{Change, Drafts, Files, Messages, Paths};
@@ -154,7 +154,7 @@ impl Watch {
         let written = self.written(&step.call);
         LawBefore {
             not_a_directory: self.paths.is_wrong(self.folders, &step.call),
-            overwritten: turns(change),
+            overwritten: change.turned.is_some(),
             seen_before_whole: self.shows_too_early(&step.call, written, change.named),
             mixed: self.is_mixed(actor, written),
             not_flushed: self.shows_unflushed(change.named),

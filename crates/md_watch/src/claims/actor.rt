@@ -216,11 +216,7 @@ impl Actor {
 fn is_left(refused: Option<usize>, look: Option<usize>) -> bool
     ensures { result ≡ is_left_by refused look }
 {
-    match (refused, look) {
-        (None, _) => false,
-        (Some(_), None) => true,
-        (Some(refused), Some(look)) => look <= refused,
-    }
+    refused.is_some_and(|refused| !look.is_some_and(|look| refused < look))
 }
 
 fn is_ok(reply: Reply) -> bool

@@ -50,10 +50,7 @@ impl Past<'_> {
         if self.flagged.is_shown(folder, unique, flags) {
             return true;
         }
-        match begun {
-            None => false,
-            Some(first) => self.flagged.was_shown(folder, unique, flags, first),
-        }
+        begun.is_some_and(|first| self.flagged.was_shown(folder, unique, flags, first))
     }
 
     /// Whether the message is not in the folder, or was not at a moment from one on.

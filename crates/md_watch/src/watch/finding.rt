@@ -44,129 +44,97 @@ impl Watch {
     pub(super) fn is_early(&self, actor: &[u8], named: Option<Named<'_>>) -> bool
         ensures { result ≡ is_early self.now actor.now (lent_as named.entry) }
     {
-        match named {
-            None => false,
-            Some((path, file)) => {
-                is_tmp(path.place)
-                    && !self.files.is_maker(file, actor)
-                    && self.clock.saturating_sub(self.files.stamp(file)) < LONG
-            }
-        }
+        named.is_some_and(|(path, file)| {
+            is_tmp(path.place)
+                && !self.files.is_maker(file, actor)
+                && self.clock.saturating_sub(self.files.stamp(file)) < LONG
+        })
     }
 
     /// Whether the file was made by another.
     pub(super) fn is_mixed(&self, actor: &[u8], file: Option<usize>) -> bool
         ensures { result ≡ is_mixed self.now actor.now file }
     {
-        match file {
-            None => false,
-            Some(file) => !self.files.is_maker(file, actor),
-        }
+        file.is_some_and(|file| !self.files.is_maker(file, actor))
     }
 
     /// Whether a path comes to name a file that readers don't see and that another made.
     pub(super) fn is_anothers(&self, step: &Step, named: Option<Named<'_>>) -> bool
         ensures { result ≡ is_anothers self.now step.now (lent_as named.entry) }
     {
-        match named {
-            None => false,
-            Some((_, file)) => {
-                !self.files.is_seen(file)
-                    && !makes(&step.call)
-                    && !self.files.is_maker(file, step.actor.as_slice())
-            }
-        }
+        named.is_some_and(|(_, file)| {
+            !self.files.is_seen(file)
+                && !makes(&step.call)
+                && !self.files.is_maker(file, step.actor.as_slice())
+        })
     }
 
     pub(super) fn is_rewritten(&self, file: Option<usize>) -> bool
         ensures { result ≡ is_rewritten self.now file }
     {
-        match file {
-            None => false,
-            Some(file) => self.files.was_seen(file),
-        }
+        file.is_some_and(|file| self.files.was_seen(file))
     }
 
     /// Whether a message that was in cur is named in new.
     pub(super) fn is_moved_back(&self, named: Option<Named<'_>>) -> bool
         ensures { result ≡ is_moved_back self.now (lent_as named.entry) }
     {
-        match named {
-            None => false,
-            Some((path, file)) => {
-                is_message(path) && is_new(path.place) && self.files.was_cur(file)
-            }
-        }
+        named.is_some_and(|(path, file)| {
+            is_message(path) && is_new(path.place) && self.files.was_cur(file)
+        })
     }
 
     /// Whether a path of a message comes to name a file that the message never was, and it was another.
     pub(super) fn is_used_twice(&self, named: Option<Named<'_>>) -> bool
         ensures { result ≡ is_used_twice self.now (lent_as named.entry) }
     {
-        let Some((path, file)) = named else {
-            return false;
-        };
-        match message_of(path) {
-            None => false,
-            Some(unique) => { self.messages.was(unique) && !self.messages.was_file(unique, file) }
-        }
+        named.is_some_and(|(path, file)| {
+            message_of(path).is_some_and(|unique| {
+                self.messages.was(unique) && !self.messages.was_file(unique, file)
+            })
+        })
     }
 
     pub(super) fn is_made_again(&self, named: Option<Named<'_>>) -> bool
         ensures { result ≡ is_made_again self.now (lent_as named.entry) }
     {
-        match named {
-            None => false,
-            Some((path, file)) => is_tmp(path.place) && self.drafts.named_other(path, file),
-        }
+        named.is_some_and(|(path, file)| {
+            is_tmp(path.place) && self.drafts.named_other(path, file)
+        })
     }
 
     /// Whether nobody has written to the file for long.
     pub(super) fn is_late(&self, file: Option<usize>) -> bool
         ensures { result ≡ is_late self.now file }
     {
-        match file {
-            None => false,
-            Some(file) => self.clock.saturating_sub(self.files.stamp(file)) >= LONG,
-        }
+        file.is_some_and(|file| self.clock.saturating_sub(self.files.stamp(file)) >= LONG)
     }
 
     /// Whether the message has more than one path in its folder.
     pub(super) fn is_second(&self, named: Option<Named<'_>>) -> bool
         ensures { result ≡ is_second self.now (lent_as named.entry) }
     {
-        let Some((path, _)) = named else {
-            return false;
-        };
-        match message_of(path) {
-            None => false,
-            Some(unique) => self.messages.count_in(path.folder, unique) > 1,
-        }
+        named.is_some_and(|(path, _)| {
+            message_of(path).is_some_and(|unique| self.messages.count_in(path.folder, unique) > 1)
+        })
     }
 
     /// Whether the message has a path in another folder.
     pub(super) fn is_elsewhere(&self, named: Option<Named<'_>>) -> bool
         ensures { result ≡ is_elsewhere self.now (lent_as named.entry) }
     {
-        let Some((path, _)) = named else {
-            return false;
-        };
-        match message_of(path) {
-            None => false,
-            Some(unique) => {
+        named.is_some_and(|(path, _)| {
+            message_of(path).is_some_and(|unique| {
                 self.messages.count_in(path.folder, unique) < self.messages.count(unique)
-            }
-        }
+            })
+        })
     }
 
     /// Whether readers don't see the file of a path.
     pub(super) fn is_hidden(&self, named: Option<Named<'_>>) -> bool
         ensures { result ≡ is_hidden self.now (lent_as named.entry) }
     {
-        match named {
-            None => false,
-            Some((_, file)) => !self.files.is_seen(file),
-        }
+        named.is_some_and(|(_, file)| !self.files.is_seen(file))
     }
 }
 

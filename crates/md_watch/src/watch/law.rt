@@ -1,12 +1,11 @@
 //! What a step is found to break of the law beside what is owed, by what is kept.
-ghost use Rattle.std.specs.Prelude.{◌≡◌, is_some};
+ghost use Rattle.std.specs.Prelude.{◌≡◌};
 ghost use Rattle.md_monitor.specs.Found.{makes_message};
-ghost use Rattle.md_kept.specs.Changes.{turn_of};
 ghost use Rattle.md_kept.specs.Files.{lent_as};
 ghost use Rattle.md_watch.specs.Found.{empties_trash, shows_too_early, is_in_sight, shows_cut, shows_trashed, shows_unflushed, is_back, is_gone};
 
 use super::Watch;
-use md_kept::{Change, Named, is_cur, is_message, message_of};
+use md_kept::{Named, is_cur, is_message, message_of};
 use md_log::{Call, Deed, Reply};
 use md_name::split;
 
@@ -27,66 +26,49 @@ impl Watch {
     fn is_in_sight(&self, file: Option<usize>) -> bool
         ensures { result ≡ is_in_sight self.now file }
     {
-        match file {
-            None => false,
-            Some(file) => self.files.is_seen(file),
-        }
+        file.is_some_and(|file| self.files.is_seen(file))
     }
 
     fn shows_cut(&self, named: Option<Named<'_>>) -> bool
         ensures { result ≡ shows_cut self.now (lent_as named.entry) }
     {
-        match named {
-            None => false,
-            Some((path, file)) => {
-                is_message(path) && !self.files.is_seen(file) && self.files.is_cut(file)
-            }
-        }
+        named.is_some_and(|(path, file)| {
+            is_message(path) && !self.files.is_seen(file) && self.files.is_cut(file)
+        })
     }
 
     /// Whether a file begins to be seen that was not flushed since a write.
     pub(super) fn shows_unflushed(&self, named: Option<Named<'_>>) -> bool
         ensures { result ≡ shows_unflushed self.now (lent_as named.entry) }
     {
-        match named {
-            None => false,
-            Some((path, file)) => {
-                is_message(path) && !self.files.is_seen(file) && self.files.is_unflushed(file)
-            }
-        }
+        named.is_some_and(|(path, file)| {
+            is_message(path) && !self.files.is_seen(file) && self.files.is_unflushed(file)
+        })
     }
 
     /// Whether a message that had gone from the folder comes to be there as a file that it never was there.
     pub(super) fn is_back(&self, named: Option<Named<'_>>) -> bool
         ensures { result ≡ is_back self.now (lent_as named.entry) }
     {
-        let Some((path, file)) = named else {
-            return false;
-        };
-        match message_of(path) {
-            None => false,
-            Some(unique) => {
+        named.is_some_and(|(path, file)| {
+            message_of(path).is_some_and(|unique| {
                 self.messages.count_in(path.folder, unique) == 0
                     && self.messages.was_in(path.folder, unique)
                     && !self.messages.was_file_in(path.folder, unique, file)
-            }
-        }
+            })
+        })
     }
 
     /// Whether the message has no path in its folder, and the file of the path is the message in no other.
     pub(super) fn is_gone(&self, taken: Option<Named<'_>>) -> bool
         ensures { result ≡ is_gone self.now (lent_as taken.entry) }
     {
-        let Some((path, file)) = taken else {
-            return false;
-        };
-        match message_of(path) {
-            None => false,
-            Some(unique) => {
+        taken.is_some_and(|(path, file)| {
+            message_of(path).is_some_and(|unique| {
                 self.messages.count_in(path.folder, unique) == 0
                     && self.messages.count_as(unique, file) == 0
-            }
-        }
+            })
+        })
     }
 }
 
@@ -125,18 +107,5 @@ fn shows_trashed(name: &[u8]) -> bool
     let Some((_, info)) = split(name) else {
         return false;
     };
-    match info.flags() {
-        None => false,
-        Some(flags) => flags.has(b'T'),
-    }
-}
-
-/// Whether a path comes to name another file than before.
-pub(super) fn turns(change: &Change<'_>) -> bool
-    ensures { result ≡ is_some (turn_of change.now).turned }
-{
-    match change.turned {
-        None => false,
-        Some(_) => true,
-    }
+    info.flags().is_some_and(|flags| flags.has(b'T'))
 }
