@@ -87,9 +87,7 @@ impl Few<usize> {
         ensures { OnOk result (Puts number (Some (times_at self.old number + 1)) self.old self.new) }
     {
         let times = self.get(number).copied().unwrap_or(0);
-        let Some(more) = times.checked_add(1) else {
-            return Err(AllocError);
-        };
+        let more = times.checked_add(1).ok_or(AllocError)?;
         self.put(alloc, number, more)
     }
 

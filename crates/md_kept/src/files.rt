@@ -170,10 +170,7 @@ impl Files {
         ensures { OnOk result (Changes file (shown in_cur) self.old.all.items self.new.all.items) }
     {
         if let Some(kept) = self.all.get_mut(file) {
-            let Some(times) = kept.times.checked_add(1) else {
-                return Err(AllocError);
-            };
-            kept.times = times;
+            kept.times = kept.times.checked_add(1).ok_or(AllocError)?;
             kept.was_seen = true;
             kept.was_cur = in_cur || kept.was_cur;
         }

@@ -44,10 +44,7 @@ impl Message {
     fn come(&mut self, alloc: Global, folder: usize, file: usize) -> Result<(), AllocError>
         ensures { OnOk result (ComesTo folder file self.old self.new) }
     {
-        let Some(times) = self.times.checked_add(1) else {
-            return Err(AllocError);
-        };
-        self.times = times;
+        self.times = self.times.checked_add(1).ok_or(AllocError)?;
         self.files.raise(alloc, file)?;
         let mut there = self.folders.take(folder).unwrap_or(InFolder {
             times: 0,
@@ -75,10 +72,7 @@ impl InFolder {
     fn come(&mut self, alloc: Global, file: usize) -> Result<(), AllocError>
         ensures { OnOk result (IsIn file self.old self.new) }
     {
-        let Some(times) = self.times.checked_add(1) else {
-            return Err(AllocError);
-        };
-        self.times = times;
+        self.times = self.times.checked_add(1).ok_or(AllocError)?;
         self.files.put(alloc, file, ())
     }
 }

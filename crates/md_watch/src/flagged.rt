@@ -44,10 +44,7 @@ impl Showing {
         ensures names { OnOk result (self.new.names ≡ self.old.names + 1) }
         ensures same { self.new.spell ≡ self.old.spell }
     {
-        let Some(names) = self.names.checked_add(1) else {
-            return Err(AllocError);
-        };
-        self.names = names;
+        self.names = self.names.checked_add(1).ok_or(AllocError)?;
         Ok(())
     }
 

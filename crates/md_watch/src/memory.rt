@@ -215,9 +215,7 @@ impl Memory {
         ensures { OnOk result (Follows step.now (turn_of change.now) before after self.old self.new) }
     {
         let now = self.steps;
-        let Some(next) = now.checked_add(1) else {
-            return Err(AllocError);
-        };
+        let next = now.checked_add(1).ok_or(AllocError)?;
         self.presences.follow(change, before, after, now)?;
         self.flagged.follow(change, now)?;
         self.claims.step(step, change, before, after, next)?;

@@ -33,10 +33,7 @@ impl Spell {
         ensures { OnOk result (Passes was is now (Some self.old) (Some self.new)) }
     {
         if is && !was {
-            let Some(next) = now.checked_add(1) else {
-                return Err(AllocError);
-            };
-            self.since = next;
+            self.since = now.checked_add(1).ok_or(AllocError)?;
         }
         if was && !is {
             self.ended.push((self.since, now))?;
