@@ -116,23 +116,6 @@ abbrev pub gone : (Path × ℕ → Bool) → Option (Path × ℕ) → Option ℕ
 gone test None o = o
 gone test (Some e) o = if test e then option_map (λ n. n - 1) o else o
 
--- a path came to name a file
-pub record Comes (named : Option (Path × ℕ)) (old new : Messages) : Type 0 where
-  pub in_folder : (f : ℕ) (u : List ℕ)
-      → times_in (in_folder_of new f u) ≡ come (λ e. is_of f u e.0) named (times_in (in_folder_of old f u))
-  pub anywhere : (u : List ℕ) → times_by (kept_of new u) ≡ come (λ e. is_of_any u e.0) named (times_by (kept_of old u))
-  pub as_file : (n : ℕ) (u : List ℕ) → file_by (kept_of new u) n ≡ come (is_as u n) named (file_by (kept_of old u) n)
-  pub files : (f : ℕ) (u : List ℕ) (n : ℕ)
-      → was_in_folder_as new f u n ≡ (is_some_and named (is_in_as f u n) || was_in_folder_as old f u n)
-
--- a path went
-pub record Goes (gone_from : Option (Path × ℕ)) (old new : Messages) : Type 0 where
-  pub in_folder : (f : ℕ) (u : List ℕ)
-      → times_in (in_folder_of new f u) ≡ gone (λ e. is_of f u e.0) gone_from (times_in (in_folder_of old f u))
-  pub anywhere : (u : List ℕ) → times_by (kept_of new u) ≡ gone (λ e. is_of_any u e.0) gone_from (times_by (kept_of old u))
-  pub as_file : (n : ℕ) (u : List ℕ) → file_by (kept_of new u) n ≡ gone (is_as u n) gone_from (file_by (kept_of old u) n)
-  pub files : (f : ℕ) (u : List ℕ) (n : ℕ) → was_in_folder_as new f u n ≡ was_in_folder_as old f u n
-
 -- what is counted after a turn
 abbrev pub turning : (Path × ℕ → Bool) → Turn → Option ℕ → Option ℕ
 turning test t o = gone test t.turned (gone test t.taken (come test t.named o))
@@ -145,3 +128,11 @@ pub record Follows (t : Turn) (old new : Messages) : Type 0 where
   pub as_file : (n : ℕ) (u : List ℕ) → file_by (kept_of new u) n ≡ turning (is_as u n) t (file_by (kept_of old u) n)
   pub files : (f : ℕ) (u : List ℕ) (n : ℕ)
       → was_in_folder_as new f u n ≡ (is_some_and t.named (is_in_as f u n) || was_in_folder_as old f u n)
+
+-- a path came to name a file
+abbrev pub Comes : Option (Path × ℕ) → Messages → Messages → Type 0
+Comes named = Follows (record { named = named; taken = None; turned = None })
+
+-- a path went
+abbrev pub Goes : Option (Path × ℕ) → Messages → Messages → Type 0
+Goes went = Follows (record { named = None; taken = went; turned = None })
