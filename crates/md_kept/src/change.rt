@@ -61,31 +61,19 @@ pub fn is_message(path: &Path) -> bool
 pub fn is_tmp(place: Place) -> bool
     ensures { result ≡ is_tmp place }
 {
-    match place {
-        Place::Tmp => true,
-        Place::New => false,
-        Place::Cur => false,
-    }
+    place == Place::Tmp
 }
 
 /// Whether a place is new.
 pub fn is_new(place: Place) -> bool
     ensures { result ≡ is_new place }
 {
-    match place {
-        Place::Tmp => false,
-        Place::New => true,
-        Place::Cur => false,
-    }
+    place == Place::New
 }
 
 /// Whether a place is cur.
 pub fn is_cur(place: Place) -> bool
     ensures { result ≡ is_cur place }
 {
-    match place {
-        Place::Tmp => false,
-        Place::New => false,
-        Place::Cur => true,
-    }
+    place == Place::Cur
 }

@@ -105,22 +105,12 @@ fn is_wrong_answer(reply: Reply, answer: Reply) -> bool
 fn is_fault(reply: Reply) -> bool
     ensures { result ≡ is_fault reply }
 {
-    match reply {
-        Reply::Fault => true,
-        _ => false,
-    }
+    reply == Reply::Fault
 }
 
 /// Whether both are one reply.
 fn is_reply(reply: Reply, other: Reply) -> bool
     ensures { result ≡ is_reply reply other }
 {
-    match (reply, other) {
-        (Reply::Ok, Reply::Ok) => true,
-        (Reply::More, Reply::More) => true,
-        (Reply::Exists, Reply::Exists) => true,
-        (Reply::NotFound, Reply::NotFound) => true,
-        (Reply::Fault, Reply::Fault) => true,
-        _ => false,
-    }
+    reply == other
 }
