@@ -125,13 +125,6 @@ pub record Turns (f : ℕ → Option FileKept → Option FileKept) (old new : Li
 abbrev pub lent_as : Option (Bor Path × ℕ) → Option (Path × ℕ)
 lent_as named = option_map lent named
 
--- a path came to name a file, and one went
-abbrev pub showing : Option (Path × ℕ) → List FileKept → List FileKept → Type 0
-showing named = Turns (come named)
-
-abbrev pub hiding : Option (Path × ℕ) → List FileKept → List FileKept → Type 0
-hiding named = Turns (gone named)
-
 -- files are kept so after a turn
 abbrev pub Follows : Turn → List FileKept → List FileKept → Type 0
 Follows t = Turns (λ n o. gone t.turned n (gone t.taken n (come t.named n o)))

@@ -1,5 +1,5 @@
 -- What a table keeps by a number and a name.
-use Rattle.std.specs.Prelude.{ℕ, ◌≡◌, ◌==◌, ◌&&◌, Bool, List, Option, Some, None, unwrap_or, slice_get, if◌then◌else◌}
+use Rattle.std.specs.Prelude.{ℕ, ◌≡◌, ◌==◌, ◌&&◌, Bool, List, Option, Some, None, unwrap_or, if◌then◌else◌}
 use Rattle.std.specs.Str.{bytes_eq}
 use Rattle.indexmap.specs.IndexMap.{get}
 use Rattle.md_kept.specs.declared.table.Table.{Table}
@@ -20,10 +20,6 @@ value_at t number name = held (get is_key t.map (number, name))
 -- what it counts, 0 where it has nothing
 abbrev pub count_at : Table ℕ → ℕ → List ℕ → ℕ
 count_at t number name = unwrap_or (value_at t number name) 0
-
--- the key of a number and a name lies at a place
-abbrev pub HasAt : {V : Type 0} → ℕ → ℕ → List ℕ → Table V → Type 0
-HasAt {V} at number name t = (o : Option V) × (slice_get t.map.entries at ≡ Some ((number, name), o))
 
 -- one key has this value after, and the others have what they had
 abbrev pub Puts : {V : Type 0} → ℕ → List ℕ → Option V → Table V → Table V → Type 0

@@ -1,7 +1,7 @@
 //! What is kept of files.
 ghost use Rattle.std.specs.Prelude.{◌≡◌, [], OnOk, length};
 ghost use Rattle.md_kept.specs.Changes.{turn_of};
-ghost use Rattle.md_kept.specs.Files.{Adds, made_by, is_maker_in, is_unflushed_in, is_cut_in, was_cur_in, was_seen_in, is_seen_in, stamp_in, Changes, changing, written, cut, flushed, shown, hidden, showing, hiding, Follows, lent_as};
+ghost use Rattle.md_kept.specs.Files.{Adds, made_by, is_maker_in, is_unflushed_in, is_cut_in, was_cur_in, was_seen_in, is_seen_in, stamp_in, Changes, changing, written, cut, flushed, shown, hidden, come, gone, Turns, Follows, lent_as};
 
 use crate::change::{Change, Named, is_cur, is_message};
 use md_dirs::Bytes;
@@ -158,7 +158,7 @@ impl Files {
 
     /// A path comes to name a file.
     fn show(&mut self, named: Option<Named<'_>>) -> Result<(), AllocError>
-        ensures { OnOk result (showing (lent_as named.entry) self.old.all.items self.new.all.items) }
+        ensures { OnOk result (Turns (come (lent_as named.entry)) self.old.all.items self.new.all.items) }
     {
         match named {
             Some((path, file)) if is_message(path) => self.show_once(file, is_cur(path.place)),
@@ -179,7 +179,7 @@ impl Files {
 
     /// A path names a file no longer.
     fn hide(&mut self, named: Option<Named<'_>>)
-        ensures { hiding (lent_as named.entry) self.old.all.items self.new.all.items }
+        ensures { Turns (gone (lent_as named.entry)) self.old.all.items self.new.all.items }
     {
         match named {
             Some((path, file)) if is_message(path) => self.hide_once(file),

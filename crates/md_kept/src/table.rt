@@ -1,7 +1,7 @@
 //! A table by a number and a name.
-ghost use Rattle.std.specs.Prelude.{◌≡◌, ◌+◌, ℕ, List, Some, None, IsTrue, OnOk};
+ghost use Rattle.std.specs.Prelude.{◌≡◌, ◌+◌, ℕ, List, Option, Some, None, IsTrue, OnOk, slice_get};
 ghost use Rattle.std.specs.Option.{option_copied};
-ghost use Rattle.md_kept.specs.Tables.{value_at, count_at, HasAt, Puts};
+ghost use Rattle.md_kept.specs.Tables.{value_at, count_at, Puts};
 
 use indexmap::IndexMap;
 use md_dirs::NameKey;
@@ -94,7 +94,7 @@ impl<V: Drop> Table<V> {
 
     /// Whether a key lies at a place.
     fn has_at(&self, at: usize, number: usize, name: &[u8]) -> bool
-        ensures { IsTrue result → HasAt at number name.now self.now }
+        ensures { IsTrue result → (o : Option V) × (slice_get self.now.map.entries at ≡ Some ((number, name.now), o)) }
     {
         match self.map.get_index(at) {
             None => false,
