@@ -1,7 +1,6 @@
 //! What a call does to paths.
 ghost use Rattle.std.specs.Prelude.{◌≡◌, None};
 ghost use Rattle.std.specs.Option.{option_map, option_copied};
-ghost use Rattle.md_name.specs.Names.{unique_of};
 ghost use Rattle.md_law.specs.Messages.{is_message, is_tmp};
 ghost use Rattle.md_monitor.specs.Changes.{with_file};
 ghost use Rattle.md_monitor.specs.Files.{is_new, is_cur};

@@ -1,5 +1,5 @@
 //! What is kept of paths of tmp.
-ghost use Rattle.std.specs.Prelude.{◌≡◌, ℕ, List, OnOk};
+ghost use Rattle.std.specs.Prelude.{◌≡◌, OnOk};
 ghost use Rattle.md_monitor.specs.Messages.{named_other};
 ghost use Rattle.md_kept.specs.Drafts.{path_in, KeepsNone, Names, Comes};
 ghost use Rattle.md_kept.specs.Files.{lent_as};

@@ -1,5 +1,5 @@
 //! Values by numbers, where there is mostly one number.
-ghost use Rattle.std.specs.Prelude.{◌≡◌, ◌+◌, ◌-◌, ℕ, None as Nothing, Some, is_some, OnOk};
+ghost use Rattle.std.specs.Prelude.{◌≡◌, ◌+◌, ◌-◌, None as Nothing, Some, is_some, OnOk};
 ghost use Rattle.std.specs.Option.{option_map, option_copied};
 ghost use Rattle.md_kept.specs.Few.{few_at, times_at, IsLeast, Puts};
 

@@ -1,5 +1,5 @@
 //! What is kept of messages.
-ghost use Rattle.std.specs.Prelude.{◌≡◌, ℕ, List, None as Nothing, OnOk};
+ghost use Rattle.std.specs.Prelude.{◌≡◌, ℕ, None as Nothing, OnOk};
 ghost use Rattle.std.specs.Option.{option_copied};
 ghost use Rattle.md_kept.specs.Changes.{turn_of};
 ghost use Rattle.md_kept.specs.Few.{few_at, IsLeast};
