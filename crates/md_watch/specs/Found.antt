@@ -17,8 +17,6 @@ use Rattle.md_monitor.specs.Found.{is_from_new, makes_message}
 use Rattle.md_watch.specs.declared.watch.Watch.{Watch}
 use Rattle.md_watch.specs.declared.broken.Before.{Before}
 use Rattle.md_watch.specs.declared.broken.Broken.{Broken}
-use Rattle.md_watch.specs.declared.broken.LawBefore.{LawBefore}
-use Rattle.md_watch.specs.declared.broken.OwedBefore.{OwedBefore}
 use Rattle.md_watch.specs.declared.memory.Heard.{Heard}
 use Rattle.md_kept.specs.Changes.{Turn, file_in, message_of}
 use Rattle.md_kept.specs.Files.{is_maker_in, is_unflushed_in, is_cut_in, was_cur_in, was_seen_in, is_seen_in, stamp_in}
@@ -114,8 +112,12 @@ module _ (w : Watch) where
   is_hidden named = is_some_and named (λ e. not (is_seen_in w.files.all.items e.1))
 
   -- by the directories before the step
-  abbrev pub law_before : Turn → Step → LawBefore
-  law_before t x = let written = written_by (file_in w.paths) x.call in record {
+  abbrev pub before_of : Turn → Step → Before
+  before_of t x = let written = written_by (file_in w.paths) x.call in record {
+    adds = adds t;
+    empties_trash = empties_trash x.call;
+    takes_early = is_early x.actor t.taken;
+    turns_early = is_early x.actor t.turned;
     not_a_directory = is_wrong (file_in w.paths) w.folders x.call;
     overwritten = is_some t.turned;
     seen_before_whole = shows_too_early x.call written t.named;
@@ -123,25 +125,11 @@ module _ (w : Watch) where
     not_flushed = shows_unflushed t.named;
     used_again = adds t && is_back t.named;
     moved_back = is_moved_back t.named && not (is_from_new x.call);
-  }
-
-  abbrev pub owed_before : Turn → Step → OwedBefore
-  owed_before t x = let written = written_by (file_in w.paths) x.call in record {
     named_by_another = is_anothers x t.named;
     rewritten = is_rewritten written;
     used_twice = is_used_twice t.named;
     made_again = is_made_again t.named;
     written_late = is_late written;
-  }
-
-  abbrev pub before_of : Turn → Step → Before
-  before_of t x = record {
-    adds = adds t;
-    empties_trash = empties_trash x.call;
-    takes_early = is_early x.actor t.taken;
-    turns_early = is_early x.actor t.turned;
-    law = law_before t x;
-    owed = owed_before t x;
   }
 
   -- and by those after it
@@ -152,29 +140,28 @@ module _ (w : Watch) where
     gone = not b.empties_trash && is_gone t.taken;
     renamed = (not b.empties_trash && is_gone t.taken) && not (is_hidden t.taken);
     cleaned_early = (b.takes_early && is_hidden t.taken) || (b.turns_early && is_hidden t.turned);
-    law = b.law;
-    owed = b.owed;
+    before = b;
     heard = heard;
   }
 
 -- a step is found to break the clause
 abbrev pub breaks : Broken → Clause → Bool
-breaks b clause.NotADirectory = b.law.not_a_directory || b.heard.read.misread
-breaks b clause.Overwritten = b.law.overwritten
-breaks b clause.SeenBeforeWhole = b.law.seen_before_whole
-breaks b clause.Mixed = b.law.mixed
-breaks b clause.NotFlushed = b.law.not_flushed
+breaks b clause.NotADirectory = b.before.not_a_directory || b.heard.read.misread
+breaks b clause.Overwritten = b.before.overwritten
+breaks b clause.SeenBeforeWhole = b.before.seen_before_whole
+breaks b clause.Mixed = b.before.mixed
+breaks b clause.NotFlushed = b.before.not_flushed
 breaks b clause.TwoNames = b.two_names
 breaks b clause.Gone = b.gone
-breaks b clause.UsedAgain = b.law.used_again
-breaks b clause.MovedBack = b.law.moved_back
+breaks b clause.UsedAgain = b.before.used_again
+breaks b clause.MovedBack = b.before.moved_back
 breaks b clause.CleanedEarly = b.cleaned_early
 breaks b clause.Unlisted = b.heard.read.unlisted
 breaks b clause.GaveUp = b.heard.told.gave_up
 breaks b clause.AnsweredFalsely = b.heard.told.falsely
 breaks b clause.InTwoFolders = b.in_two_folders
-breaks b clause.NamedByAnother = b.owed.named_by_another
-breaks b clause.Rewritten = b.owed.rewritten
-breaks b clause.UsedTwice = b.owed.used_twice
-breaks b clause.MadeAgain = b.owed.made_again
-breaks b clause.WrittenLate = b.owed.written_late
+breaks b clause.NamedByAnother = b.before.named_by_another
+breaks b clause.Rewritten = b.before.rewritten
+breaks b clause.UsedTwice = b.before.used_twice
+breaks b clause.MadeAgain = b.before.made_again
+breaks b clause.WrittenLate = b.before.written_late

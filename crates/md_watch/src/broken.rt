@@ -14,12 +14,11 @@ pub struct Broken {
     /// The message that is gone is one still, by another unique name.
     pub(crate) renamed: bool,
     pub(crate) cleaned_early: bool,
-    pub(crate) law: LawBefore,
-    pub(crate) owed: OwedBefore,
+    pub(crate) before: Before,
     pub(crate) heard: Heard,
 }
 
-/// What is found before a step's change is made: of what the directories after it tell, what it needs of before.
+/// What is found before a step's change is made: what is asked together with the directories after it, and then clauses that it breaks.
 #[derive(Clone, Copy)]
 pub(crate) struct Before {
     /// A path of a message is added.
@@ -29,13 +28,6 @@ pub(crate) struct Before {
     /// A path of tmp leaves a young file that another made: the one that is taken, and the one that is turned.
     pub(crate) takes_early: bool,
     pub(crate) turns_early: bool,
-    pub(crate) law: LawBefore,
-    pub(crate) owed: OwedBefore,
-}
-
-/// Which clauses of the law are found to be broken before the change is made.
-#[derive(Clone, Copy)]
-pub(crate) struct LawBefore {
     pub(crate) not_a_directory: bool,
     pub(crate) overwritten: bool,
     pub(crate) seen_before_whole: bool,
@@ -43,11 +35,6 @@ pub(crate) struct LawBefore {
     pub(crate) not_flushed: bool,
     pub(crate) used_again: bool,
     pub(crate) moved_back: bool,
-}
-
-/// Which of those that are owed beside it.
-#[derive(Clone, Copy)]
-pub(crate) struct OwedBefore {
     pub(crate) named_by_another: bool,
     pub(crate) rewritten: bool,
     pub(crate) used_twice: bool,
@@ -61,25 +48,25 @@ impl Broken {
         ensures { result ≡ breaks self.now clause }
     {
         match clause {
-            Clause::NotADirectory => self.law.not_a_directory || self.heard.read.misread,
-            Clause::Overwritten => self.law.overwritten,
-            Clause::SeenBeforeWhole => self.law.seen_before_whole,
-            Clause::Mixed => self.law.mixed,
-            Clause::NotFlushed => self.law.not_flushed,
+            Clause::NotADirectory => self.before.not_a_directory || self.heard.read.misread,
+            Clause::Overwritten => self.before.overwritten,
+            Clause::SeenBeforeWhole => self.before.seen_before_whole,
+            Clause::Mixed => self.before.mixed,
+            Clause::NotFlushed => self.before.not_flushed,
             Clause::TwoNames => self.two_names,
             Clause::Gone => self.gone,
-            Clause::UsedAgain => self.law.used_again,
-            Clause::MovedBack => self.law.moved_back,
+            Clause::UsedAgain => self.before.used_again,
+            Clause::MovedBack => self.before.moved_back,
             Clause::CleanedEarly => self.cleaned_early,
             Clause::Unlisted => self.heard.read.unlisted,
             Clause::GaveUp => self.heard.told.gave_up,
             Clause::AnsweredFalsely => self.heard.told.falsely,
             Clause::InTwoFolders => self.in_two_folders,
-            Clause::NamedByAnother => self.owed.named_by_another,
-            Clause::Rewritten => self.owed.rewritten,
-            Clause::UsedTwice => self.owed.used_twice,
-            Clause::MadeAgain => self.owed.made_again,
-            Clause::WrittenLate => self.owed.written_late,
+            Clause::NamedByAnother => self.before.named_by_another,
+            Clause::Rewritten => self.before.rewritten,
+            Clause::UsedTwice => self.before.used_twice,
+            Clause::MadeAgain => self.before.made_again,
+            Clause::WrittenLate => self.before.written_late,
         }
     }
 

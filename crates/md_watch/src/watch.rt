@@ -4,7 +4,7 @@ ghost use Rattle.md_dirs.specs.State.{bare};
 ghost use Rattle.md_log.specs.declared.error.LineFault.TheVariants.{NoMemory};
 ghost use Rattle.md_law.specs.History.{History, Moment, opening, next};
 ghost use Rattle.md_kept.specs.Changes.{turn_of, adding};
-ghost use Rattle.md_watch.specs.Found.{before_of, law_before, owed_before, after_of};
+ghost use Rattle.md_watch.specs.Found.{before_of, after_of};
 ghost use Rattle.md_watch.specs.Watches.{Holds, with_folder, PutsFile, PutsName, IsPathRefused, IsNameRefused, Finds, Touches, Follows};
 
 mod earlier;
@@ -12,7 +12,7 @@ mod finding;
 mod law;
 mod look_ups;
 
-use crate::broken::{Before, Broken, LawBefore, OwedBefore};
+use crate::broken::{Before, Broken};
 use crate::marks::{Marks, There};
 use crate::memory::{Heard, Memory};
 use crate::presences::in_folders;
@@ -137,37 +137,20 @@ impl Watch {
         ensures { result ≡ before_of self.now (turn_of change.now) step.now }
     {
         let actor = step.actor.as_slice();
+        let written = self.written(&step.call);
+        let adds = self.adds(change);
         Before {
-            adds: self.adds(change),
+            adds,
             empties_trash: empties_trash(&step.call),
             takes_early: self.is_early(actor, change.taken),
             turns_early: self.is_early(actor, change.turned),
-            law: self.law_before(step, change),
-            owed: self.owed_before(step, change),
-        }
-    }
-
-    fn law_before(&self, step: &Step, change: &Change<'_>) -> LawBefore
-        ensures { result ≡ law_before self.now (turn_of change.now) step.now }
-    {
-        let actor = step.actor.as_slice();
-        let written = self.written(&step.call);
-        LawBefore {
             not_a_directory: self.paths.is_wrong(self.folders, &step.call),
             overwritten: change.turned.is_some(),
             seen_before_whole: self.shows_too_early(&step.call, written, change.named),
             mixed: self.is_mixed(actor, written),
             not_flushed: self.shows_unflushed(change.named),
-            used_again: self.adds(change) && self.is_back(change.named),
+            used_again: adds && self.is_back(change.named),
             moved_back: self.is_moved_back(change.named) && !is_from_new(&step.call),
-        }
-    }
-
-    fn owed_before(&self, step: &Step, change: &Change<'_>) -> OwedBefore
-        ensures { result ≡ owed_before self.now (turn_of change.now) step.now }
-    {
-        let written = self.written(&step.call);
-        OwedBefore {
             named_by_another: self.is_anothers(step, change.named),
             rewritten: self.is_rewritten(written),
             used_twice: self.is_used_twice(change.named),
@@ -187,8 +170,7 @@ impl Watch {
             renamed: gone && !self.is_hidden(change.taken),
             cleaned_early: before.takes_early && self.is_hidden(change.taken)
                 || before.turns_early && self.is_hidden(change.turned),
-            law: before.law,
-            owed: before.owed,
+            before: *before,
             heard,
         }
     }
