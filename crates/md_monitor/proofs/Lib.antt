@@ -19,4 +19,3 @@ pub mod Reading
 pub mod Wholes
 pub mod Listing
 pub mod Judging
-pub mod Touching

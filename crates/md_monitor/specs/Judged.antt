@@ -1,7 +1,6 @@
 -- The monitor: what it keeps, and what it finds.
 use Rattle.std.specs.Prelude.{ℕ, List, Option, Bool, true, false, not, ◌&&◌}
-use Rattle.std.specs.Option.{option_map, option_or}
-use Rattle.md_law.specs.Values.{State, Path, Clause, Call, Reply, Step}
+use Rattle.md_law.specs.Values.{State, Clause, Call, Reply, Step}
 use Rattle.md_dirs.specs.declared.calls.DirError.{DirError}
 use Rattle.md_log.specs.declared.clause.Clause.TheVariants as clause
 use Rattle.md_log.specs.declared.line.Call.TheVariants as call
@@ -10,8 +9,7 @@ use Rattle.md_law.specs.History.{History, ask_at, ask_between}
 use Rattle.md_law.specs.Answers.{Claim}
 use Rattle.md_law.specs.Readings.{Looker}
 use Rattle.md_law.specs.Clauses.{reply_by}
-use Rattle.md_monitor.specs.Changes.{change_of}
-use Rattle.md_monitor.specs.Files.{FileKept, is_fault, written_by, flushed_by, made_by, files_kept, kept_after}
+use Rattle.md_monitor.specs.Files.{FileKept, is_fault, files_kept, kept_after}
 use Rattle.md_monitor.specs.Messages.{MessagesKept, messages_kept, messages_after, breaks_two_names, breaks_gone, breaks_used_again, breaks_in_two_folders, breaks_used_twice, breaks_made_again}
 use Rattle.md_monitor.specs.Found.{breaks_by_files}
 use Rattle.md_monitor.specs.Answers.{ClaimKept, claims_kept, claim_after, breaks_gave_up, breaks_answered_falsely}
@@ -46,12 +44,6 @@ kept_next s now x kept = record {
   readings = λ d. reading_after s now x d (kept.readings d);
   listings = λ actor folder. listing_after x kept.readings actor folder (kept.listings actor folder);
 }
-
--- the one file of which a call changes what is kept
-abbrev pub touched_by : State → Call → Option ℕ
-touched_by s c =
-    option_or (option_map (λ (w : ℕ × Reply). w.0) (written_by s c))
-    (option_or (flushed_by s c) (option_or (made_by s c) (option_map (λ (e : Path × ℕ). e.1) (change_of s c).named)))
 
 -- ---- what is found
 

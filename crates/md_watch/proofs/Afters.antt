@@ -1,5 +1,5 @@
 -- What calls leave of the folders and the files of a state, and of its paths where they change none.
-use Rattle.std.proofs.Common.{ℕ, ◌≡◌, ◌≤◌, true, false, cond, List, [], Option, Some, None, refl, sym, ap, ◌∙◌, length, slice_set, arith}
+use Rattle.std.proofs.Common.{ℕ, ◌≡◌, ◌+◌, ◌≤◌, true, false, cond, List, [], Option, Some, None, refl, sym, ap, ◌∙◌, length, slice_set, arith}
 use Rattle.std.specs.Ordering.{eq_by_cmp}
 use Rattle.std.specs.Cmp.{Equal-is}
 use Rattle.std.specs.FinMap.{get-remove}
@@ -19,7 +19,11 @@ use Rattle.md_log.specs.declared.line.Deed.TheVariants as deed
 use Rattle.md_log.specs.declared.line.Naming.{Naming}
 use Rattle.md_log.specs.declared.line.Naming.TheVariants as naming
 use Rattle.md_law.specs.History.{ask_at, ask_between, after_ask, after_call}
-use Rattle.md_watch.specs.Stored.{files_after}
+
+-- how many files there are after a call on one path: a create that was made makes one
+abbrev pub files_after : Deed → Reply → ℕ → ℕ
+files_after deed.Create reply.Ok files = files + 1
+files_after d r files = files
 
 -- a call leaves the state, or what it is defined to leave
 pub after-cases : (r : Reply) (ask : Ask) (s : State) (P : State → Type 0) → P s → P (ask.after s) → P (after_ask r ask s)

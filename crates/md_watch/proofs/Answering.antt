@@ -21,13 +21,14 @@ use Rattle.md_kept.specs.declared.messages.Messages.{Messages}
 use Rattle.md_watch.specs.declared.presences.Presences.{Presences}
 use Rattle.md_kept.specs.Changes.{Turn}
 use Rattle.md_watch.specs.Claims.{AreClaims, Steps, actor_in, did_by, is_false_in, is_given_up_in, is_so_in, is_there_in}
-use Rattle.md_watch.specs.Flagged.{AreFlagged, PassesFlags, spell_in}
+use Rattle.md_watch.specs.Flagged.{AreFlagged, spell_in}
 use Rattle.md_kept.specs.Messages.{count_in_folder}
-use Rattle.md_watch.specs.Presences.{ArePresences, PassesAll, in_folders}
+use Rattle.md_watch.specs.Presences.{ArePresences, in_folders}
 use Rattle.md_watch.specs.Spells.{always_by, ever_by, spell_at}
 use Rattle.md_watch.specs.Watches.{AreMessages}
 use Rattle.md_watch.proofs.Claimed.{claims-next, claims-none}
-use Rattle.md_watch.proofs.Flagging.{flags-shown}
+use Rattle.md_watch.proofs.Flagging.{PassesFlags, flags-shown}
+use Rattle.md_watch.proofs.Passing.{PassesAll}
 use Rattle.md_watch.proofs.Turning.{turn}
 
 -- ---- histories

@@ -22,13 +22,18 @@ use Rattle.md_monitor.proofs.Seeing.{some-where}
 use Rattle.md_watch.specs.declared.flagged.Flagged.{Flagged}
 use Rattle.md_watch.specs.declared.spells.Spell.{Spell}
 use Rattle.md_kept.specs.Changes.{Turn}
-use Rattle.md_watch.specs.Flagged.{times, count_by as count_kept, spell_by, count_in, is_in, spell_in, Follows, Puts, flagged_times, AreFlagged, PassesFlags}
+use Rattle.md_watch.specs.Flagged.{times, count_by as count_kept, spell_by, count_in, is_in, spell_in, Follows, Puts, flagged_times, AreFlagged}
 use Rattle.md_watch.specs.Spells.{since_of, ended_of, ever_by, Passes, IsSame, IsTimely}
 use Rattle.md_watch.proofs.Counting.{one}
 use Rattle.md_watch.proofs.Letters.{word-shown}
 use Rattle.md_watch.proofs.Marking.{passes-alike}
 use Rattle.md_watch.proofs.Spelling.{timely-next, timely-none}
 use Rattle.md_watch.proofs.Turning.{turn}
+
+-- The step of a number leads from these directories to those, and what is kept of flags goes with them.
+abbrev pub PassesFlags : State → State → ℕ → Flagged → Flagged → Type 0
+PassesFlags s s' n old new = (c : Claim) (flags : Set) → IsOfLetters flags → Passes (is_flagged s c flags) (is_flagged s' c flags) n
+    (spell_in old c.folder c.unique flags) (spell_in new c.folder c.unique flags)
 
 -- ---- three changes of a spell are one
 

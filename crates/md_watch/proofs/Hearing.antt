@@ -21,7 +21,7 @@ use Rattle.md_watch.specs.declared.readings.Reading.{Reading}
 use Rattle.md_kept.specs.Changes.{file_in}
 use Rattle.md_watch.specs.Claims.{AreClaims}
 use Rattle.md_watch.specs.Flagged.{AreFlagged}
-use Rattle.md_watch.specs.Listings.{IsWhole, is_completing, is_unlisted, listing_in}
+use Rattle.md_watch.specs.Listings.{is_unlisted, listing_in}
 use Rattle.md_watch.specs.Memory.{steps_of, Remembers, joining, Reads, Hears}
 use Rattle.md_kept.specs.Messages.{count_in_folder}
 use Rattle.md_watch.specs.Readings.{TakesIn, TakesPart, reading_in, is_wrong}
@@ -29,7 +29,7 @@ use Rattle.md_watch.specs.Watches.{AreMessages}
 use Rattle.md_watch.proofs.Answering.{given-up, answered-falsely}
 use Rattle.md_watch.proofs.Lacking.{unlisted, unlisted-none}
 use Rattle.md_watch.proofs.Listing.{looker}
-use Rattle.md_watch.proofs.Whole.{is-whole, no-whole, whole-is, present-is}
+use Rattle.md_watch.proofs.Whole.{IsWhole, is_completing, is-whole, no-whole, whole-is, present-is}
 use Rattle.md_watch.proofs.Wrong.{wrong-is}
 
 -- a part of a reading is found to be answered wrongly where it is, and nothing else is found so

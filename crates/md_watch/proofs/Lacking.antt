@@ -30,11 +30,11 @@ use Rattle.md_watch.specs.declared.listings.Listings.{Listings}
 use Rattle.md_watch.specs.declared.listings.Present.{Present}
 use Rattle.md_watch.specs.declared.presences.Presences.{Presences}
 use Rattle.md_watch.specs.declared.readings.Reading.{Reading}
-use Rattle.md_watch.specs.Listings.{read_in, always_during, IsListingKept, listing_in, AreListings, IsWhole, is_completing, is_completed_by, is_left_out, is_lacked, is_unlisted, AreNames, IsPresent}
-use Rattle.md_watch.specs.Readings.{is_list}
+use Rattle.md_watch.specs.Listings.{read_in, always_during, IsListingKept, listing_in, AreListings, is_completed_by, is_left_out, is_lacked, is_unlisted}
 use Rattle.md_watch.specs.Spells.{always_by, spell_at}
 use Rattle.md_kept.proofs.Keys.{same-tests}
 use Rattle.md_watch.proofs.Listing.{looker, read-there, apart-none, eq-self, bytes-self, read-now, misses-now, shows-now}
+use Rattle.md_watch.proofs.Whole.{IsWhole, is_completing, is_list, AreNames, IsPresent}
 
 -- one of some names
 any-is : (test : List ℕ → Bool) (names : List (List ℕ))

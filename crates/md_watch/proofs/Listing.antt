@@ -27,14 +27,15 @@ use Rattle.md_watch.specs.declared.presences.Presences.{Presences}
 use Rattle.md_watch.specs.declared.readings.Reading.{Reading}
 use Rattle.md_watch.specs.declared.spells.Spell.{Spell}
 use Rattle.md_kept.specs.declared.table.Table.{Table}
-use Rattle.md_watch.specs.Listings.{read_in, spans_in, shows_in, AreWithin, always_during, IsListingKept, unbroken, listing_in, HasBegunBy, IsListingIn, AreListings, IsWhole, is_completing, Joins, joining, Completes, Breaks}
-use Rattle.md_watch.specs.Presences.{ArePresences, PassesAll}
+use Rattle.md_watch.specs.Listings.{read_in, spans_in, shows_in, AreWithin, always_during, IsListingKept, unbroken, listing_in, HasBegunBy, IsListingIn, AreListings, Joins, joining, Completes, Breaks}
+use Rattle.md_watch.specs.Presences.{ArePresences}
 use Rattle.md_watch.specs.Spells.{IsTimely, Passes, always_by, spell_at}
-use Rattle.md_watch.specs.Readings.{is_list}
 use Rattle.md_kept.specs.Tables.{value_at, count_at, is_key}
 use Rattle.md_kept.proofs.Keys.{key-is}
 use Rattle.md_watch.proofs.Joining.{unbroken-past}
+use Rattle.md_watch.proofs.Passing.{PassesAll}
 use Rattle.md_watch.proofs.Spelling.{always-stays}
+use Rattle.md_watch.proofs.Whole.{IsWhole, is_completing, is_list}
 
 -- a listing is kept just where one has read something
 pub read-there : (o : Option Listing) → has_read (read_in o) ≡ is_some o

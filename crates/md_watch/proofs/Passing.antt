@@ -24,13 +24,20 @@ use Rattle.md_watch.specs.declared.spells.Spell.{Spell}
 use Rattle.md_watch.specs.declared.spells.Spells.{Spells}
 use Rattle.md_kept.specs.Changes.{Turn, message_of}
 use Rattle.md_kept.specs.Messages.{count_in_folder}
-use Rattle.md_watch.specs.Presences.{ArePresences, PassesAll, KeepsNone, is_in_folder, in_folders, NotesPath, NotesUnique, NotesMessage, Follows}
+use Rattle.md_watch.specs.Presences.{ArePresences, KeepsNone, is_in_folder, in_folders, NotesPath, NotesUnique, NotesMessage, Follows}
 use Rattle.md_watch.specs.Spells.{Passes, IsTimely, Notes, spell_at}
 use Rattle.md_watch.specs.Watches.{AreMessages}
 use Rattle.md_watch.proofs.Counting.{one}
 use Rattle.md_kept.proofs.Keys.{key-is, path-is, spot-is}
 use Rattle.md_watch.proofs.Spelling.{timely-none, timely-next, passes-none}
 use Rattle.md_watch.proofs.Turning.{turn, stays}
+
+-- A step of a number leads from directories to others.
+pub record PassesAll (s s' : State) (n : ℕ) (old new : Presences) : Type 0 where
+  pub names : (p : Path) → Passes (is_some (file_at s p)) (is_some (file_at s' p)) n
+      (spell_at old.names (directory_number p.folder p.place) p.name) (spell_at new.names (directory_number p.folder p.place) p.name)
+  pub messages : (folder : ℕ) (unique : List ℕ) → Passes (is_there s folder unique) (is_there s' folder unique) n
+      (spell_at old.messages folder unique) (spell_at new.messages folder unique)
 
 -- ---- what passes, by other names
 

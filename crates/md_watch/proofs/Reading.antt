@@ -27,14 +27,19 @@ use Rattle.md_watch.specs.declared.presences.Presences.{Presences}
 use Rattle.md_watch.specs.declared.readings.Reading.{Reading}
 use Rattle.md_watch.specs.declared.readings.Readings.{Readings}
 use Rattle.md_watch.specs.declared.spells.Spell.{Spell}
-use Rattle.md_watch.specs.Presences.{ArePresences, PassesAll}
-use Rattle.md_watch.specs.Readings.{IsReadingKept, AreReadings, HoldsReadings, TakesIn, TakesPart, IsTakenIn, Leaves, begun_of, has_shown, has_shown_message, reading_in, name_spell, message_spell, is_list}
+use Rattle.md_watch.specs.Presences.{ArePresences}
+use Rattle.md_watch.specs.Readings.{IsReadingKept, AreReadings, TakesIn, TakesPart, IsTakenIn, Leaves, begun_of, has_shown, has_shown_message, reading_in, name_spell, message_spell}
 use Rattle.md_watch.specs.Spells.{IsTimely, Passes, always_by, ever_by}
 use Rattle.md_kept.specs.Tables.{is_key}
 use Rattle.md_kept.proofs.Keys.{path-is, spot-is}
 use Rattle.md_watch.proofs.Parts.{and-true, itself}
-use Rattle.md_watch.proofs.Passing.{passes-still}
+use Rattle.md_watch.proofs.Passing.{PassesAll, passes-still}
 use Rattle.md_watch.proofs.Spelling.{timely-next, always-here, always-next, ever-here, ever-next}
+use Rattle.md_watch.proofs.Whole.{is_list}
+
+-- The table holds the readings of a history of n steps.
+abbrev pub HoldsReadings : ℕ → History → Presences → Readings → Type 0
+HoldsReadings n h p w = AreReadings n (at h) p (readings_kept h) w
 
 -- ---- a thing, over a reading that a step leaves open or not
 

@@ -30,22 +30,22 @@ use Rattle.md_kept.specs.Changes.{Turn}
 use Rattle.md_watch.specs.Claims as claims
 use Rattle.md_watch.specs.Claims.{AreClaims, actor_in}
 use Rattle.md_watch.specs.Flagged as flagged
-use Rattle.md_watch.specs.Flagged.{AreFlagged, PassesFlags, count_by, spell_by}
-use Rattle.md_watch.specs.Listings.{AreListings, Completes, is_completing}
+use Rattle.md_watch.specs.Flagged.{AreFlagged, count_by, spell_by}
+use Rattle.md_watch.specs.Listings.{AreListings, Completes}
 use Rattle.md_watch.specs.Memory.{steps_of, Begins, Remembers, Recalls, Puts, Stays, joining, Reads, Hears, Follows}
 use Rattle.md_watch.specs.Presences as presences
-use Rattle.md_watch.specs.Presences.{ArePresences, PassesAll, in_folders}
-use Rattle.md_watch.specs.Readings.{AreReadings, TakesIn, TakesPart, reading_in, is_list}
+use Rattle.md_watch.specs.Presences.{ArePresences, in_folders}
+use Rattle.md_watch.specs.Readings.{AreReadings, TakesIn, TakesPart, reading_in}
 use Rattle.md_kept.specs.Tables.{value_at}
 use Rattle.md_watch.specs.Watches.{AreMessages}
 use Rattle.md_watch.proofs.Answering.{claims-begin, claims-step}
 use Rattle.md_watch.proofs.Counting.{one}
-use Rattle.md_watch.proofs.Flagging.{flags-none, flags-put, flags-pass, flags-next, step-recounts, step-leaves}
+use Rattle.md_watch.proofs.Flagging.{PassesFlags, flags-none, flags-put, flags-pass, flags-next, step-recounts, step-leaves}
 use Rattle.md_watch.proofs.Listing.{looker, listings-begin, listings-stay, listings-break, listings-complete}
-use Rattle.md_watch.proofs.Passing.{presences-none, presences-next, step-passes}
+use Rattle.md_watch.proofs.Passing.{PassesAll, presences-none, presences-next, step-passes}
 use Rattle.md_watch.proofs.Reading.{readings-opening, readings-past, readings-next}
 use Rattle.md_watch.proofs.Turning.{turn}
-use Rattle.md_watch.proofs.Whole.{is-whole, no-whole, whole-is}
+use Rattle.md_watch.proofs.Whole.{is_completing, is_list, is-whole, no-whole, whole-is}
 
 -- ---- the beginning
 

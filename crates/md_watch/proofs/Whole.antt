@@ -1,17 +1,20 @@
 -- What is kept of readings and of paths gives what listings go by.
-use Rattle.std.proofs.Common.{ℕ, ◌≡◌, ◌≤◌, ◌||◌, List, Option, Some, None, is_some, false, refl, sym, ap, subst, ◌∙◌}
+use Rattle.std.proofs.Common.{ℕ, ◌≡◌, ◌≤◌, ◌||◌, not, List, Option, Some, None, Bool, is_some, true, false, refl, sym, ap, subst, ◌∙◌}
 use Rattle.std.specs.List.{list_any}
 use Rattle.std.specs.Str.{bytes_eq}
 use Rattle.std.proofs.lemmas.Map.Made.{is_some-lookup}
+use Rattle.indexmap.specs.IndexSet.{contains}
 use Rattle.md_dirs.specs.Index.{directory_number}
 use Rattle.md_dirs.specs.Path.{path_of}
 use Rattle.md_dirs.specs.State.{State, file_at}
 use Rattle.md_dirs.specs.declared.paths.Path.{Path}
 use Rattle.md_dirs.specs.declared.paths.Place.{Place}
 use Rattle.md_dirs.specs.declared.paths.Place.TheVariants.{New, Cur}
+use Rattle.md_log.specs.declared.line.Call.{Call}
 use Rattle.md_log.specs.declared.line.Call.TheVariants as call
 use Rattle.md_log.specs.declared.line.Reply.{Reply}
 use Rattle.md_log.specs.declared.line.Reply.TheVariants as reply
+use Rattle.md_law.specs.Messages.{is_tmp}
 use Rattle.md_law.specs.Readings.{Looker}
 use Rattle.md_monitor.specs.Messages.{is_there}
 use Rattle.md_monitor.specs.Readings.{ReadingKept, is_name_of}
@@ -22,11 +25,29 @@ use Rattle.md_watch.specs.declared.presences.Presences.{Presences}
 use Rattle.md_watch.specs.declared.readings.Reading.{Reading}
 use Rattle.md_kept.specs.Changes.{file_in}
 use Rattle.md_kept.specs.Directories.{names_by, file_by, names_in, directory_in}
-use Rattle.md_watch.specs.Listings.{IsWhole, is_completing, AreNames, IsPresent}
 use Rattle.md_watch.specs.Readings.{IsReadingKept, TakesIn, Leaves}
 use Rattle.md_watch.specs.Spells.{always_by, spell_at}
 
--- ---- readings
+-- the call is a part of a reading
+abbrev pub is_list : Call → Bool
+is_list (call.List folder place r shown) = true
+is_list c = false
+
+-- ---- a reading that is complete
+
+-- The reading of a directory is complete with a part that shows these names, by the step of a number.
+pub record IsWhole (n : ℕ) (s : State) (p : Presences) (d : Looker) (kept : ReadingKept) (shown : List (List ℕ)) (r : Reading)
+    : Type 0 where
+  pub begun : r.begun ≤ n
+  pub was_always : (unique : List ℕ) → kept.message_was_always unique
+      ≡ always_by (is_there s d.folder unique) (spell_at p.messages d.folder unique) r.begun n
+  pub is_shown : (unique : List ℕ) → contains bytes_eq r.uniques unique
+      ≡ (list_any (is_name_of d unique) shown || kept.message_is_shown unique)
+
+-- the call completes a reading of new or cur
+abbrev pub is_completing : Call → Bool
+is_completing (call.List folder place reply.Ok shown) = not (is_tmp place)
+is_completing c = false
 
 -- a part of a reading gives a whole one just where it is the last
 module _ (n : ℕ) (d : Looker) (shown : List (List ℕ)) (o : Option Reading) (left : Option Reading) where
@@ -51,6 +72,16 @@ whole-is n s p d kept o shown r was takes = record {
 }
 
 -- ---- directories
+
+-- these are the names of a directory
+abbrev pub AreNames : State → ℕ → Place → List (List ℕ) → Type 0
+AreNames s folder place names = (name : List ℕ) → list_any (bytes_eq name) names ≡ is_some (file_at s (path_of folder place name))
+
+-- what is there of a folder
+pub record IsPresent (s : State) (p : Presences) (there : Present) : Type 0 where
+  pub new : AreNames s there.folder New there.new.now
+  pub cur : AreNames s there.folder Cur there.cur.now
+  pub presences : there.presences.now ≡ p
 
 -- a directory has the names that name files
 names-are : (o : Option Directory) (name : List ℕ) → list_any (bytes_eq name) (names_by o) ≡ is_some (file_by o name)

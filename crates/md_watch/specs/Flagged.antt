@@ -146,8 +146,3 @@ pub record AreFlagged (n : ℕ) (s : State) (w : Flagged) : Type 0 where
   pub timely : (c : Claim) (flags : Set) → IsOfLetters flags → IsTimely n (is_flagged s c flags) (spell_in w c.folder c.unique flags)
   -- at the beginning nothing was there before
   pub begun : n ≡ 0 → (word folder : ℕ) (unique : List ℕ) → IsSame None (spell_by w word folder unique)
-
--- The step of a number leads from these directories to those, and what is kept of flags goes with them.
-abbrev pub PassesFlags : State → State → ℕ → Flagged → Flagged → Type 0
-PassesFlags s s' n old new = (c : Claim) (flags : Set) → IsOfLetters flags → Passes (is_flagged s c flags) (is_flagged s' c flags) n
-    (spell_in old c.folder c.unique flags) (spell_in new c.folder c.unique flags)

@@ -3,18 +3,12 @@ use Rattle.std.specs.Prelude.{ℕ, ◌≡◌, ◌+◌, ◌≤◌, ◌==◌, ◌&
 use Rattle.std.specs.List.{list_any, list_all}
 use Rattle.std.specs.Str.{bytes_eq}
 use Rattle.indexmap.specs.IndexSet.{contains}
-use Rattle.md_dirs.specs.Path.{path_of}
-use Rattle.md_dirs.specs.State.{State, file_at}
+use Rattle.md_dirs.specs.State.{State}
 use Rattle.md_dirs.specs.declared.paths.Place.{Place}
 use Rattle.md_dirs.specs.declared.paths.Place.TheVariants.{Tmp, New, Cur}
 use Rattle.md_name.specs.Names.{unique_of, is_message_name}
-use Rattle.md_log.specs.declared.line.Call.{Call}
-use Rattle.md_log.specs.declared.line.Call.TheVariants as call
-use Rattle.md_log.specs.declared.line.Reply.TheVariants as reply
-use Rattle.md_law.specs.Messages.{is_tmp}
-use Rattle.md_law.specs.Readings.{Looker, Read, nothing_read, with_place}
+use Rattle.md_law.specs.Readings.{Read, nothing_read, with_place}
 use Rattle.md_monitor.specs.Messages.{is_there}
-use Rattle.md_monitor.specs.Readings.{ReadingKept, is_name_of}
 use Rattle.md_monitor.specs.Listings.{ListingKept}
 use Rattle.md_watch.specs.declared.listings.Listing.{Listing}
 use Rattle.md_watch.specs.declared.listings.Listings.{Listings}
@@ -81,22 +75,6 @@ pub record IsListingIn (n : ℕ) (s : State) (p : Presences) (kept : ListingKept
 abbrev pub AreListings : ℕ → State → Presences → (List ℕ → ℕ → ListingKept) → Listings → Type 0
 AreListings n s p kept w = (actor : List ℕ) (folder : ℕ) → IsListingIn n s p (kept actor folder) w folder actor
 
--- ---- a reading that is complete
-
--- The reading of a directory is complete with a part that shows these names, by the step of a number.
-pub record IsWhole (n : ℕ) (s : State) (p : Presences) (d : Looker) (kept : ReadingKept) (shown : List (List ℕ)) (r : Reading)
-    : Type 0 where
-  pub begun : r.begun ≤ n
-  pub was_always : (unique : List ℕ) → kept.message_was_always unique
-      ≡ always_by (is_there s d.folder unique) (spell_at p.messages d.folder unique) r.begun n
-  pub is_shown : (unique : List ℕ) → contains bytes_eq r.uniques unique
-      ≡ (list_any (is_name_of d unique) shown || kept.message_is_shown unique)
-
--- the call completes a reading of new or cur
-abbrev pub is_completing : Call → Bool
-is_completing (call.List folder place reply.Ok shown) = not (is_tmp place)
-is_completing c = false
-
 -- ---- how it goes into a listing
 
 abbrev pub place_of : Bool → Place
@@ -160,13 +138,3 @@ abbrev pub is_unlisted : Option Listing → Place → Reading → ℕ → Presen
 is_unlisted None place r now there = false
 is_unlisted (Some l) place r now there =
     is_completed_by place l && (list_any (is_lacked l r now there) there.new.now || list_any (is_lacked l r now there) there.cur.now)
-
--- these are the names of a directory
-abbrev pub AreNames : State → ℕ → Place → List (List ℕ) → Type 0
-AreNames s folder place names = (name : List ℕ) → list_any (bytes_eq name) names ≡ is_some (file_at s (path_of folder place name))
-
--- what is there of a folder
-pub record IsPresent (s : State) (p : Presences) (there : Present) : Type 0 where
-  pub new : AreNames s there.folder New there.new.now
-  pub cur : AreNames s there.folder Cur there.cur.now
-  pub presences : there.presences.now ≡ p

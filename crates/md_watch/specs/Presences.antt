@@ -11,7 +11,7 @@ use Rattle.md_watch.specs.declared.presences.Presences.{Presences}
 use Rattle.md_watch.specs.declared.spells.Spells.{Spells}
 use Rattle.md_kept.specs.Changes.{Turn, message_of}
 use Rattle.md_kept.specs.Messages.{count_in_folder}
-use Rattle.md_watch.specs.Spells.{IsTimely, Passes, Notes, spell_at}
+use Rattle.md_watch.specs.Spells.{IsTimely, Notes, spell_at}
 
 -- ---- what is kept, by the directories
 
@@ -19,13 +19,6 @@ use Rattle.md_watch.specs.Spells.{IsTimely, Passes, Notes, spell_at}
 pub record ArePresences (n : ℕ) (s : State) (w : Presences) : Type 0 where
   pub names : (p : Path) → IsTimely n (is_some (file_at s p)) (spell_at w.names (directory_number p.folder p.place) p.name)
   pub messages : (folder : ℕ) (unique : List ℕ) → IsTimely n (is_there s folder unique) (spell_at w.messages folder unique)
-
--- A step of a number leads from directories to others.
-pub record PassesAll (s s' : State) (n : ℕ) (old new : Presences) : Type 0 where
-  pub names : (p : Path) → Passes (is_some (file_at s p)) (is_some (file_at s' p)) n
-      (spell_at old.names (directory_number p.folder p.place) p.name) (spell_at new.names (directory_number p.folder p.place) p.name)
-  pub messages : (folder : ℕ) (unique : List ℕ) → Passes (is_there s folder unique) (is_there s' folder unique) n
-      (spell_at old.messages folder unique) (spell_at new.messages folder unique)
 
 pub record KeepsNone (w : Presences) : Type 0 where
   pub names : (number : ℕ) (name : List ℕ) → spell_at w.names number name ≡ None

@@ -7,15 +7,12 @@ use Rattle.md_dirs.specs.Index.{directory_number}
 use Rattle.md_dirs.specs.State.{State}
 use Rattle.md_dirs.specs.declared.paths.Place.{Place}
 use Rattle.md_name.specs.Names.{unique_of, is_message_name}
-use Rattle.md_log.specs.declared.line.Call.{Call}
-use Rattle.md_log.specs.declared.line.Call.TheVariants as call
 use Rattle.md_log.specs.declared.line.Reply.{Reply}
 use Rattle.md_log.specs.declared.line.Reply.TheVariants as reply
-use Rattle.md_law.specs.History.{History, at}
 use Rattle.md_law.specs.Messages.{is_tmp}
 use Rattle.md_law.specs.Readings.{Looker}
 use Rattle.md_monitor.specs.Messages.{is_there}
-use Rattle.md_monitor.specs.Readings.{ReadingKept, readings_kept, has_name, is_name_of}
+use Rattle.md_monitor.specs.Readings.{ReadingKept, has_name, is_name_of}
 use Rattle.md_kept.specs.declared.directory.Directory.{Directory}
 use Rattle.md_kept.specs.declared.paths.Paths.{Paths}
 use Rattle.md_watch.specs.declared.presences.Presences.{Presences}
@@ -70,10 +67,6 @@ pub record IsReadingKept (n : ℕ) (s : State) (p : Presences) (d : Looker) (kep
 abbrev pub AreReadings : ℕ → State → Presences → (Looker → ReadingKept) → Readings → Type 0
 AreReadings n s p kept w = (d : Looker) → IsReadingKept n s p d (kept d) (reading_in w d)
 
--- The table holds the readings of a history of n steps.
-abbrev pub HoldsReadings : ℕ → History → Presences → Readings → Type 0
-HoldsReadings n h p w = AreReadings n (at h) p (readings_kept h) w
-
 -- ---- how a part goes on with a reading
 
 abbrev pub looker_of : Part → Looker
@@ -119,11 +112,6 @@ pub record TakesPart (n : ℕ) (d : Looker) (r : Reply) (shown : List (List ℕ)
   pub here : Leaves n d shown (reading_in old d) r (reading_in new d) whole
   pub others : (m : ℕ) (q : List ℕ) → is_key (directory_number d.folder d.place, d.actor) (m, q) ≡ false
       → value_at new.all m q ≡ value_at old.all m q
-
--- the call is a part of a reading
-abbrev pub is_list : Call → Bool
-is_list (call.List folder place r shown) = true
-is_list c = false
 
 -- ---- what a part is found to be
 

@@ -1,7 +1,6 @@
 use Rattle.std.proofs.Common.{ℕ, List, sym, subst}
 use Rattle.md_law.specs.History.{at}
-use Rattle.md_watch.specs.Listings.{AreNames}
-use Rattle.md_watch.proofs.Whole.{names-of}
+use Rattle.md_watch.proofs.Whole.{AreNames, names-of}
 use Rattle.md_watch.proofs.watch.Watch.names.Goals as goal
 
 pub returns : goal.returns
