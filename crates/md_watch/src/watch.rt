@@ -179,41 +179,20 @@ impl Watch {
     fn touch(&mut self, step: &Step) -> Result<(), AllocError>
         ensures { OnOk result (Touches step.now self.old self.new) }
     {
-        match &step.call {
-            Call::At {
-                deed: Deed::Create,
-                reply: Reply::Ok,
-                ..
-            } => {
+        let Call::At { deed, path, reply } = &step.call else {
+            return Ok(());
+        };
+        match (*deed, *reply) {
+            (Deed::Create, Reply::Ok) => {
                 let maker = step.actor.again(self.alloc)?;
-                self.files.make(Some(maker), self.clock)
+                self.files.make(Some(maker), self.clock)?;
             }
-            Call::At {
-                deed: Deed::Write,
-                path,
-                reply: Reply::Ok,
-            } => {
-                self.files.write(self.paths.file_at(path), self.clock);
-                Ok(())
-            }
-            Call::At {
-                deed: Deed::Write,
-                path,
-                reply: Reply::Fault,
-            } => {
-                self.files.cut(self.paths.file_at(path));
-                Ok(())
-            }
-            Call::At {
-                deed: Deed::Flush,
-                path,
-                reply: Reply::Ok,
-            } => {
-                self.files.flush(self.paths.file_at(path));
-                Ok(())
-            }
-            _ => Ok(()),
+            (Deed::Write, Reply::Ok) => self.files.write(self.paths.file_at(path), self.clock),
+            (Deed::Write, Reply::Fault) => self.files.cut(self.paths.file_at(path)),
+            (Deed::Flush, Reply::Ok) => self.files.flush(self.paths.file_at(path)),
+            _ => {}
         }
+        Ok(())
     }
 
     fn follow(&mut self, change: &Change<'_>) -> Result<(), AllocError>
