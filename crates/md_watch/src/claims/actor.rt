@@ -222,10 +222,7 @@ fn is_left(refused: Option<usize>, look: Option<usize>) -> bool
 fn is_ok(reply: Reply) -> bool
     ensures { result ≡ is_ok reply }
 {
-    match reply {
-        Reply::Ok => true,
-        _ => false,
-    }
+    reply == Reply::Ok
 }
 
 fn is_unlink(call: &Call) -> bool
