@@ -3,7 +3,7 @@ ghost use Rattle.std.specs.Prelude.{◌≡◌, ◌+◌, ◌-◌, ℕ, List, [], 
 ghost use Rattle.std.specs.Option.{option_map};
 ghost use Rattle.md_kept.specs.Changes.{turn_of};
 ghost use Rattle.md_kept.specs.Files.{lent_as};
-ghost use Rattle.md_watch.specs.Flagged.{Adds, Changes, Comes, Follows, Goes, IsOf, Lends, Puts, count_by, count_in, count_of, is_in, less_at, lent_mark, mark_of, more_at, showing_of, spell_by, spell_in, spell_of};
+ghost use Rattle.md_watch.specs.Flagged.{Adds, Changes, Comes, Follows, Goes, IsOf, Lends, Puts, count_by, count_of, is_in, less_at, lent_mark, mark_of, more_at, showing_of, spell_by, spell_in, spell_of};
 ghost use Rattle.md_watch.specs.Spells.{Passes, ended_of, ever_by, since_of};
 ghost use Rattle.md_kept.specs.Tables.{Puts as PutsAt};
 

@@ -1,5 +1,5 @@
 //! What is remembered of the moments so far: when things were there, and what actors read, listed, told and did.
-ghost use Rattle.std.specs.Prelude.{◌≡◌, OnOk, IfOk};
+ghost use Rattle.std.specs.Prelude.{OnOk, IfOk};
 ghost use Rattle.md_dirs.specs.State.{bare};
 ghost use Rattle.md_kept.specs.Changes.{turn_of};
 ghost use Rattle.md_watch.specs.Memory.{Begins, Puts, Tells, Reads, ReadsPart, Lists, Hears, Follows};

@@ -1,6 +1,5 @@
-//! What a step is found to break, by what is kept.
+//! What a step is found to break of what its program owes the others, by what is kept.
 ghost use Rattle.std.specs.Prelude.{◌≡◌};
-ghost use Rattle.std.specs.Option.{option_map};
 ghost use Rattle.md_monitor.specs.Found.{is_from_new};
 ghost use Rattle.md_kept.specs.Changes.{turn_of, file_in};
 ghost use Rattle.md_kept.specs.Files.{lent_as};
