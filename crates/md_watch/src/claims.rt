@@ -13,7 +13,7 @@ use deeds::{Done, nothing};
 pub(crate) use deeds::{Acts, NO_ACTS};
 pub(crate) use finding::Past;
 use md_kept::{Change, Table, Taken};
-use md_log::{Call, Step};
+use md_log::Step;
 use std::alloc::{AllocError, Global};
 
 /// What is kept of actors.
@@ -54,17 +54,6 @@ impl Claims {
         };
         actor.step(&step.call, change, before, after, now)?;
         self.actors.put_back(at, 0, name, actor)
-    }
-
-    /// When the actor of a step, which is an answer, last acted on the message of which it tells.
-    pub(crate) fn acts(&self, step: &Step) -> Acts {
-        match &step.call {
-            Call::Answer { folder, unique, .. } => {
-                let done = self.done(step.actor.as_slice(), *folder, unique.as_slice());
-                done.acts
-            }
-            _ => NO_ACTS,
-        }
     }
 
     /// What the actor did about the message.

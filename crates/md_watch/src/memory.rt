@@ -5,7 +5,7 @@ ghost use Rattle.md_kept.specs.Changes.{turn_of};
 ghost use Rattle.md_watch.specs.Memory.{Begins, Puts, Tells, Reads, ReadsPart, Lists, Hears, Follows};
 ghost use Rattle.md_watch.specs.Readings.{looker_of};
 
-use crate::claims::{Acts, Claims, NO_ACTS, Past};
+use crate::claims::{Acts, Claims, Past};
 use crate::flagged::Flagged;
 use crate::listings::{Listings, Present};
 use crate::presences::{InFolders, Presences};
@@ -29,11 +29,12 @@ pub(crate) struct Read {
     pub(crate) unlisted: bool,
 }
 
-/// An answer says that a call was done of which the actor gave up; it says what is not so.
+/// An answer says that a call was done of which the actor gave up; it says what is not so. When the actor last acted on the message.
 #[derive(Clone, Copy)]
 pub(crate) struct Told {
     pub(crate) gave_up: bool,
     pub(crate) falsely: bool,
+    pub(crate) acts: Acts,
 }
 
 /// What is remembered of the moments so far.
@@ -91,15 +92,6 @@ impl Memory {
         Ok(Heard { read, told })
     }
 
-    /// When the actor of a step, which is an answer that is found to break what is owed, last acted on the message of which it tells.
-    pub(crate) fn acts(&self, step: &Step, heard: Heard) -> Acts {
-        if heard.told.gave_up || heard.told.falsely {
-            self.claims.acts(step)
-        } else {
-            NO_ACTS
-        }
-    }
-
     fn tell(&self, step: &Step, messages: &Messages) -> Told
         ensures { Tells step.now messages.now self.now result }
     {
@@ -109,10 +101,7 @@ impl Memory {
             flagged: &self.flagged,
             now: self.steps,
         };
-        Told {
-            gave_up: self.claims.is_given_up(step, &past),
-            falsely: self.claims.is_false(step, &past),
-        }
+        self.claims.tell(step, &past)
     }
 
     fn read(&mut self, step: &Step, paths: &Paths) -> Result<Read, AllocError>

@@ -117,7 +117,6 @@ impl Watch {
         let were = in_folders(&self.messages, &change);
         let before = self.before(step, &change);
         let heard = self.memory.hear(step, &self.paths, &self.messages)?;
-        let acts = self.memory.acts(step, heard);
         let number = self.memory.steps;
         let there = There {
             paths: &self.paths,
@@ -125,7 +124,8 @@ impl Watch {
             messages: &self.messages,
             presences: &self.memory.presences,
         };
-        self.marks.step(number, step, &change, &there, acts)?;
+        self.marks
+            .step(number, step, &change, &there, heard.told.acts)?;
         self.touch(step)?;
         self.follow(&change)?;
         let are = in_folders(&self.messages, &change);

@@ -7,8 +7,9 @@ ghost use Rattle.md_monitor.specs.Answers.{is_success, is_told_and};
 ghost use Rattle.md_watch.specs.Claims.{done_of, is_false_in, is_given_up_in, is_gone_in, is_shown_in, is_so_in, is_there_in, was_there_in, was_there_then};
 
 use super::Claims;
-use super::deeds::Done;
+use super::deeds::{Done, NO_ACTS};
 use crate::flagged::Flagged;
+use crate::memory::Told;
 use crate::presences::Presences;
 use md_kept::Messages;
 use md_log::{Call, Said, Step};
@@ -93,43 +94,35 @@ impl Past<'_> {
 }
 
 impl Claims {
-    /// Whether an actor says that a call on a message was done, of which it gave up: the message is there, the actor's last call on it was
-    /// refused, and the actor did not look again.
-    pub(crate) fn is_given_up(&self, step: &Step, past: &Past<'_>) -> bool
-        ensures { result ≡ is_told_and step.now.call step.now.actor (is_given_up_in past.entry.now self.now) }
-    {
-        match &step.call {
-            Call::Answer {
-                said,
-                folder,
-                unique,
-            } => {
-                let unique = unique.as_slice();
-                is_success(*said)
-                    && past.is_there(*folder, unique)
-                    && self.is_left(step.actor.as_slice(), *folder, unique)
-            }
-            _ => false,
-        }
-    }
-
-    /// Whether an actor says of a message what is not so.
-    pub(crate) fn is_false(&self, step: &Step, past: &Past<'_>) -> bool
-        ensures wrong { result ≡ is_told_and step.now.call step.now.actor (is_false_in past.entry.now self.now) }
+    /// What the answer of a step is found to break. Its actor gave up: it says that a call on a message was done, the message is there, the
+    /// actor's last call on it was refused, and the actor did not look again. It says of a message what is not so.
+    pub(crate) fn tell(&self, step: &Step, past: &Past<'_>) -> Told
+        ensures gave_up { result.gave_up ≡ is_told_and step.now.call step.now.actor (is_given_up_in past.entry.now self.now) }
+        ensures falsely { result.falsely ≡ is_told_and step.now.call step.now.actor (is_false_in past.entry.now self.now) }
         ensures letters { (flags : Set) (folder : ℕ) (unique : List ℕ)
             → step.now.call ≡ call.Answer (answer.Flags flags) folder unique → IsOfLetters flags }
     {
-        match &step.call {
-            Call::Answer {
-                said,
-                folder,
-                unique,
-            } => {
-                let unique = unique.as_slice();
-                let done = self.done(step.actor.as_slice(), *folder, unique);
-                !past.is_so(&done, *folder, unique, *said)
-            }
-            _ => false,
+        let Call::Answer {
+            said,
+            folder,
+            unique,
+        } = &step.call
+        else {
+            return Told {
+                gave_up: false,
+                falsely: false,
+                acts: NO_ACTS,
+            };
+        };
+        let actor = step.actor.as_slice();
+        let unique = unique.as_slice();
+        let done = self.done(actor, *folder, unique);
+        Told {
+            gave_up: is_success(*said)
+                && past.is_there(*folder, unique)
+                && self.is_left(actor, *folder, unique),
+            falsely: !past.is_so(&done, *folder, unique, *said),
+            acts: done.acts,
         }
     }
 }
