@@ -87,17 +87,14 @@ pub record IsPast (m : Messages) (w : Memory) (p : Past) : Type 0 where
   pub flagged : p.flagged.now ≡ w.flagged
   pub now : p.now ≡ w.steps
 
--- the flags of which an answer tells are letters
-abbrev pub HasLetters : Call → Type 0
-HasLetters c = (flags : Set) (folder : ℕ) (unique : List ℕ) → c ≡ call.Answer (said.Flags flags) folder unique → IsOfLetters flags
-
 -- What an answer breaks, by what is remembered.
 pub record Tells (x : Step) (m : Messages) (w : Memory) (told : Told) : Type 0 where
   pub past : Past
   pub is_past : IsPast m w past
   pub gave_up : told.gave_up ≡ is_told_and x.call x.actor (claims.is_given_up_in past w.claims)
   pub falsely : told.falsely ≡ is_told_and x.call x.actor (claims.is_false_in past w.claims)
-  pub letters : HasLetters x.call
+  -- the flags of which an answer tells are letters
+  pub letters : (flags : Set) (folder : ℕ) (unique : List ℕ) → x.call ≡ call.Answer (said.Flags flags) folder unique → IsOfLetters flags
 
 -- What is there of the folder.
 pub record IsThere (paths : Paths) (w : Memory) (there : Present) : Type 0 where

@@ -168,8 +168,8 @@ impl Marks {
         self.turn(change, there)?;
         self.join(change, there)?;
         self.show(entry, change.named, there.files);
-        self.taken = file_of(change.taken);
-        self.turned = file_of(change.turned);
+        self.taken = change.taken.map(|(_, file)| file);
+        self.turned = change.turned.map(|(_, file)| file);
         self.acts = acts;
         Ok(())
     }
@@ -268,13 +268,6 @@ impl There<'_> {
     fn is_since_beginning(&self, folder: u32, unique: &[u8]) -> bool {
         self.messages.count_in(folder, unique) > 0
             && self.presences.messages.since(folder as usize, unique) == 0
-    }
-}
-
-fn file_of(named: Option<Named<'_>>) -> Option<usize> {
-    match named {
-        None => None,
-        Some((_, file)) => Some(file),
     }
 }
 
