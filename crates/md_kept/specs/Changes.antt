@@ -5,9 +5,8 @@ use Rattle.std.specs.Option.{option_map}
 use Rattle.std.specs.Ordering.{eq_by_cmp}
 use Rattle.md_dirs.specs.Index.{directory_number}
 use Rattle.md_dirs.specs.Path.{path_cmp}
-use Rattle.md_dirs.specs.declared.paths.Path.{Path}
+use Rattle.md_law.specs.Values.{Path, Call}
 use Rattle.md_name.specs.Names.{unique_of}
-use Rattle.md_log.specs.declared.line.Call.{Call}
 use Rattle.md_log.specs.declared.line.Call.TheVariants as call
 use Rattle.md_log.specs.declared.line.Deed.TheVariants as deed
 use Rattle.md_log.specs.declared.line.Naming.TheVariants as naming

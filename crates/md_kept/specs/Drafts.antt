@@ -1,6 +1,6 @@
 -- What is kept of paths of tmp, and how a path that comes to name a file changes it.
 use Rattle.std.specs.Prelude.{ℕ, ◌≡◌, ◌&&◌, List, Option, Some, None, is_some, if◌then◌else◌}
-use Rattle.md_dirs.specs.declared.paths.Path.{Path}
+use Rattle.md_law.specs.Values.{Path}
 use Rattle.md_law.specs.Messages.{is_tmp}
 use Rattle.md_monitor.specs.Messages.{PathKept, no_path, path_named}
 use Rattle.md_kept.specs.declared.drafts.Drafts.{Drafts}

@@ -3,7 +3,7 @@ use Rattle.std.specs.Prelude.{ℕ, ◌≡◌, ◌+◌, ◌-◌, ◌==◌, ◌&&�
 use Rattle.std.specs.Borrow.{Bor}
 use Rattle.std.specs.Option.{option_map}
 use Rattle.std.specs.Str.{bytes_eq}
-use Rattle.md_dirs.specs.declared.paths.Path.{Path}
+use Rattle.md_law.specs.Values.{Path}
 use Rattle.md_law.specs.Messages.{is_message}
 use Rattle.md_monitor.specs.Files.{is_some_and, is_cur}
 use Rattle.md_kept.specs.declared.files.FileKept.{FileKept}

@@ -1,7 +1,7 @@
 -- What is kept of messages, and how a turn of paths changes it.
 use Rattle.std.specs.Prelude.{ℕ, ◌≡◌, ◌+◌, ◌-◌, ◌==◌, ◌&&◌, ◌||◌, List, Option, Some, None, Bool, false, is_some, unwrap_or, if◌then◌else◌}
 use Rattle.std.specs.Option.{option_map}
-use Rattle.md_dirs.specs.declared.paths.Path.{Path}
+use Rattle.md_law.specs.Values.{Path}
 use Rattle.md_monitor.specs.Files.{is_some_and}
 use Rattle.md_monitor.specs.Messages.{is_of, is_of_any}
 use Rattle.md_kept.specs.declared.messages.InFolder.{InFolder}

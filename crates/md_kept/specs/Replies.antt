@@ -1,13 +1,9 @@
 -- What calls on paths answer, by a function from paths to files and the number of folders.
 use Rattle.std.specs.Prelude.{ℕ, ◌&&◌, Option, Bool, false, not, nat_lt, is_some, if◌then◌else◌}
-use Rattle.md_dirs.specs.declared.paths.Path.{Path}
-use Rattle.md_log.specs.declared.line.Call.{Call}
+use Rattle.md_law.specs.Values.{Path, Call, Deed, Naming, Reply}
 use Rattle.md_log.specs.declared.line.Call.TheVariants as call
-use Rattle.md_log.specs.declared.line.Deed.{Deed}
 use Rattle.md_log.specs.declared.line.Deed.TheVariants as deed
-use Rattle.md_log.specs.declared.line.Naming.{Naming}
 use Rattle.md_log.specs.declared.line.Naming.TheVariants as naming
-use Rattle.md_log.specs.declared.line.Reply.{Reply}
 use Rattle.md_log.specs.declared.line.Reply.TheVariants as reply
 use Rattle.md_monitor.specs.Files.{is_fault}
 use Rattle.md_monitor.specs.Judged.{is_reply}

@@ -3,16 +3,11 @@ use Rattle.std.specs.Prelude.{ℕ, ◌≡◌, ◌+◌, ◌<◌, ◌==◌, ◌&&�
 use Rattle.std.specs.List.{list_all, list_any}
 use Rattle.std.specs.Option.{option_or}
 use Rattle.std.specs.Str.{bytes_eq}
-use Rattle.md_dirs.specs.State.{State}
-use Rattle.md_dirs.specs.declared.paths.Path.{Path}
+use Rattle.md_law.specs.Values.{State, Path, Call, Reply, Said, Step}
 use Rattle.md_name.specs.Letters.{Set, IsOfLetters}
-use Rattle.md_log.specs.declared.line.Call.{Call}
 use Rattle.md_log.specs.declared.line.Call.TheVariants as call
 use Rattle.md_log.specs.declared.line.Deed.TheVariants as deed
-use Rattle.md_log.specs.declared.line.Reply.{Reply}
-use Rattle.md_log.specs.declared.line.Said.{Said}
 use Rattle.md_log.specs.declared.line.Said.TheVariants as said
-use Rattle.md_log.specs.declared.line.Step.{Step}
 use Rattle.md_law.specs.Answers.{Claim}
 use Rattle.md_law.specs.Messages.{is_tmp}
 use Rattle.md_monitor.specs.Files.{is_some_and, is_ok}

@@ -4,8 +4,7 @@ use Rattle.std.specs.Prelude.{ℕ, ◌≡◌, ◌+◌, ◌-◌, ◌==◌, ◌&&�
 use Rattle.std.specs.Borrow.{Bor}
 use Rattle.std.specs.Option.{option_map}
 use Rattle.indexmap.specs.IndexMap.{get}
-use Rattle.md_dirs.specs.State.{State}
-use Rattle.md_dirs.specs.declared.paths.Path.{Path}
+use Rattle.md_law.specs.Values.{State, Path}
 use Rattle.md_name.specs.Letters.{Set, IsOfLetters}
 use Rattle.md_name.specs.Names.{unique_of, info_of, flags_of, is_message_name}
 use Rattle.md_name.specs.Words.{word_of}

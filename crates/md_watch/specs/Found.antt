@@ -1,15 +1,12 @@
 -- What a step is found to break, by what is kept.
 use Rattle.std.specs.Prelude.{ℕ, ◌-◌, ◌==◌, ◌&&◌, ◌||◌, not, List, Option, None, Bool, true, false, nat_lt, nat_le, is_some, is_none, if◌then◌else◌}
 use Rattle.std.specs.FinSet as set
-use Rattle.md_dirs.specs.declared.paths.Path.{Path}
+use Rattle.md_law.specs.Values.{Path, Clause, Call, Step}
 use Rattle.md_name.specs.Names.{split_of, flags_of}
-use Rattle.md_log.specs.declared.clause.Clause.{Clause}
 use Rattle.md_log.specs.declared.clause.Clause.TheVariants as clause
-use Rattle.md_log.specs.declared.line.Call.{Call}
 use Rattle.md_log.specs.declared.line.Call.TheVariants as call
 use Rattle.md_log.specs.declared.line.Deed.TheVariants as deed
 use Rattle.md_log.specs.declared.line.Reply.TheVariants as reply
-use Rattle.md_log.specs.declared.line.Step.{Step}
 use Rattle.md_law.specs.Messages.{is_message, is_tmp}
 use Rattle.md_monitor.specs.Files.{is_some_and, is_new, is_cur, is_not_found}
 use Rattle.md_monitor.specs.Messages.{named_other}

@@ -1,15 +1,10 @@
 -- What is remembered of the moments so far, and how it goes on.
 use Rattle.std.specs.Prelude.{ℕ, ◌≡◌, ◌+◌, List, Option, Some, None, Bool, false}
 use Rattle.md_dirs.specs.Index.{directory_number}
-use Rattle.md_dirs.specs.State.{State}
-use Rattle.md_dirs.specs.declared.paths.Path.{Path}
-use Rattle.md_dirs.specs.declared.paths.Place.TheVariants.{New, Cur}
+use Rattle.md_law.specs.Values.{State, Path, New, Cur, Call, Reply, Step}
 use Rattle.md_name.specs.Letters.{Set, IsOfLetters}
-use Rattle.md_log.specs.declared.line.Call.{Call}
 use Rattle.md_log.specs.declared.line.Call.TheVariants as call
-use Rattle.md_log.specs.declared.line.Reply.{Reply}
 use Rattle.md_log.specs.declared.line.Said.TheVariants as said
-use Rattle.md_log.specs.declared.line.Step.{Step}
 use Rattle.md_law.specs.History.{History, opening, next, at}
 use Rattle.md_law.specs.Readings.{Looker}
 use Rattle.md_monitor.specs.Answers.{is_told_and}

@@ -1,8 +1,7 @@
 -- When names were in directories and messages in folders, and how it goes on with a turn of paths.
 use Rattle.std.specs.Prelude.{ℕ, ◌≡◌, List, Option, Some, None, Bool, true, false, is_some, nat_lt}
 use Rattle.md_dirs.specs.Index.{directory_number}
-use Rattle.md_dirs.specs.State.{State, file_at}
-use Rattle.md_dirs.specs.declared.paths.Path.{Path}
+use Rattle.md_law.specs.Values.{State, file_at, Path}
 use Rattle.md_monitor.specs.Files.{is_some_and}
 use Rattle.md_monitor.specs.Messages.{is_there}
 use Rattle.md_kept.specs.declared.messages.Messages.{Messages}

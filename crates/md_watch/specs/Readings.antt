@@ -4,10 +4,8 @@ use Rattle.std.specs.List.{list_any}
 use Rattle.std.specs.Str.{bytes_eq}
 use Rattle.indexmap.specs.IndexSet.{contains}
 use Rattle.md_dirs.specs.Index.{directory_number}
-use Rattle.md_dirs.specs.State.{State}
-use Rattle.md_dirs.specs.declared.paths.Place.{Place}
+use Rattle.md_law.specs.Values.{State, Place, Reply}
 use Rattle.md_name.specs.Names.{unique_of, is_message_name}
-use Rattle.md_log.specs.declared.line.Reply.{Reply}
 use Rattle.md_log.specs.declared.line.Reply.TheVariants as reply
 use Rattle.md_law.specs.Messages.{is_tmp}
 use Rattle.md_law.specs.Readings.{Looker}

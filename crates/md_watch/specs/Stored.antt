@@ -1,7 +1,6 @@
 -- Files of directories: which there are.
 use Rattle.std.specs.Prelude.{ℕ, ◌≡◌, Some, IsSome}
-use Rattle.md_dirs.specs.State.{State, file_at, file_by}
-use Rattle.md_dirs.specs.declared.paths.Path.{Path}
+use Rattle.md_law.specs.Values.{State, file_at, file_by, Path}
 
 -- each path names a file that is there
 abbrev pub HasFiles : State → Type 0

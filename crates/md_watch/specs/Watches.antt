@@ -1,17 +1,12 @@
 -- What a watch holds: that what it keeps is what the monitor keeps of a history.
 use Rattle.std.specs.Prelude.{ℕ, ◌≡◌, ◌+◌, ◌↔◌, ◌⊎◌, List, Option, Some, None, IsSome, true, length}
-use Rattle.md_dirs.specs.State.{State, file_at, file_by}
-use Rattle.md_dirs.specs.declared.paths.Path.{Path}
-use Rattle.md_dirs.specs.declared.paths.File.{File}
-use Rattle.md_log.specs.declared.line.Call.{Call}
+use Rattle.md_law.specs.Values.{State, file_at, file_by, File, Path, Clause, Call, Step}
 use Rattle.md_log.specs.declared.line.Call.TheVariants as call
 use Rattle.md_log.specs.declared.line.Deed.TheVariants as deed
 use Rattle.md_log.specs.declared.line.Reply.TheVariants as reply
-use Rattle.md_log.specs.declared.line.Step.{Step}
 use Rattle.md_dirs.specs.Calls.{with_new_file, with_path, empty_file}
 use Rattle.md_law.specs.History.{History, Moment, opening, at, now}
 use Rattle.md_law.specs.Law.{Breaks}
-use Rattle.md_log.specs.declared.clause.Clause.{Clause}
 use Rattle.md_law.specs.Messages.{is_tmp}
 use Rattle.md_monitor.specs.Files.{FileKept, files_kept, count_where, seen_times}
 use Rattle.md_monitor.specs.Messages.{MessagesKept, messages_kept, paths_of, paths_as, is_of_any}
