@@ -8,4 +8,4 @@ pub returns : goal.returns
 unfolding value_at
 returns g c = λ m q. ap held (c.in_ok-insert.ensures.updates.0 (m, q))
     ∙ held-if (is_key (c.args.number, c.in_ok-copied.field-0) (m, q)) (Some c.args.value) (get is_key c.args.self.now.map (m, q))
-    ∙ ap (λ name. cond (is_key (c.args.number, name) (m, q)) (Some c.args.value) (value_at c.args.self.now m q)) c.in_ok-copied.ensures
+    ∙ ap (λ name. cond (is_key (c.args.number, name) (m, q)) (Some c.args.value) (value_at c.args.self.now m q)) c.in_ok-copied.ensures.ok
