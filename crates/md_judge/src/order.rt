@@ -3,7 +3,6 @@
 ghost use Rattle.md_judge.specs.Placed.{IsUnplaced};
 
 mod asked;
-mod calls;
 mod coming;
 mod left;
 mod needed;

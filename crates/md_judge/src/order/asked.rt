@@ -119,6 +119,25 @@ impl Asked {
     }
 }
 
+/// What a call on one path is defined to reply.
+pub(super) fn defined_at(deed: Deed, is_there: bool) -> Reply {
+    match (deed, is_there) {
+        (Deed::Create, true) => Reply::Exists,
+        (Deed::Create, false) => Reply::Ok,
+        (_, true) => Reply::Ok,
+        (_, false) => Reply::NotFound,
+    }
+}
+
+/// What a call on two paths is defined to reply.
+pub(super) fn defined_between(naming: Naming, is_old_there: bool, is_new_there: bool) -> Reply {
+    match (naming, is_old_there, is_new_there) {
+        (_, false, _) => Reply::NotFound,
+        (Naming::Link, true, true) => Reply::Exists,
+        _ => Reply::Ok,
+    }
+}
+
 /// Whether two paths are one, or one of them is of a directory that the other stands for.
 fn meets(one: Spot, two: Spot) -> bool {
     one.directory == two.directory && (one.name == two.name || one.name == ALL || two.name == ALL)

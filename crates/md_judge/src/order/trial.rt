@@ -1,10 +1,9 @@
 //! Calls that are tried on the directories and taken back: whether directories give their replies here.
 //!
 //! What a call did stands under its moment, so taking it out undoes the call.
-use super::asked::{ALL, Asked, Deal, Misfit, Name, Spot};
-use super::calls::{Change, change_at, change_between, is_wrong_at, is_wrong_between};
+use super::asked::{ALL, Asked, Deal, Misfit, Name, Spot, defined_at, defined_between};
 use super::numbers::Numbers;
-use md_log::{Naming, Reply};
+use md_log::{Deed, Naming, Reply};
 use md_watch::{OpenReading, Presence};
 use std::alloc::{AllocError, Global};
 use std::collections::{BTreeMap, BTreeSet};
@@ -83,28 +82,34 @@ impl<'a> Trial<'a> {
         }
     }
 
-    /// Why directories don't give the reply of a call here, if they don't.
+    /// Why directories don't give the reply of a call here, if they don't. Any call may fail.
     pub(super) fn misfit(
         &mut self,
         asked: &Asked,
         now: usize,
     ) -> Result<Option<Misfit>, AllocError> {
-        match asked.deal {
-            Deal::Answer => Ok(None),
+        let (defined, spot) = match asked.deal {
+            Deal::Answer => return Ok(None),
+            Deal::List => return self.misread(asked, now),
             Deal::At(deed) => {
                 let is_there = self.file_at(asked.old).is_some();
-                let is_wrong = is_wrong_at(deed, is_there, asked.reply);
-                Ok(misfit_at(is_wrong, asked.old))
+                (defined_at(deed, is_there), asked.old)
             }
             Deal::Between(naming) => {
                 let is_old = self.file_at(asked.old).is_some();
-                let are_there = (is_old, self.file_at(asked.new).is_some());
-                let is_wrong = is_wrong_between(naming, are_there, asked.reply);
+                let is_new = self.file_at(asked.new).is_some();
                 let is_by_new = is_old && asked.reply != Reply::NotFound;
-                Ok(misfit_at(is_wrong, if is_by_new { asked.new } else { asked.old }))
+                let spot = if is_by_new { asked.new } else { asked.old };
+                (defined_between(naming, is_old, is_new), spot)
             }
-            Deal::List => self.misread(asked, now),
+        };
+        if asked.reply == Reply::Fault || asked.reply == defined {
+            return Ok(None);
         }
+        Ok(Some(Misfit {
+            spot,
+            is_of_reading: false,
+        }))
     }
 
     /// Why a directory doesn't answer a part of a reading so, if it doesn't.
@@ -300,47 +305,41 @@ impl<'a> Trial<'a> {
         }
     }
 
+    /// Makes a call that fits.
     pub(super) fn make(&mut self, asked: &Asked, now: usize) -> Result<(), AllocError> {
         match asked.deal {
-            Deal::Answer => Ok(()),
-            Deal::At(deed) => {
-                let change = change_at(deed, asked.old, asked.reply, self.next_file);
-                self.next_file = self.next_file.saturating_sub(1);
-                self.change(now, change)
-            }
-            Deal::Between(naming) => {
-                let files = (self.file_at(asked.old), self.file_at(asked.new));
-                let change = change_between(naming, (asked.old, asked.new), files, asked.reply);
-                self.keep(asked, naming, now)?;
-                self.change(now, change)
-            }
             Deal::List => self.read(asked, now),
+            _ if asked.is_change() => self.change(asked, now),
+            _ => Ok(()),
         }
     }
 
-    fn change(&mut self, now: usize, change: Change) -> Result<(), AllocError> {
-        if let Some(spot) = change.taken {
-            self.put(spot, now, Presence::Gone { last: Some(now) })?;
-        }
-        if let Some((spot, file)) = change.named {
-            let since = match self.presence(spot) {
-                Presence::There { since, .. } => since,
-                Presence::Gone { .. } => now.saturating_add(1),
+    /// A call makes a path be there or go. A rename is noted of both its paths, even where they name one file and so stay.
+    fn change(&mut self, asked: &Asked, now: usize) -> Result<(), AllocError> {
+        let gone = Presence::Gone { last: Some(now) };
+        let file = match asked.deal {
+            Deal::At(Deed::Unlink) => return self.put(asked.old, now, gone),
+            Deal::Between(_) => self.file_at(asked.old),
+            _ => Some(self.next_file),
+        };
+        let Some(file) = file else {
+            return Ok(());
+        };
+        self.next_file = self.next_file.saturating_sub(1);
+        let (there, since) = match self.presence(asked.new) {
+            Presence::There { file, since } => (Some(file), since),
+            Presence::Gone { .. } => (None, now.saturating_add(1)),
+        };
+        if let Deal::Between(Naming::Rename) = asked.deal {
+            let stays = there == Some(file);
+            let old = if stays {
+                self.presence(asked.old)
+            } else {
+                gone
             };
-            self.put(spot, now, Presence::There { file, since })?;
-        }
-        Ok(())
-    }
-
-    /// A rename was tried on both its paths, even where they name one file and so stay.
-    fn keep(&mut self, asked: &Asked, naming: Naming, now: usize) -> Result<(), AllocError> {
-        if naming == Naming::Rename && asked.is_change() {
-            let old = self.presence(asked.old);
-            let new = self.presence(asked.new);
             self.put(asked.old, now, old)?;
-            self.put(asked.new, now, new)?;
         }
-        Ok(())
+        self.put(asked.new, now, Presence::There { file, since })
     }
 
     fn put(&mut self, spot: Spot, now: usize, tried: Presence) -> Result<(), AllocError> {
@@ -364,16 +363,6 @@ impl<'a> Trial<'a> {
         self.tried.remove(&path_then(asked.new, now));
         self.parts.remove(&(asked.reader, now));
     }
-}
-
-fn misfit_at(is_wrong: bool, spot: Spot) -> Option<Misfit> {
-    if !is_wrong {
-        return None;
-    }
-    Some(Misfit {
-        spot,
-        is_of_reading: false,
-    })
 }
 
 fn moment_in<T: Copy>(last: Option<(usize, T)>) -> Option<usize> {
