@@ -14,7 +14,6 @@ mod trial;
 
 use crate::stretch::Waiting;
 use asked::{ANSWER, Asked, Deal, LOOKS_A_TRY};
-use md_dirs::Bytes;
 use md_log::{Call, LineFault, Reply, Step};
 use md_watch::Watch;
 use numbers::{Directory, Numbers};
@@ -22,31 +21,6 @@ use readings::mark_alone;
 use search::{Search, Way};
 use std::alloc::{AllocError, Global};
 use trial::Trial;
-
-/// How many tries are made at most: so many, and as many more for each step, and for each 32 names that readings show. A try is a step of
-/// which it is asked whether it fits at a place, or 32 steps or names that are looked at.
-#[derive(Clone, Copy)]
-struct Tries {
-    least: usize,
-    a_step: usize,
-}
-
-impl Tries {
-    fn of(self, steps: usize, names: usize) -> usize {
-        let many = steps.saturating_add(names / LOOKS_A_TRY);
-        self.a_step.saturating_mul(many).saturating_add(self.least)
-    }
-}
-
-const WIDE_TRIES: Tries = Tries {
-    least: 10_000,
-    a_step: 16,
-};
-
-const NARROW_TRIES: Tries = Tries {
-    least: 100_000,
-    a_step: 128,
-};
 
 #[derive(Clone, Copy)]
 pub(crate) enum Unplaced {
@@ -74,9 +48,15 @@ pub(crate) struct NoOrder {
     pub(crate) why: Unplaced,
 }
 
+impl From<AllocError> for NoOrder {
+    fn from(_: AllocError) -> Self {
+        no_memory(0)
+    }
+}
+
 /// The numbers of steps in an order in which the directories give their replies, after the steps that the watch took. It takes about
 /// n log n and n times the calls in flight where the order of the log nearly does, and gives up after 110,000 tries and 144 more for each
-/// step. Steps without ticks are placed at once.
+/// step.
 pub(crate) fn order(
     alloc: Global,
     watch: &Watch,
@@ -85,14 +65,9 @@ pub(crate) fn order(
     let mut numbers = Numbers::new(alloc, watch);
     let mut all = Vec::new(alloc);
     for (at, waiting) in steps.iter().enumerate() {
-        match add(&mut all, &mut numbers, waiting) {
-            Ok(()) => {}
-            Err(AllocError) => return Err(no_memory(at)),
-        }
+        add(&mut all, &mut numbers, waiting).map_err(|_| no_memory(at))?;
     }
-    if mark_alone(alloc, all.as_mut_slice()).is_err() {
-        return Err(no_memory(0));
-    }
+    mark_alone(alloc, all.as_mut_slice())?;
     let task = Task {
         alloc,
         numbers: &numbers,
@@ -115,18 +90,16 @@ impl Task<'_> {
     /// Takes the order of the log if that will do. Else it searches on the wide way, which goes by the order of the log, and if that takes
     /// too many tries on the narrow one.
     fn search(&self) -> Result<Vec<usize>, NoOrder> {
-        match self.goes_straight() {
-            Ok(false) => {}
-            Ok(true) => return numbers_to(self.alloc, self.steps.len()),
-            Err(AllocError) => return Err(no_memory(0)),
+        if self.goes_straight()? {
+            return Ok((0..self.steps.len()).collect(self.alloc)?);
         }
-        match self.search_on(Way::Wide, WIDE_TRIES) {
+        match self.search_on(Way::Wide) {
             Err(
                 NoOrder {
                     why: Unplaced::TooManyOrders,
                     ..
                 },
-            ) => self.search_on(Way::Narrow, NARROW_TRIES),
+            ) => self.search_on(Way::Narrow),
             found => found,
         }
     }
@@ -146,9 +119,17 @@ impl Task<'_> {
         Ok(!trial.has_open(self.begin))
     }
 
-    fn search_on(&self, way: Way, tries: Tries) -> Result<Vec<usize>, NoOrder> {
+    /// Makes so many tries at most, and as many more for each step, and for each 32 names that readings show. A try is a step of which it is
+    /// asked whether it fits at a place, or 32 steps or names that are looked at.
+    fn search_on(&self, way: Way) -> Result<Vec<usize>, NoOrder> {
+        let (least, a_step) = match way {
+            Way::Wide => (10_000usize, 16usize),
+            Way::Narrow => (100_000, 128),
+        };
+        let names = self.numbers.count_shown() / LOOKS_A_TRY;
+        let many = self.steps.len().saturating_add(names);
+        let most = a_step.saturating_mul(many).saturating_add(least);
         let trial = Trial::new(self.alloc, self.numbers);
-        let most = tries.of(self.steps.len(), self.numbers.count_shown());
         Search::new(self.alloc, way, trial, self.steps, self.begin).find(most)
     }
 }
@@ -198,7 +179,19 @@ fn by_numbers<'a>(numbers: &mut Numbers<'a>, step: &'a Step) -> Result<Asked, Al
                 folder: *folder,
                 place: *place,
             };
-            part_by_numbers(numbers, step.actor.as_slice(), of, *reply, shown.as_slice())?
+            if *reply == Reply::Ok {
+                numbers.read(of)?;
+            }
+            let spot = of.all();
+            Asked {
+                deal: Deal::List,
+                reply: *reply,
+                old: spot,
+                new: spot,
+                reader: numbers.reader(step.actor.as_slice(), of)?,
+                shown: numbers.show(of, shown.as_slice())?,
+                ..ANSWER
+            }
         }
         Call::Answer { .. } => ANSWER,
     };
@@ -208,40 +201,7 @@ fn by_numbers<'a>(numbers: &mut Numbers<'a>, step: &'a Step) -> Result<Asked, Al
     })
 }
 
-fn part_by_numbers<'a>(
-    numbers: &mut Numbers<'a>,
-    actor: &'a [u8],
-    of: Directory,
-    reply: Reply,
-    shown: &'a [Bytes],
-) -> Result<Asked, AllocError> {
-    if reply == Reply::Ok {
-        numbers.read(of)?;
-    }
-    let spot = of.all();
-    Ok(Asked {
-        deal: Deal::List,
-        reply,
-        old: spot,
-        new: spot,
-        reader: numbers.reader(actor, of)?,
-        shown: numbers.show(of, shown)?,
-        ..ANSWER
-    })
-}
-
 fn no_memory(step: usize) -> NoOrder {
     let why = Unplaced::NoMemory;
     NoOrder { step, why }
-}
-
-/// So many numbers, from 0.
-fn numbers_to(alloc: Global, many: usize) -> Result<Vec<usize>, NoOrder> {
-    let mut numbers = Vec::new(alloc);
-    for at in 0..many {
-        if numbers.push(at).is_err() {
-            return Err(no_memory(0));
-        }
-    }
-    Ok(numbers)
 }
