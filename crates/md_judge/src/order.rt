@@ -116,7 +116,7 @@ impl Task<'_> {
             latest = latest.max(step.ticks.begin);
             trial.make(step, now)?;
         }
-        Ok(!trial.has_open(self.begin))
+        Ok(!self.steps.iter().any(|step| step.is_reading() && trial.is_open(step, self.begin)))
     }
 
     /// Makes so many tries at most, and as many more for each step, and for each 32 names that readings show. A try is a step of which it is

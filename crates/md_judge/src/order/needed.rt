@@ -6,7 +6,7 @@
 use super::asked::{ALL, Asked, LOOKS_A_TRY, Misfit, Name, Spot};
 use super::coming::touch;
 use super::left::Left;
-use super::trial::{Trial, later};
+use super::trial::Trial;
 use std::alloc::{AllocError, Global};
 use std::collections::BTreeSet;
 
@@ -94,7 +94,7 @@ impl Needed {
             let misfit = trial.misfit(step, now)?;
             match misfit {
                 None => self.meet(at, asleep),
-                Some(why) => self.changed = later(self.changed, trial.last_change(step, why)),
+                Some(why) => self.changed = self.changed.max(trial.last_change(step, why)),
             }
             self.reach_all(steps, left, step, misfit)?;
         }

@@ -235,11 +235,11 @@ impl<'a> Trial<'a> {
 
     /// The last moment at which what a call doesn't fit for was tried to change, if it was.
     pub(super) fn last_change(&self, asked: &Asked, why: Misfit) -> Option<usize> {
-        let change = moment_in(self.last_tried(why.spot));
+        let change = self.last_tried(why.spot).map(|(moment, _)| moment);
         if !why.is_of_reading {
             return change;
         }
-        later(change, moment_in(self.last_part(asked)))
+        change.max(self.last_part(asked).map(|(moment, _)| moment))
     }
 
     /// The reading that goes on, where it began before the stretch.
@@ -286,23 +286,10 @@ impl<'a> Trial<'a> {
         }
     }
 
-    /// Whether a reading that began at a moment or later goes on.
-    pub(super) fn has_open(&self, since: usize) -> bool {
-        let mut last = None;
-        for (then, part) in self.parts.iter() {
-            let reader = then.0;
-            if let Some((before, first)) = last
-                && before != reader
-                && is_from_moment(first, since)
-            {
-                return true;
-            }
-            last = Some((reader, part.first));
-        }
-        match last {
-            None => false,
-            Some((_, first)) => is_from_moment(first, since),
-        }
+    /// Whether the reading goes on, and began at a moment or later.
+    pub(super) fn is_open(&self, asked: &Asked, since: usize) -> bool {
+        self.last_part(asked)
+            .is_some_and(|(_, part)| part.first >= Some(since))
     }
 
     /// Makes a call that fits.
@@ -365,35 +352,14 @@ impl<'a> Trial<'a> {
     }
 }
 
-fn moment_in<T: Copy>(last: Option<(usize, T)>) -> Option<usize> {
-    let (moment, _) = last?;
-    Some(moment)
-}
-
-/// The later of two moments, or the one that there is.
-pub(super) fn later(one: Option<usize>, two: Option<usize>) -> Option<usize> {
-    match (one, two) {
-        (Some(one), Some(two)) => Some(one.max(two)),
-        (None, two) => two,
-        (one, None) => one,
-    }
-}
-
 fn path_then(spot: Spot, moment: usize) -> PathThen {
     (spot.directory, spot.name, moment)
-}
-
-fn is_from_moment(first: Option<usize>, since: usize) -> bool {
-    match first {
-        None => false,
-        Some(first) => first >= since,
-    }
 }
 
 /// Whether a path was there at a moment since the first of a reading.
 fn was_there_since(presence: Presence, first: usize) -> bool {
     match presence {
         Presence::There { .. } => true,
-        Presence::Gone { last } => is_from_moment(last, first),
+        Presence::Gone { last } => last >= Some(first),
     }
 }
