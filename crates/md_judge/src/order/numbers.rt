@@ -153,9 +153,8 @@ impl<'a> Numbers<'a> {
 
     /// Whether a reading showed a name.
     pub(super) fn has_shown(&self, reading: OpenReading<'_>, name: Name) -> bool {
-        match self.paths.get_index(name) {
-            None => false,
-            Some((key, _)) => reading.shows(key.1.as_slice()),
-        }
+        self.paths
+            .get_index(name)
+            .is_some_and(|(key, _)| reading.shows(key.1.as_slice()))
     }
 }

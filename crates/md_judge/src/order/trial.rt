@@ -116,13 +116,10 @@ impl<'a> Trial<'a> {
     fn misread(&mut self, asked: &Asked, now: usize) -> Result<Option<Misfit>, AllocError> {
         let begun = self.first(asked);
         let wrong = self.wrong_name(asked, begun.unwrap_or(now))?;
-        match wrong {
-            None => Ok(None),
-            Some(name) => Ok(Some(Misfit {
-                spot: Spot { name, ..asked.old },
-                is_of_reading: begun.is_some() || !asked.is_alone,
-            })),
-        }
+        Ok(wrong.map(|name| Misfit {
+            spot: Spot { name, ..asked.old },
+            is_of_reading: begun.is_some() || !asked.is_alone,
+        }))
     }
 
     /// A name that a part of a reading shows or lacks, and should not; `ALL` where the reply is none of a reading.
@@ -176,21 +173,14 @@ impl<'a> Trial<'a> {
 
     /// The first name that was there all the while, and that neither was gathered nor is shown by a reading of before.
     fn lacked(&mut self, of: Spot, first: usize, before: Option<OpenReading<'_>>) -> Option<Name> {
-        let mut looks = self.looks;
-        let mut lacked = None;
         for name in self.numbers.there(of.directory) {
             let name = *name;
-            looks = looks.saturating_add(1);
+            self.looks = self.looks.saturating_add(1);
             if self.lacks(Spot { name, ..of }, first, before) {
-                lacked = Some(name);
-                break;
+                return Some(name);
             }
         }
-        self.looks = looks;
-        match lacked {
-            None => self.lacked_of_tried(of, first, before),
-            Some(name) => Some(name),
-        }
+        self.lacked_of_tried(of, first, before)
     }
 
     /// The first such name of those that were tried.
@@ -220,16 +210,10 @@ impl<'a> Trial<'a> {
     fn lacks(&self, spot: Spot, first: usize, before: Option<OpenReading<'_>>) -> bool {
         match self.presence(spot) {
             Presence::There { since, .. } if since <= first => {
-                !self.shown.contains(&spot.name) && !self.was_shown(spot.name, before)
+                !self.shown.contains(&spot.name)
+                    && !before.is_some_and(|reading| self.numbers.has_shown(reading, spot.name))
             }
             _ => false,
-        }
-    }
-
-    fn was_shown(&self, name: Name, before: Option<OpenReading<'_>>) -> bool {
-        match before {
-            None => false,
-            Some(reading) => self.numbers.has_shown(reading, name),
         }
     }
 
@@ -244,12 +228,9 @@ impl<'a> Trial<'a> {
 
     /// The reading that goes on, where it began before the stretch.
     fn reading_before(&self, asked: &Asked, first: usize) -> Option<OpenReading<'a>> {
-        let reading = self.numbers.reading(asked.reader)?;
-        if reading.begun() == first {
-            Some(reading)
-        } else {
-            None
-        }
+        self.numbers
+            .reading(asked.reader)
+            .filter(|reading| reading.begun() == first)
     }
 
     /// Gathers the names that the parts of a reading show in the stretch, of which this one is the last.
