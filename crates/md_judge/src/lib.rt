@@ -5,13 +5,12 @@
 #![tactic(auto)]
 
 mod clauses;
-mod costs;
 mod grade;
 mod log;
 mod order;
+mod remarks;
 mod session;
 mod stretch;
-mod words;
 
 pub use grade::{GRADES, Grade};
 pub use log::{Finding, judge_log};

@@ -18,12 +18,11 @@ ghost use Rattle.md_judge.specs.Placed.{IsUnplaced, HasLines, HasWaiting, HasPla
 ghost use Rattle.md_judge.specs.Taken.{IsWithoutTicks, Agrees, Answers, AnswersAny, HasTaken, HasEnded, with_given, beside_law};
 
 use crate::clauses::Clauses;
-use crate::costs::Costs;
 use crate::grade::Grade;
 use crate::log::Finding;
 use crate::order::order;
+use crate::remarks::Remarks;
 use crate::stretch::{Stretch, Waiting};
-use crate::words::Passages;
 use md_dirs::Path;
 use md_log::{CLAUSES, Clause, Folders, Line, LineFault, LogFault, Step, name_folder, read_line};
 use md_text::is_passed_over;
@@ -45,8 +44,7 @@ pub struct Session {
     watch: Watch,
     allowed: Clauses,
     findings: Vec<Finding>,
-    passages: Passages,
-    costs: Costs,
+    remarks: Remarks,
     lines: u64,
     stretch: Stretch,
     /// The line of each entry of the watch: of the files and the further names of the beginning, and then of the steps.
@@ -79,8 +77,7 @@ impl Session {
             watch: Watch::new(alloc),
             allowed: Clauses::none(),
             findings: Vec::new(alloc),
-            passages: Passages::new(alloc),
-            costs: Costs::new(alloc),
+            remarks: Remarks::new(alloc),
             lines: 0,
             stretch: Stretch::new(alloc),
             entries: Vec::new(alloc),
@@ -166,8 +163,7 @@ impl Session {
                 findings.push(*finding)?;
             }
         }
-        self.passages.sort(&order)?;
-        self.costs.sort(&order)?;
+        self.remarks.sort(&order)?;
         self.findings = findings;
         Ok(())
     }
@@ -188,12 +184,12 @@ impl Session {
 
     /// The actor and the call of a finding, by its number from 0, as the log spells them. The names that a `list` line shows are left out.
     pub fn words(&self, finding: usize) -> (&[u8], &[u8]) {
-        self.passages.words(finding)
+        self.remarks.words(finding)
     }
 
     /// What a finding costs, by its number from 0. That an actor removed a message as its user wished is known once he says so.
     pub fn grade(&self, finding: usize) -> Grade {
-        self.costs.grade(finding)
+        self.remarks.grade(finding)
     }
 
     /// Hands out what was found. The session is not to be asked any more.
@@ -360,7 +356,7 @@ impl Session {
         for clause in CLAUSES {
             self.note(line, clause, step, &broken, text)?;
         }
-        self.costs.hear(step)?;
+        self.remarks.hear(step)?;
         Ok(broken.breaks(Clause::NotADirectory))
     }
 
@@ -389,8 +385,7 @@ impl Session {
                 clause,
                 before,
             })?;
-            self.passages.add(text)?;
-            self.costs.add(clause, step, broken)?;
+            self.remarks.add(clause, step, broken, text)?;
         }
         Ok(())
     }

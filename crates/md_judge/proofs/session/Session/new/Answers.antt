@@ -14,9 +14,9 @@ returns c = record {
       folders = c.new.ensures;
       housed = refl;
       begun = refl;
-      steps = c.new-6.ensures.waits;
-      lines = c.new-6.ensures.lines;
-      moved = c.new-6.ensures.moved;
+      steps = c.new-5.ensures.waits;
+      lines = c.new-5.ensures.lines;
+      moved = c.new-5.ensures.moved;
       findings = c.new-3.ensures.items;
       holds = c.new-2.ensures;
       allowed = λ o. (λ is. absurd (c.none.ensures o is), λ is. absurd (let at = is.1 in cc at));
