@@ -1,5 +1,5 @@
 -- What a call that gives a value says.
-use Rattle.std.proofs.Common.{◌≡◌, Result, Ok, Err, OnOk, is_ok, true}
+use Rattle.std.proofs.Common.{◌≡◌, Result, Ok, Err, OnOk, is_ok}
 
 -- what follows from what holds where a call gives a value holds there
 pub on-ok-by : {A E : Type 0} (r : Result A E) (Q : Type 0) → (((P : Type 0) → OnOk r P → P) → Q) → OnOk r Q
@@ -32,10 +32,6 @@ ok-both (Ok x) p q so = so p q
 ok-both (Err e) p q so = tt
 
 -- what holds where a call gives a value
-pub holds-ok : {A E P : Type 0} (r : Result A E) → true ≡ is_ok r → OnOk r P → P
-holds-ok (Ok x) ok holds = holds
-holds-ok (Err e) ok holds = absurd (cc ok)
-
 pub holds-at : {A E P : Type 0} (r : Result A E) (x : A) → r ≡ Ok x → OnOk r P → P
 holds-at (Ok y) x is holds = holds
 holds-at (Err e) x is holds = absurd (cc is)

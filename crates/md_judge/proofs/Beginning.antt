@@ -20,7 +20,7 @@ pub record IsBeginning (l : Log) (s : Session) : Type 0 where
   pub begun : s.has_begun ≡ false
   pub steps : s.stretch.steps.items ≡ []
   pub lines : s.stretch.lines.items ≡ []
-  pub moved : s.stretch.moved.entries ≡ []
+  pub moved : s.stretch.moved ≡ false
   pub findings : s.findings.items ≡ []
   pub holds : Holds (beginning l) s.watch
   pub allowed : (c : Clause) → Has s.allowed c ↔ IsAllowed l c
@@ -139,7 +139,7 @@ allows l s t c is folders begun stretch findings watch adds = record {
   begun = begun ∙ is.begun;
   steps = ap (λ (x : Stretch). x.steps.items) stretch ∙ is.steps;
   lines = ap (λ (x : Stretch). x.lines.items) stretch ∙ is.lines;
-  moved = ap (λ (x : Stretch). x.moved.entries) stretch ∙ is.moved;
+  moved = ap (λ (x : Stretch). x.moved) stretch ∙ is.moved;
   findings = findings ∙ is.findings;
   holds = subst (λ w. Holds (beginning l) w) (sym watch) is.holds;
   allowed = more-allowed l s.allowed t.allowed c is.allowed adds;
@@ -156,7 +156,7 @@ begins l l' s t is steps allowed folders begun stretch findings same holds house
   begun = begun ∙ is.begun;
   steps = ap (λ (x : Stretch). x.steps.items) stretch ∙ is.steps;
   lines = ap (λ (x : Stretch). x.lines.items) stretch ∙ is.lines;
-  moved = ap (λ (x : Stretch). x.moved.entries) stretch ∙ is.moved;
+  moved = ap (λ (x : Stretch). x.moved) stretch ∙ is.moved;
   findings = findings ∙ is.findings;
   holds = holds;
   allowed = λ c. (

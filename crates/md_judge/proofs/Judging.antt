@@ -1,5 +1,5 @@
 -- What a session has judged, as it judges one more step.
-use Rattle.std.proofs.Common.{ℕ, suc, ◌≡◌, ◌≢◌, ◌<◌, ◌≤◌, ◌+◌, inl, inr, ◌↔◌, List, [], ◌∷◌, ◌++◌, Some, None, length, slice_get, refl, sym, ap, subst, ◌∙◌, arith}
+use Rattle.std.proofs.Common.{ℕ, suc, ◌≡◌, ◌≢◌, ◌<◌, ◌≤◌, ◌+◌, inl, inr, ◌↔◌, List, [], ◌∷◌, ◌++◌, Some, None, length, slice_get, refl, sym, ap, subst, ◌∙◌, arith, false}
 use Rattle.std.proofs.lemmas.List.{length_push}
 use Rattle.std.proofs.lemmas.Option.{slice_get_within}
 use Rattle.std.proofs.lemmas.Bool.{cases_lt}
@@ -53,7 +53,7 @@ module _ (number : ℕ) (l m : Log) (order : List ℕ) (i : ℕ) (x y : Numbered
         absurd (comes.fresh finding.1.0 (finding.1.3 ∙ ap Some place))
 
     -- where no step was moved, all findings are of earlier lines
-    all-earlier : s.stretch.moved.entries ≡ [] → i ≡ length order → AreEarlier s.findings.items y.number 0
+    all-earlier : s.stretch.moved ≡ false → i ≡ length order → AreEarlier s.findings.items y.number 0
     all-earlier unmoved last k f is =
         let finding : IsFindingIn order l m f.line f.clause = (judged.found f.line f.clause).0 (k, f, is, refl, refl) in
         let within = slice_get_within order finding.1.0 finding.1.1 finding.1.3 in
@@ -62,8 +62,8 @@ module _ (number : ℕ) (l m : Log) (order : List ℕ) (i : ℕ) (x y : Numbered
 
     -- a session that judges the next step has judged it with the others
     pub judged-next : (t : Session) → Judges past y.number y.step s t
-        → (t.stretch.moved.entries ≡ [] → (x.number ≡ y.number) × (s.stretch.moved.entries ≡ []))
-        → (y.step.ticks ≢ None → NotADirectory (next past y.step) → ⊥) → (HasNoTicks l → t.stretch.moved.entries ≡ [])
+        → (t.stretch.moved ≡ false → (x.number ≡ y.number) × (s.stretch.moved ≡ false))
+        → (y.step.ticks ≢ None → NotADirectory (next past y.step) → ⊥) → (HasNoTicks l → t.stretch.moved ≡ false)
         → HasJudged number l (order ++ i ∷ []) m' t
     judged-next t judges moved fits plain = record {
       may = order-next l order i judged.may comes (slice_get_within l.steps i y there);

@@ -151,8 +151,8 @@ module _ (number : ℕ) (l : Log) (x : Step) where
           read = lines-longer number l x s settled.read t keeps.folders;
           judged = judged-next (suc number) longer m order i one one s (lines-longer number l x s settled.read s refl)
               (judged-longer number l x s settled.read order m (omega (arith, all)) settled.judged) here here (comes-next s settled none) t
-              judges (λ unmoved. (refl, (λ k. (sym keeps.stretch k).moved.entries) ∙ unmoved)) (λ ticks wrong. ticks none)
-              (λ plain. (λ k. (keeps.stretch k).moved.entries)
+              judges (λ unmoved. (refl, (λ k. (sym keeps.stretch k).moved) ∙ unmoved)) (λ ticks wrong. ticks none)
+              (λ plain. (λ k. (keeps.stretch k).moved)
               ∙ settled.judged.plain (λ k y is. plain k y (first-are l.steps one k y is)));
           placed = λ a j is. elim (one-more order i a j is) [
             | inl was ↦ let low = settled.judged.may.within a j was in omega (arith, low, long, all)

@@ -251,9 +251,9 @@ judged-on number l order m s t watch allowed findings moved judged = record {
   allowed = λ c. subst (λ (a : Clauses). Has a c ↔ IsAllowed l c) (sym allowed) (judged.allowed c);
   found = λ n c. subst (λ (fs : List Finding). IsAmong fs n c ↔ IsFindingIn order l m n c) (sym findings) (judged.found n c);
   at_lines = subst (λ (fs : List Finding). AreInOrderAtLines fs) (sym findings) judged.at_lines;
-  unmoved = λ none. judged.unmoved ((λ i. (sym moved i).entries) ∙ none);
-  ordered = λ none. subst (λ (fs : List Finding). AreInOrder fs) (sym findings) (judged.ordered ((λ i. (sym moved i).entries) ∙ none));
-  plain = λ none. (λ i. (moved i).entries) ∙ judged.plain none;
+  unmoved = λ none. judged.unmoved (sym moved ∙ none);
+  ordered = λ none. subst (λ (fs : List Finding). AreInOrder fs) (sym findings) (judged.ordered (sym moved ∙ none));
+  plain = λ none. moved ∙ judged.plain none;
 }
 
 -- a session that has placed all has settled

@@ -1,5 +1,5 @@
 -- What a session holds that has read a log in which calls may overlap.
-use Rattle.std.specs.Prelude.{ℕ, suc, ◌≡◌, ◌≢◌, ◌<◌, ◌+◌, ◌↔◌, ◌⊎◌, List, [], ◌++◌, ◌∷◌, Option, Some, None, length, slice_get}
+use Rattle.std.specs.Prelude.{ℕ, suc, ◌≡◌, ◌≢◌, ◌<◌, ◌+◌, ◌↔◌, ◌⊎◌, List, [], ◌++◌, ◌∷◌, Option, Some, None, length, slice_get, false}
 use Rattle.md_log.specs.declared.clause.Clause.{Clause}
 use Rattle.md_log.specs.declared.error.LineFault.{LineFault}
 use Rattle.md_log.specs.declared.error.LineFault.TheVariants.{NoMemory, NoOrder, TooManyOrders}
@@ -86,9 +86,9 @@ pub record HasJudged (number : ℕ) (l : Log) (order : List ℕ) (m : Log) (s : 
   pub allowed : (c : Clause) → Has s.allowed c ↔ IsAllowed l c
   pub found : (n : ℕ) (c : Clause) → IsAmong s.findings.items n c ↔ IsFindingIn order l m n c
   pub at_lines : AreInOrderAtLines s.findings.items
-  pub unmoved : s.stretch.moved.entries ≡ [] → (a i : ℕ) → slice_get order a ≡ Some i → i ≡ a
-  pub ordered : s.stretch.moved.entries ≡ [] → AreInOrder s.findings.items
-  pub plain : HasNoTicks l → s.stretch.moved.entries ≡ []
+  pub unmoved : s.stretch.moved ≡ false → (a i : ℕ) → slice_get order a ≡ Some i → i ≡ a
+  pub ordered : s.stretch.moved ≡ false → AreInOrder s.findings.items
+  pub plain : HasNoTicks l → s.stretch.moved ≡ false
 
 -- The step at a place of a log may come next in an order.
 pub record MayComeNext (l : Log) (order : List ℕ) (i : ℕ) : Type 0 where

@@ -1,5 +1,5 @@
 //! A log whose lines come one by one.
-ghost use Rattle.std.specs.Prelude.{ℕ, suc, ◌≡◌, ◌≢◌, ◌+◌, ◌<◌, ◌↔◌, List, ◌++◌, ◌∷◌, [], Some, None, Ok, Err, true, is_ok, IsTrue, OnOk, IfOk, IfErr, length, slice_get};
+ghost use Rattle.std.specs.Prelude.{ℕ, suc, ◌≡◌, ◌≢◌, ◌+◌, ◌<◌, ◌↔◌, List, ◌++◌, ◌∷◌, [], Some, None, Ok, Err, true, false, is_ok, IsTrue, OnOk, IfOk, IfErr, length, slice_get};
 ghost use Rattle.md_log.specs.declared.clause.Clause.{Clause};
 ghost use Rattle.md_log.specs.declared.clause.Clause.TheVariants.{NotADirectory};
 ghost use Rattle.md_log.specs.declared.error.LineFault.TheVariants.{NoMemory};
@@ -133,7 +133,7 @@ impl Session {
 
     /// Judges what waits, and puts the findings in the order of their lines.
     fn finish(&mut self) -> Result<(), LogFault>
-        ensures still { self.old.stretch.steps.items ≡ [] → self.old.stretch.moved.entries ≡ [] → (result ≡ Ok tt) × (self.new ≡ self.old) }
+        ensures still { self.old.stretch.steps.items ≡ [] → self.old.stretch.moved ≡ false → (result ≡ Ok tt) × (self.new ≡ self.old) }
         ensures found { (number : ℕ) (l : Log) → HasWaiting number l self.old → OnOk result (AreFoundInOrder l self.new.findings.items) }
         ensures ordered { (number : ℕ) (l : Log) → HasWaiting number l self.old → OnOk result (AreInOrder self.new.findings.items) }
         ensures refused { IfErr result (λ e. IsUnplaced e.fault) }
@@ -330,7 +330,7 @@ impl Session {
     {
         let moment = self.stretch.line(place);
         let line = self.stretch.line(at);
-        done_at(line, self.stretch.place(moment, line))?;
+        self.stretch.place(moment, line);
         let Some(waiting) = self.stretch.take(at) else {
             return Err(fault_at(line, LineFault::NoOrder));
         };

@@ -1,10 +1,9 @@
 //! Steps with ticks that follow one another in a log, and wait for an order.
-ghost use Rattle.std.specs.Prelude.{◌≡◌, ◌↔◌, [], Some, IsTrue, IfSome, OnOk, length, slice_get, unwrap_or};
+ghost use Rattle.std.specs.Prelude.{◌≡◌, ◌↔◌, [], Some, false, IsTrue, IfSome, OnOk, length, slice_get, unwrap_or};
 ghost use Rattle.md_judge.specs.Placed.{AddsWaiting, TakesAt, KeepsTicks, ticks_of};
 
 use md_log::{Step, Ticks};
 use std::alloc::{AllocError, Global};
-use std::collections::BTreeMap;
 
 #[derive(Drop)]
 pub(crate) struct Waiting {
@@ -12,24 +11,24 @@ pub(crate) struct Waiting {
     pub(crate) text: Vec<u8>,
 }
 
-/// The steps that wait, and the lines of those that were placed elsewhere than they stand.
+/// The steps that wait, their lines, and whether a step of this or an earlier stretch was placed elsewhere than it stands.
 #[derive(Drop)]
 pub(crate) struct Stretch {
     steps: Vec<Option<Waiting>>,
     lines: Vec<usize>,
-    moved: BTreeMap<usize, u64>,
+    moved: bool,
 }
 
 impl Stretch {
     pub(crate) fn new(alloc: Global) -> Self
         ensures waits { result.steps.items ≡ [] }
         ensures lines { result.lines.items ≡ [] }
-        ensures moved { result.moved.entries ≡ [] }
+        ensures moved { result.moved ≡ false }
     {
         Stretch {
             steps: Vec::new(alloc),
             lines: Vec::new(alloc),
-            moved: BTreeMap::new(alloc),
+            moved: false,
         }
     }
 
@@ -41,9 +40,9 @@ impl Stretch {
 
     /// Whether each step so far was placed where it stands.
     pub(crate) fn is_in_order(&self) -> bool
-        ensures { IsTrue result ↔ (self.now.moved.entries ≡ []) }
+        ensures { IsTrue result ↔ (self.now.moved ≡ false) }
     {
-        self.moved.is_empty()
+        !self.moved
     }
 
     pub(crate) fn steps(&self) -> &[Option<Waiting>]
@@ -110,15 +109,14 @@ impl Stretch {
         self.steps.get_mut(at)?.take()
     }
 
-    pub(crate) fn place(&mut self, moment: u64, line: u64) -> Result<(), AllocError>
-        ensures moved { OnOk result (self.new.moved.entries ≡ [] → (moment ≡ line) × (self.old.moved.entries ≡ [])) }
+    pub(crate) fn place(&mut self, moment: u64, line: u64)
+        ensures moved { self.new.moved ≡ false → (moment ≡ line) × (self.old.moved ≡ false) }
         ensures steps { self.new.steps ≡ self.old.steps }
         ensures lines { self.new.lines ≡ self.old.lines }
     {
         if moment != line {
-            self.moved.insert(moment as usize, line)?;
+            self.moved = true;
         }
-        Ok(())
     }
 
     pub(crate) fn clear(&mut self)

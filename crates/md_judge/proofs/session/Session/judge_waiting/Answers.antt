@@ -11,7 +11,7 @@ use Rattle.md_judge.specs.declared.session.Session.{Session}
 use Rattle.md_judge.specs.declared.stretch.Waiting.{Waiting}
 use Rattle.md_judge.specs.Placed.{Judges}
 use Rattle.md_judge.specs.Verdict.{history}
-use Rattle.md_judge.proofs.Answering.{holds-ok, holds-at}
+use Rattle.md_judge.proofs.Answering.{holds-at}
 use Rattle.md_judge.proofs.Judging.{judged-next}
 use Rattle.md_judge.proofs.session.Session.judge_waiting.Goals as goal
 
@@ -42,8 +42,7 @@ returns-in-Ok-false-clause-judged c = λ number l m order i x y read judged next
       judged-next number l m order i x y s read judged next.here next.there next.comes t
           (record { allowed = judges.allowed; holds = judges.holds; found = judges.found; ordered = judges.ordered; at_lines = judges.at_lines })
           (λ none.
-          let before = holds-ok c.place.result c.in_ok-done_at.ensures.variant c.place.ensures.moved
-          ((λ k. (sym c.take.ensures.moved k).entries) ∙ (λ k. (sym keeps.stretch k).moved.entries) ∙ none) in
+          let before = c.place.ensures.moved (sym c.take.ensures.moved ∙ (λ k. (sym keeps.stretch k).moved) ∙ none) in
           (sym moment ∙ before.0 ∙ line, before.1))
           (λ _ wrong. let is = (IfOk-at_ok (λ w. IsTrue w ↔ Breaks clause.NotADirectory (going past c.in-Some.waiting.step)) c.in-Ok-false.is (call.wrong past judged.holds)).1
           (subst (λ (z : Step). NotADirectory (going past z)) (sym step) wrong) in let not = c.in-Ok-false.field-0-test in cc (is, not))
