@@ -76,10 +76,7 @@ impl Asked {
     }
 
     pub(super) fn is_reading(&self) -> bool {
-        match self.deal {
-            Deal::List => true,
-            _ => false,
-        }
+        matches!(self.deal, Deal::List)
     }
 
     /// Whether the call changes nothing, so that, made at once where it fits, it leaves each later call as free as before.

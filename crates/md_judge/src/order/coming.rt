@@ -10,9 +10,13 @@ pub(super) type Touch = (usize, Name, usize);
 #[derive(Drop)]
 pub(super) struct Coming {
     way: Way,
-    all: BTreeSet<usize>,
-    first: BTreeSet<usize>,
-    touching: BTreeSet<Touch>,
+    /// The steps, in the order of the log.
+    pub(super) all: BTreeSet<usize>,
+    /// Those that go first where they fit, since they change nothing: on the wide way parts of readings alone, which leave the later
+    /// stretches as free as they can.
+    pub(super) first: BTreeSet<usize>,
+    /// The paths that they name.
+    pub(super) touching: BTreeSet<Touch>,
 }
 
 impl Coming {
@@ -23,22 +27,6 @@ impl Coming {
             first: BTreeSet::new(alloc),
             touching: BTreeSet::new(alloc),
         }
-    }
-
-    /// The steps, in the order of the log.
-    pub(super) fn all(&self) -> &BTreeSet<usize> {
-        &self.all
-    }
-
-    /// Those that go first where they fit, since they change nothing: on the wide way parts of readings alone, which leave the later
-    /// stretches as free as they can.
-    pub(super) fn first(&self) -> &BTreeSet<usize> {
-        &self.first
-    }
-
-    /// The paths that they name.
-    pub(super) fn touching(&self) -> &BTreeSet<Touch> {
-        &self.touching
     }
 
     pub(super) fn add(&mut self, at: usize, step: &Asked) -> Result<(), AllocError> {
@@ -67,6 +55,6 @@ impl Coming {
 }
 
 /// What stands for a path that the step `at` names.
-pub(super) fn touch(spot: Spot, at: usize) -> Touch {
+fn touch(spot: Spot, at: usize) -> Touch {
     (spot.directory, spot.name, at)
 }

@@ -12,7 +12,7 @@ pub(super) struct Left<'a> {
     by_begin: BTreeSet<(u64, usize)>,
     by_end: BTreeSet<(u64, usize)>,
     /// Those that may come next: all that begin up to a tick.
-    coming: Coming,
+    pub(super) coming: Coming,
     until: u64,
 }
 
@@ -44,10 +44,6 @@ impl Left<'_> {
     pub(super) fn must_come(&self) -> Option<usize> {
         let (_, at) = self.by_end.first()?;
         Some(*at)
-    }
-
-    pub(super) fn coming(&self) -> &Coming {
-        &self.coming
     }
 
     pub(super) fn take(&mut self, at: usize, step: &Asked) -> Result<(), AllocError> {

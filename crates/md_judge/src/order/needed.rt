@@ -4,7 +4,6 @@
 //! that fits, those that have to do with it. Only steps that may come before the one that ends first are looked at. So until a needed step
 //! comes, none that doesn't fit will fit, and each that fits does the same as now.
 use super::asked::{ALL, Asked, LOOKS_A_TRY, Misfit, Name, Spot};
-use super::coming::touch;
 use super::left::Left;
 use super::trial::Trial;
 use std::alloc::{AllocError, Global};
@@ -59,7 +58,7 @@ impl Needed {
         left: &Left<'_>,
         now: usize,
     ) -> Result<Option<usize>, AllocError> {
-        for at in left.coming().first().iter() {
+        for at in left.coming.first.iter() {
             if let Some(step) = steps.get(*at) {
                 self.count(1);
                 if trial.misfit(step, now)?.is_none() {
@@ -147,23 +146,12 @@ impl Needed {
         spot: Spot,
         on: (&Asked, Option<Misfit>),
     ) -> Result<(), AllocError> {
-        let begin = if spot.name == ALL { 0 } else { spot.name };
-        self.reach_from(
-            steps,
-            left,
-            (
-                Spot {
-                    name: begin,
-                    ..spot
-                },
-                spot.name,
-            ),
-            on,
-        )?;
+        let first = if spot.name == ALL { 0 } else { spot.name };
+        self.reach_from(steps, left, (spot.directory, first, spot.name), on)?;
         if spot.name == ALL {
             return Ok(());
         }
-        self.reach_from(steps, left, (Spot { name: ALL, ..spot }, ALL), on)
+        self.reach_from(steps, left, (spot.directory, ALL, ALL), on)
     }
 
     /// Those of them that name one of the names of a directory from the first to the last of these.
@@ -171,13 +159,12 @@ impl Needed {
         &mut self,
         steps: &[Asked],
         left: &Left<'_>,
-        (from, last): (Spot, Name),
+        (of, first, last): (usize, Name, Name),
         (step, misfit): (&Asked, Option<Misfit>),
     ) -> Result<(), AllocError> {
-        let from = touch(from, 0);
         let mut looks = 0;
-        for (directory, name, at) in left.coming().touching().range(from..) {
-            if *directory != from.0 || *name > last {
+        for (directory, name, at) in left.coming.touching.range((of, first, 0)..) {
+            if *directory != of || *name > last {
                 break;
             }
             looks = usize::saturating_add(looks, 1);

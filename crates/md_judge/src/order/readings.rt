@@ -1,5 +1,5 @@
 //! Which parts of readings stand alone: no other part of a reading of the same directory by the same actor overlaps them.
-use super::asked::{Asked, Deal};
+use super::asked::Asked;
 use std::alloc::{AllocError, Global};
 use std::collections::BTreeSet;
 
@@ -14,11 +14,11 @@ pub(super) fn mark_alone(alloc: Global, steps: &mut [Asked]) -> Result<(), Alloc
     Ok(())
 }
 
-/// The readers of whom two parts overlap.
+/// The readers of whom two parts overlap. Then two overlap that stand one after the other, since no part ends before it begins.
 fn mixed_readers(alloc: Global, steps: &[Asked]) -> Result<BTreeSet<usize>, AllocError> {
     let mut parts = BTreeSet::new(alloc);
     for (at, step) in steps.iter().enumerate() {
-        if let Deal::List = step.deal {
+        if step.is_reading() {
             parts.insert((step.reader, step.ticks.begin, at, step.ticks.end))?;
         }
     }
@@ -26,21 +26,13 @@ fn mixed_readers(alloc: Global, steps: &[Asked]) -> Result<BTreeSet<usize>, Allo
     let mut last = None;
     for (reader, begin, _, end) in parts.iter() {
         let (reader, begin, end) = (*reader, *begin, *end);
-        let latest = latest_end(last, reader);
-        if let Some(latest) = latest
+        if let Some((before, latest)) = last
+            && reader == before
             && begin <= latest
         {
             mixed.insert(reader)?;
         }
-        last = Some((reader, end.max(latest.unwrap_or(0))));
+        last = Some((reader, end));
     }
     Ok(mixed)
-}
-
-/// The latest end of the parts so far, if they are of this reader.
-fn latest_end(last: Option<(usize, u64)>, of: usize) -> Option<u64> {
-    match last {
-        Some((reader, end)) if reader == of => Some(end),
-        _ => None,
-    }
 }

@@ -104,7 +104,7 @@ impl Search<'_> {
     fn mark_deepest(&mut self) {
         let depth = self.places.len();
         if depth >= self.deepest
-            && let Some(first) = self.left.coming().all().first()
+            && let Some(first) = self.left.coming.all.first()
         {
             self.stuck = *first;
             self.deepest = depth.saturating_add(1);
@@ -163,7 +163,7 @@ impl Search<'_> {
         let asleep = self.places.asleep(position);
         let mut passed = 0;
         let mut found = None;
-        for at in self.left.coming().all().range(from..) {
+        for at in self.left.coming.all.range(from..) {
             if !asleep.contains(at) {
                 found = Some(*at);
                 break;
