@@ -6,9 +6,9 @@ use Rattle.md_log.specs.declared.clause.Clause.{Clause}
 use Rattle.md_log.specs.declared.line.Step.{Step}
 use Rattle.md_law.specs.Clauses.{NotADirectory}
 use Rattle.md_law.specs.Law.{Breaks}
-use Rattle.md_judge.specs.Logs.{Log, Numbered}
+use Rattle.md_judge.specs.Logs.{Log, Numbered, with_step}
 use Rattle.md_judge.specs.Orders.{AreOfOneStretch, IsOrder, IsReordered, Fits, IsFindingIn}
-use Rattle.md_judge.specs.Placed.{MayComeNext, with_next}
+use Rattle.md_judge.specs.Placed.{MayComeNext}
 use Rattle.md_judge.specs.Verdict.{history, IsAllowed}
 use Rattle.md_judge.proofs.Lists.{last-is, first-are, same-step, one-more}
 use Rattle.md_judge.proofs.Telling.{pushed, history-same}
@@ -114,7 +114,7 @@ module _ (l : Log) (order : List ℕ) (i : ℕ) where
     one = record { number = x.number; step = y.step }
 
     abbrev m' : Log
-    m' = with_next m x y
+    m' = with_step m x.number y.step
 
     -- it gives the log with the step
     pub same-next : IsReordered next l m'

@@ -12,10 +12,10 @@ use Rattle.md_watch.specs.Watches.{Holds}
 use Rattle.md_judge.specs.declared.clauses.Clauses.{Clauses}
 use Rattle.md_judge.specs.declared.session.Session.{Session}
 use Rattle.md_judge.specs.Clauses.{Has}
-use Rattle.md_judge.specs.Logs.{Log, Numbered}
+use Rattle.md_judge.specs.Logs.{Log, Numbered, with_step}
 use Rattle.md_judge.specs.Orders.{IsFindingIn}
 use Rattle.md_judge.specs.Verdict.{history, HasNoTicks, AreEarlier, AreInOrder}
-use Rattle.md_judge.specs.Placed.{AreInOrderAtLines, AreBelowAtLine, MayComeNext, HasLines, HasJudged, Judges, with_next, with_step}
+use Rattle.md_judge.specs.Placed.{AreInOrderAtLines, AreBelowAtLine, MayComeNext, HasLines, HasJudged, Judges}
 use Rattle.md_judge.proofs.InOrder.{order-longer, same-longer, found-longer, order-next, same-next, found-next, fits-next}
 use Rattle.md_judge.proofs.Lists.{one-more, first-are}
 use Rattle.md_judge.proofs.Telling.{history-next}
@@ -33,7 +33,7 @@ module _ (number : ℕ) (l m : Log) (order : List ℕ) (i : ℕ) (x y : Numbered
   ]
 
   abbrev m' : Log
-  m' = with_next m x y
+  m' = with_step m x.number y.step
 
   -- the history before the step, and after it
   abbrev past : History

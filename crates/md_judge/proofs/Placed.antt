@@ -12,10 +12,10 @@ use Rattle.md_log.specs.declared.line.ticks.Ticks.{Ticks}
 use Rattle.md_judge.specs.declared.log.Finding.{Finding}
 use Rattle.md_judge.specs.declared.session.Session.{Session}
 use Rattle.md_judge.specs.declared.stretch.Stretch.{Stretch}
-use Rattle.md_judge.specs.Logs.{Log, Numbered, with_line}
+use Rattle.md_judge.specs.Logs.{Log, Numbered, with_line, with_step}
 use Rattle.md_judge.specs.Orders.{AreFoundInOrder, IsFindingIn}
 use Rattle.md_judge.specs.Verdict.{HasNoTicks, IsAmong}
-use Rattle.md_judge.specs.Placed.{IsUnplaced, AddsWaiting, AreWaiting, MayComeNext, HasWaiting, HasPlaced, HasSettled, KeepsHead, Judges, with_next, with_step}
+use Rattle.md_judge.specs.Placed.{IsUnplaced, AddsWaiting, AreWaiting, MayComeNext, HasWaiting, HasPlaced, HasSettled, KeepsHead, Judges}
 use Rattle.md_judge.specs.Verdict.{history}
 use Rattle.md_judge.proofs.Judging.{judged-next, judged-longer, lines-longer}
 use Rattle.md_judge.proofs.Placing.{judged-on, waits-on}
@@ -147,7 +147,7 @@ module _ (number : ℕ) (l : Log) (x : Step) where
         begun = begun ∙ sym (begun-after l.steps one);
         waiting = record {
           order = order ++ i ∷ [];
-          log = with_next m one one;
+          log = with_step m number x;
           read = lines-longer number l x s settled.read t keeps.folders;
           judged = judged-next (suc number) longer m order i one one s (lines-longer number l x s settled.read s refl)
               (judged-longer number l x s settled.read order m (omega (arith, all)) settled.judged) here here (comes-next s settled none) t

@@ -10,10 +10,10 @@ use Rattle.md_watch.specs.Watches.{Holds}
 use Rattle.md_judge.specs.declared.clauses.Clauses.{Clauses}
 use Rattle.md_judge.specs.declared.log.Finding.{Finding}
 use Rattle.md_judge.specs.Clauses.{Has}
-use Rattle.md_judge.specs.Logs.{Log, Numbered}
+use Rattle.md_judge.specs.Logs.{Log, Numbered, with_step}
 use Rattle.md_judge.specs.Orders.{AreOfOneStretch, MayComeFirst, IsFindingIn}
 use Rattle.md_judge.specs.Verdict.{history, AreInOrder, IsAllowed, IsAmong}
-use Rattle.md_judge.specs.Placed.{ticks_of, KeepsTicks, TakesAt, AreInOrderAtLines, AreWaiting, IsNextStep, HasLines, HasJudged, HasWaiting, HasSettled, with_next}
+use Rattle.md_judge.specs.Placed.{ticks_of, KeepsTicks, TakesAt, AreInOrderAtLines, AreWaiting, IsNextStep, HasLines, HasJudged, HasWaiting, HasSettled}
 use Rattle.md_judge.proofs.Lists.{one-more, stands-at, no-more}
 use Rattle.std.proofs.lemmas.List.{length_push}
 use Rattle.std.proofs.lemmas.Option.{slice_get_within}
@@ -190,14 +190,14 @@ module _ (number : ℕ) (l : Log) (many : ℕ) (stretch : Stretch) (waits : AreW
 
   -- and then it is placed
   pub places-next : (t : Session) → TakesAt at s.stretch t.stretch → HasLines number l t
-      → HasJudged number l (p.order ++ (many + at) ∷ []) (with_next p.log first.0 other.0) t
+      → HasJudged number l (p.order ++ (many + at) ∷ []) (with_step p.log first.0.number other.0.step) t
       → IsPlacing number l many stretch chosen (k + 1) t
   places-next t takes read judged =
       let i : ℕ = many + at in
       let long = p.long in
       record {
         order = p.order ++ i ∷ [];
-        log = with_next p.log first.0 other.0;
+        log = with_step p.log first.0.number other.0.step;
         read = read;
         judged = judged;
         long = let more = length_push p.order i in omega (arith, more, long);

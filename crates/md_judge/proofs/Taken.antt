@@ -17,7 +17,7 @@ use Rattle.md_log.specs.declared.error.LineFault.TheVariants.{NoLog, NoMemory, N
 use Rattle.md_log.specs.declared.error.LogFault.{LogFault}
 use Rattle.md_judge.specs.declared.session.Session.{Session}
 use Rattle.md_text.specs.Words.{is_passed_over}
-use Rattle.md_judge.specs.Logs.{Log, Numbered, empty_log, has_begun, with_line, with_folder_line, with_text, with_lines, at_line, and_then, log_by, log_of}
+use Rattle.md_judge.specs.Logs.{Log, Numbered, empty_log, has_begun, with_line, with_folder_line, with_text, with_lines, at_line, log_by, log_of}
 use Rattle.md_judge.specs.Verdict.{AreInOrder, IsAmong, IsFinding, HasNoTicks}
 use Rattle.md_judge.specs.Orders.{AreFoundInOrder}
 use Rattle.md_judge.specs.Placed.{IsUnplaced, HasPlaced}
@@ -46,7 +46,7 @@ without-all texts l none is = none (length texts) l (ap log_by (take_all (length
 
 -- ---- one more line
 
-then-end : (n : ℕ) (r : Result Log LogFault) → and_then r (λ o. with_lines o n []) ≡ r
+then-end : (n : ℕ) (r : Result Log LogFault) → (r >>= (λ o. with_lines o n [])) ≡ r
 unfolding with_lines
 then-end n (Ok l) = refl
 then-end n (Err e) = refl
@@ -61,7 +61,7 @@ lines-then [] m l n text is =
 lines-then (one ∷ texts) m l n text is =
     let cut = lines-cut m l n one texts is in
     let here : suc n + length texts ≡ n + suc (length texts) = omega arith in
-    ap (λ (r : Result Log LineFault). and_then (at_line n r) (λ o. with_lines o (suc n) (texts ++ text ∷ []))) cut.1
+    ap (λ (r : Result Log LineFault). at_line n r >>= (λ o. with_lines o (suc n) (texts ++ text ∷ []))) cut.1
     ∙ lines-then texts cut.0 l (suc n) text cut.2 ∙ ap (λ k. at_line k (with_text l k text)) here
 
 -- after the lines of a log comes one that is added to it, or that is wrong
@@ -238,8 +238,8 @@ lines-wrong [] more m n e is = let is' : Ok m ≡ Err e = is in absurd (cc is')
 lines-wrong (one ∷ texts) more m n e is = by (λ o. lines-wrong texts more o (suc n) e) (with_text m n one) is
   where
     by : ((o : Log) → with_lines o (suc n) texts ≡ Err e → with_lines o (suc n) (texts ++ more) ≡ Err e) → (r : Result Log LineFault)
-        → and_then (at_line n r) (λ o. with_lines o (suc n) texts) ≡ Err e
-        → and_then (at_line n r) (λ o. with_lines o (suc n) (texts ++ more)) ≡ Err e
+        → (at_line n r >>= (λ o. with_lines o (suc n) texts)) ≡ Err e
+        → (at_line n r >>= (λ o. with_lines o (suc n) (texts ++ more))) ≡ Err e
     by next (Ok o) is = next o is
     by next (Err fault) is = is
 

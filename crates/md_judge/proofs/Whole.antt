@@ -16,7 +16,7 @@ use Rattle.md_log.specs.declared.line.Line.{Line}
 use Rattle.md_log.specs.declared.line.Line.TheVariants as line
 use Rattle.md_judge.specs.declared.session.Session.{Session}
 use Rattle.md_text.specs.Words.{is_passed_over}
-use Rattle.md_judge.specs.Logs.{Log, Numbered, empty_log, has_begun, with_line, with_text, with_folder_line, with_file_line, with_also_line, with_lines, at_line, and_then, log_by}
+use Rattle.md_judge.specs.Logs.{Log, Numbered, empty_log, has_begun, with_line, with_text, with_folder_line, with_file_line, with_also_line, with_lines, at_line, log_by}
 use Rattle.md_judge.specs.Placed.{HasPlaced}
 use Rattle.md_judge.specs.Taken.{HasTaken, with_given}
 use Rattle.md_judge.proofs.Placed.{counted-placed}
@@ -29,7 +29,7 @@ pub lines-cut : (m l : Log) (n : ℕ) (text : List ℕ) (texts : List (List ℕ)
 unfolding with_lines
 lines-cut m l n text texts is = by (with_text m n text) refl is
   where
-    by : (r : Result Log LineFault) → with_text m n text ≡ r → and_then (at_line n r) (λ o. with_lines o (suc n) texts) ≡ Ok l
+    by : (r : Result Log LineFault) → with_text m n text ≡ r → (at_line n r >>= (λ o. with_lines o (suc n) texts)) ≡ Ok l
         → (o : Log) × (with_text m n text ≡ Ok o) × (with_lines o (suc n) texts ≡ Ok l)
     by (Ok o) one is = (o, one, is)
     by (Err fault) one is = absurd (cc is)
@@ -124,7 +124,7 @@ lines-more (one ∷ texts) m l n text is =
     let rest = lines-more texts cut.0 l (suc n) text cut.2 in
     let same : suc n + length texts ≡ n + suc (length texts) = omega arith in (
       rest.0,
-      subst (λ (r : Result Log LineFault). and_then (at_line n r) (λ o. with_lines o (suc n) texts) ≡ Ok rest.0) (sym cut.1) rest.1,
+      subst (λ (r : Result Log LineFault). (at_line n r >>= (λ o. with_lines o (suc n) texts)) ≡ Ok rest.0) (sym cut.1) rest.1,
       subst (λ k. with_text rest.0 k text ≡ Ok l) same rest.2,
     )
 

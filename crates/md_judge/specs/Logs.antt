@@ -55,13 +55,17 @@ with_also_line l path old = do
   _ ← require (is_some (file_at l.opening old)) NoSuchPath
   Ok (record l { opening = with_path path l.opening (file_at l.opening old) })
 
+-- a log with one more step
+abbrev pub with_step : Log → ℕ → Step → Log
+with_step l number x = record l { steps = l.steps ++ record { number = number; step = x } ∷ [] }
+
 -- a log with one more line, of this number
 abbrev pub with_line : Log → ℕ → Line → Result Log LineFault
 with_line l number (line.Folder name) = with_folder_line l name
 with_line l number (line.Allow c) = Ok (record l { allowed = c ∷ l.allowed })
 with_line l number (line.File path stamp) = with_file_line l path stamp
 with_line l number (line.Also path old) = with_also_line l path old
-with_line l number (line.Step step) = Ok (record l { steps = l.steps ++ record { number = number; step = step } ∷ [] })
+with_line l number (line.Step step) = Ok (with_step l number step)
 
 -- the steps of the log have begun
 abbrev pub has_begun : Log → Bool
@@ -76,14 +80,10 @@ abbrev pub at_line : ℕ → Result Log LineFault → Result Log LogFault
 at_line number (Ok l) = Ok l
 at_line number (Err fault) = Err (record { line = number; fault = fault })
 
-abbrev pub and_then : Result Log LogFault → (Log → Result Log LogFault) → Result Log LogFault
-and_then (Ok l) f = f l
-and_then (Err fault) f = Err fault
-
 -- a log with the lines from a number on, or the first of them that is wrong
 unfoldable pub with_lines : Log → ℕ → List (List ℕ) → Result Log LogFault
 with_lines l number [] = Ok l
-with_lines l number (text ∷ texts) = and_then (at_line number (with_text l number text)) (λ l. with_lines l (suc number) texts)
+with_lines l number (text ∷ texts) = at_line number (with_text l number text) >>= (λ l. with_lines l (suc number) texts)
 
 -- the lines of a log: the first says that it is one
 abbrev pub log_by : List (List ℕ) → Result Log LogFault

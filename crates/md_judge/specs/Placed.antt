@@ -106,10 +106,6 @@ pub record IsNextStep (l : Log) (order : List ℕ) (i : ℕ) (x y : Numbered) (p
   pub waits : (w : Waiting) → slice_get stretch.steps.items at ≡ Some (Some w) → w.step ≡ y.step
   pub comes : MayComeNext l order i
 
--- the log that the order gives where this step comes next, at the line of the one that stood there
-abbrev pub with_next : Log → Numbered → Numbered → Log
-with_next m x y = record m { steps = m.steps ++ record { number = x.number; step = y.step } ∷ [] }
-
 -- A session has read the lines before this one, which are this log.
 pub record HasLines (number : ℕ) (l : Log) (s : Session) : Type 0 where
   pub folders : s.folders ≡ l.folders
@@ -141,10 +137,6 @@ pub record HasSettled (number : ℕ) (l : Log) (s : Session) : Type 0 where
   pub lines : s.stretch.lines.items ≡ []
 
 -- ---- how it goes on
-
--- a log with one more step
-abbrev pub with_step : Log → ℕ → Step → Log
-with_step l number x = record l { steps = l.steps ++ record { number = number; step = x } ∷ [] }
 
 -- a line of the beginning
 abbrev pub IsHead : Line → Type 0

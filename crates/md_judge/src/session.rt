@@ -11,10 +11,10 @@ ghost use Rattle.md_watch.specs.Watches.{Holds, PutsFile, PutsName, IsPathRefuse
 ghost use Rattle.md_judge.specs.declared.stretch.Waiting.{Waiting};
 ghost use Rattle.md_judge.specs.Clauses.{Has};
 ghost use Rattle.md_log.specs.Texts.{clause_index};
-ghost use Rattle.md_judge.specs.Logs.{Log, Numbered, log_by, at_line, with_line, with_text};
+ghost use Rattle.md_judge.specs.Logs.{Log, Numbered, log_by, at_line, with_line, with_step, with_text};
 ghost use Rattle.md_judge.specs.Verdict.{AreEarlier, AreInOrder, HasNoTicks, IsAmong, IsFinding};
 ghost use Rattle.md_judge.specs.Orders.{AreFoundInOrder};
-ghost use Rattle.md_judge.specs.Placed.{IsUnplaced, HasLines, HasWaiting, HasPlaced, HasSettled, HasJudged, AreInOrderAtLines, AreBelowAtLine, IsNextStep, TakesAt, AddsFinding, KeepsHead, KeepsBeginning, Judges, IsHead, with_next, with_step};
+ghost use Rattle.md_judge.specs.Placed.{IsUnplaced, HasLines, HasWaiting, HasPlaced, HasSettled, HasJudged, AreInOrderAtLines, AreBelowAtLine, IsNextStep, TakesAt, AddsFinding, KeepsHead, KeepsBeginning, Judges, IsHead};
 ghost use Rattle.md_judge.specs.Taken.{IsWithoutTicks, Agrees, Answers, AnswersAny, HasTaken, HasEnded, with_given, beside_law};
 
 use crate::clauses::Clauses;
@@ -322,7 +322,7 @@ impl Session {
     fn judge_waiting(&mut self, place: usize, at: usize) -> Result<(), LogFault>
         ensures judged { (number : ℕ) (l m : Log) (order : List ℕ) (i : ℕ) (x y : Numbered) → HasLines number l self.old
             → HasJudged number l order m self.old → IsNextStep l order i x y place at self.old.stretch → y.step.ticks ≢ None
-            → OnOk result (HasLines number l self.new × HasJudged number l (order ++ i ∷ []) (with_next m x y) self.new) }
+            → OnOk result (HasLines number l self.new × HasJudged number l (order ++ i ∷ []) (with_step m x.number y.step) self.new) }
         ensures had { OnOk result ((w : Waiting) × (slice_get self.old.stretch.steps.items at ≡ Some (Some w))) }
         ensures takes { OnOk result (TakesAt at self.old.stretch self.new.stretch) }
         ensures begun { OnOk result (self.new.has_begun ≡ self.old.has_begun) }

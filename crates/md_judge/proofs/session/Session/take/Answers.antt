@@ -2,8 +2,8 @@ use Rattle.std.proofs.Common.{suc, ◌≡◌, ◌++◌, ◌∷◌, [], Ok, OnOk,
 use Rattle.md_log.specs.declared.line.Line.TheVariants as line
 use Rattle.md_log.specs.declared.line.Step.{Step}
 use Rattle.md_log.specs.Lines.{line_of}
-use Rattle.md_judge.specs.Logs.{Log}
-use Rattle.md_judge.specs.Placed.{HasPlaced, with_step}
+use Rattle.md_judge.specs.Logs.{Log, with_step}
+use Rattle.md_judge.specs.Placed.{HasPlaced}
 use Rattle.md_judge.proofs.Lines.{text-over, text-line, none-yet, is-head}
 use Rattle.md_judge.proofs.Placed.{none-waits, over-placed, has-same}
 use Rattle.md_judge.proofs.Taken.{over-answers, step-answers, step-any, head-answers, head-wrong, text-wrong}
