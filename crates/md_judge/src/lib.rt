@@ -14,5 +14,5 @@ mod stretch;
 
 pub use grade::{GRADES, Grade};
 pub use log::{Finding, judge_log};
-pub use md_log::{CLAUSES, Clause, LAW, LineFault, LogFault, OWED};
+pub use md_log::{Clause, LAW, LineFault, LogFault, OWED};
 pub use session::Session;

@@ -21,8 +21,9 @@ pub struct Finding {
 }
 
 /// The findings of a log by the law, in the order of its lines, and at one line in the order of the law; or its first wrong line, or the line at
-/// which memory was refused. It takes one pass, in n log n, but that an answer that names flags looks once for each spelling of them in the
-/// log, mostly one or two.
+/// which memory was refused. It takes one pass, in n log n, but for two kinds of line. An answer that names flags looks once for each spelling
+/// of them in the log, mostly one or two. The last part of a reading, or of a listing, looks at each name of its directory: N names and M
+/// readings that are open at once cost N times M.
 pub fn judge_log(alloc: Global, log: &[u8]) -> Result<Vec<Finding>, LogFault>
     ensures found { IfOk result (λ found. (l : Log) → log_of log.now ≡ Ok l → HasNoTicks l
         → (number : ℕ) (c : Clause) → IsAmong found.items number c ↔ IsFinding (by_law l) number c) }

@@ -1,5 +1,5 @@
 //! A log whose lines come one by one.
-ghost use Rattle.std.specs.Prelude.{ℕ, suc, ◌≡◌, ◌≢◌, ◌+◌, ◌<◌, ◌↔◌, List, ◌++◌, ◌∷◌, [], Some, None, Ok, Err, true, false, is_ok, IsTrue, OnOk, IfOk, IfErr, length, slice_get};
+ghost use Rattle.std.specs.Prelude.{ℕ, suc, ◌≡◌, ◌≢◌, ◌+◌, ◌<◌, ◌↔◌, List, ◌++◌, ◌∷◌, [], Some, None, Ok, Err, true, false, is_ok, IsTrue, OnOk, IfOk, IfErr, slice_get};
 ghost use Rattle.md_log.specs.declared.clause.Clause.{Clause};
 ghost use Rattle.md_log.specs.declared.clause.Clause.TheVariants.{NotADirectory};
 ghost use Rattle.md_log.specs.declared.error.LineFault.TheVariants.{NoMemory};
@@ -208,9 +208,6 @@ impl Session {
         if is_passed_over(text) {
             return Ok(());
         }
-        if number > MOST_LINES {
-            return Err(fault_at(number, LineFault::NoMemory));
-        }
         let line = match read_line(self.alloc, &self.folders, self.has_begun, text) {
             Ok(line) => line,
             Err(fault) => return Err(fault_at(number, fault)),
@@ -397,20 +394,20 @@ impl Session {
     }
 }
 
-/// A line, as it is kept: it takes four bytes. A log has none past 4,294,967,294.
+/// A line, as it is kept: it takes four bytes.
 fn short(line: u64) -> u32 {
     u32::try_from(line).unwrap_or(u32::MAX)
 }
 
-/// The number of the next line. There is no memory for a line past 18,446,744,073,709,551,615.
+/// The number of the next line. There is no memory for a line past 4,294,967,294.
 fn next_line(line: u64) -> Result<u64, LogFault>
     ensures next { IfOk result (λ next. next ≡ line + 1) }
     ensures fault { IfErr result (λ e. e.fault ≡ NoMemory) }
 {
-    match line.checked_add(1) {
-        Some(next) => Ok(next),
-        None => Err(fault_at(line, LineFault::NoMemory)),
+    if line < MOST_LINES {
+        return Ok(line + 1);
     }
+    Err(fault_at(line.saturating_add(1), LineFault::NoMemory))
 }
 
 fn done_at(line: u64, done: Result<(), AllocError>) -> Result<(), LogFault>

@@ -22,12 +22,12 @@ returns-then-is_passed_over c = record {
 pub returns-in-Err-clause-answers : goal.returns-in-Err-clause-answers
 returns-in-Err-clause-answers c = λ l p plain.
     text-wrong c.args.number l c.args.self.now c.args.text.now c.in-Err.fault _ (has-same c.args.number l c.args.self.now p)
-    (sym c.is_passed_over.ensures ∙ c.if-is_passed_over.false) c.in-Err.ensures c.fault_at-in-Err.ensures
+    (sym c.is_passed_over.ensures ∙ c.if-is_passed_over.false) c.in-Err.ensures c.fault_at.ensures
 
 pub returns-in-Err-clause-answers_any : goal.returns-in-Err-clause-answers_any
 returns-in-Err-clause-answers_any c = λ l p known found few.
     text-wrong c.args.number l c.args.self.now c.args.text.now c.in-Err.fault _ (has-same c.args.number l c.args.self.now p)
-    (sym c.is_passed_over.ensures ∙ c.if-is_passed_over.false) c.in-Err.ensures c.fault_at-in-Err.ensures known
+    (sym c.is_passed_over.ensures ∙ c.if-is_passed_over.false) c.in-Err.ensures c.fault_at.ensures known
 
 pub returns-in-Step : goal.returns-in-Step
 returns-in-Step c = record {
