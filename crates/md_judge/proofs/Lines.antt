@@ -7,10 +7,8 @@ use Rattle.std.specs.Prelude.{if◌then◌else◌}
 use Rattle.md_dirs.specs.State.{State, file_at}
 use Rattle.md_dirs.specs.Calls.{empty_file, with_new_file, with_path}
 use Rattle.md_dirs.specs.declared.paths.Path.{Path}
-use Rattle.md_log.specs.Calls.{step_line}
 use Rattle.md_log.specs.Folders.{with_folder}
-use Rattle.md_log.specs.Heads.{head_of}
-use Rattle.md_log.specs.Lines.{line_of, line_by}
+use Rattle.md_log.specs.Lines.{head_of, step_line, line_of, line_by}
 use Rattle.md_log.specs.Words.{word_at}
 use Rattle.md_log.specs.declared.error.LineFault.{LineFault}
 use Rattle.md_log.specs.declared.error.LineFault.TheVariants.{SamePath, NoSuchPath}

@@ -2,9 +2,4 @@ pub mod Texts
 pub mod Words
 pub mod Names
 pub mod Folders
-pub mod Paths
-pub mod Heads
-pub mod Answers
-pub mod Ticks
-pub mod Calls
 pub mod Lines

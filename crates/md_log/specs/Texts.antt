@@ -28,49 +28,27 @@ fault_text fault.NoOrder = codes "no order"
 fault_text fault.TooManyOrders = codes "too many orders"
 fault_text fault.NoMemory = codes "no memory"
 
--- each clause by its name
-abbrev pub clause_text : Clause → List ℕ
-clause_text clause.NotADirectory = codes "NotADirectory"
-clause_text clause.Overwritten = codes "Overwritten"
-clause_text clause.SeenBeforeWhole = codes "SeenBeforeWhole"
-clause_text clause.Mixed = codes "Mixed"
-clause_text clause.NotFlushed = codes "NotFlushed"
-clause_text clause.TwoNames = codes "TwoNames"
-clause_text clause.Gone = codes "Gone"
-clause_text clause.UsedAgain = codes "UsedAgain"
-clause_text clause.MovedBack = codes "MovedBack"
-clause_text clause.CleanedEarly = codes "CleanedEarly"
-clause_text clause.Unlisted = codes "Unlisted"
-clause_text clause.GaveUp = codes "GaveUp"
-clause_text clause.AnsweredFalsely = codes "AnsweredFalsely"
-clause_text clause.InTwoFolders = codes "InTwoFolders"
-clause_text clause.NamedByAnother = codes "NamedByAnother"
-clause_text clause.Rewritten = codes "Rewritten"
-clause_text clause.UsedTwice = codes "UsedTwice"
-clause_text clause.MadeAgain = codes "MadeAgain"
-clause_text clause.WrittenLate = codes "WrittenLate"
-
--- why a step that breaks it is wrong
-abbrev pub clause_why : Clause → List ℕ
-clause_why clause.NotADirectory = codes "no directory gives this reply, or the log lacks a step before"
-clause_why clause.Overwritten = codes "a path names another file than before, so what it named may be lost"
-clause_why clause.SeenBeforeWhole = codes "readers see a message that is not written whole"
-clause_why clause.Mixed = codes "a file is written to by another program than made it"
-clause_why clause.NotFlushed = codes "readers see bytes that were not flushed: a crash may lose them"
-clause_why clause.TwoNames = codes "a message has two names in its folder, and is shown twice"
-clause_why clause.Gone = codes "a message leaves its folder without the flag T"
-clause_why clause.UsedAgain = codes "a unique name is used for a second message"
-clause_why clause.MovedBack = codes "a message that was read is in new again"
-clause_why clause.CleanedEarly = codes "a file in tmp is taken from a program that may still write it"
-clause_why clause.Unlisted = codes "a listing lacks a message that was there all the while"
-clause_why clause.GaveUp = codes "a call was refused, and the program reports success without another look"
-clause_why clause.AnsweredFalsely = codes "what the program reports is not so"
-clause_why clause.InTwoFolders = codes "a message has the unique name of one in another folder"
-clause_why clause.NamedByAnother = codes "a file that no reader sees is named by another program than made it"
-clause_why clause.Rewritten = codes "a file is written to that readers have seen"
-clause_why clause.UsedTwice = codes "a unique name is used for a second message"
-clause_why clause.MadeAgain = codes "a name in tmp is used for a second file"
-clause_why clause.WrittenLate = codes "a file is written to that nobody has written to for 36 hours"
+-- each clause by its name, and why a step that breaks it is wrong
+abbrev pub clause_texts : Clause → List ℕ × List ℕ
+clause_texts clause.NotADirectory = (codes "NotADirectory", codes "no directory gives this reply, or the log lacks a step before")
+clause_texts clause.Overwritten = (codes "Overwritten", codes "a path names another file than before, so what it named may be lost")
+clause_texts clause.SeenBeforeWhole = (codes "SeenBeforeWhole", codes "readers see a message that is not written whole")
+clause_texts clause.Mixed = (codes "Mixed", codes "a file is written to by another program than made it")
+clause_texts clause.NotFlushed = (codes "NotFlushed", codes "readers see bytes that were not flushed: a crash may lose them")
+clause_texts clause.TwoNames = (codes "TwoNames", codes "a message has two names in its folder, and is shown twice")
+clause_texts clause.Gone = (codes "Gone", codes "a message leaves its folder without the flag T")
+clause_texts clause.UsedAgain = (codes "UsedAgain", codes "a unique name is used for a second message")
+clause_texts clause.MovedBack = (codes "MovedBack", codes "a message that was read is in new again")
+clause_texts clause.CleanedEarly = (codes "CleanedEarly", codes "a file in tmp is taken from a program that may still write it")
+clause_texts clause.Unlisted = (codes "Unlisted", codes "a listing lacks a message that was there all the while")
+clause_texts clause.GaveUp = (codes "GaveUp", codes "a call was refused, and the program reports success without another look")
+clause_texts clause.AnsweredFalsely = (codes "AnsweredFalsely", codes "what the program reports is not so")
+clause_texts clause.InTwoFolders = (codes "InTwoFolders", codes "a message has the unique name of one in another folder")
+clause_texts clause.NamedByAnother = (codes "NamedByAnother", codes "a file that no reader sees is named by another program than made it")
+clause_texts clause.Rewritten = (codes "Rewritten", codes "a file is written to that readers have seen")
+clause_texts clause.UsedTwice = (codes "UsedTwice", codes "a unique name is used for a second message")
+clause_texts clause.MadeAgain = (codes "MadeAgain", codes "a name in tmp is used for a second file")
+clause_texts clause.WrittenLate = (codes "WrittenLate", codes "a file is written to that nobody has written to for 36 hours")
 
 -- the clauses of the law, in its order
 abbrev pub law : List Clause
@@ -107,4 +85,4 @@ clause_index clause.WrittenLate = 18
 
 -- the clause of the law that has a name
 unfoldable pub clause_named : List ℕ → Option Clause
-clause_named name = find (λ c. bytes_eq (clause_text c) name) law
+clause_named name = find (λ c. bytes_eq (clause_texts c).0 name) law

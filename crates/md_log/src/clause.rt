@@ -1,6 +1,6 @@
 //! The clauses of the law, and those that are owed beside it.
 ghost use Rattle.std.specs.Prelude.{◌≡◌, ◌<◌};
-ghost use Rattle.md_log.specs.Texts.{clause_text, clause_why, clause_index, clause_named};
+ghost use Rattle.md_log.specs.Texts.{clause_texts, clause_index, clause_named};
 
 /// What a step may break. The order is that of findings at one line: the thirteen clauses of the law come first, and then those that programs
 /// owe each other beside it (docs/LAW.md).
@@ -103,7 +103,7 @@ pub const OWED: [Clause; 10] = [
 impl Clause {
     /// The clause's name.
     pub fn name(self) -> &'static str
-        ensures { result.now ≡ clause_text self }
+        ensures { result.now ≡ (clause_texts self).0 }
     {
         match self {
             Clause::NotADirectory => "NotADirectory",
@@ -130,7 +130,7 @@ impl Clause {
 
     /// Why a step that breaks it is wrong, in one sentence.
     pub fn why(self) -> &'static str
-        ensures { result.now ≡ clause_why self }
+        ensures { result.now ≡ (clause_texts self).1 }
     {
         match self {
             Clause::NotADirectory =>

@@ -3,8 +3,7 @@ ghost use Rattle.std.specs.Prelude.{◌≡◌};
 ghost use Rattle.std.specs.Option.{option_copied};
 ghost use Rattle.md_log.specs.Words.{Gives};
 ghost use Rattle.md_log.specs.Folders.{folder_of};
-ghost use Rattle.md_log.specs.Paths.{path_at};
-ghost use Rattle.md_log.specs.Lines.{line_of};
+ghost use Rattle.md_log.specs.Lines.{path_at, line_of};
 
 mod answers;
 mod calls;
@@ -144,7 +143,7 @@ fn folder(alloc: Global, folders: &Folders, word: &[u8]) -> Result<u32, LineFaul
 }
 
 /// The next word as a path, `FOLDER/PLACE/NAME`.
-#[tactic(auto, unfolding(crate::specs::Paths::path_at, crate::specs::Paths::directory_of))]
+#[tactic(auto, unfolding(crate::specs::Lines::path_at))]
 fn path<'a>(alloc: Global, folders: &Folders, rest: Rest<'a>) -> Result<(Path, Rest<'a>), LineFault>
     ensures { Gives (λ read. (read.0, option_copied read.1)) result (path_at folders.now (option_copied rest.entry)) }
 {

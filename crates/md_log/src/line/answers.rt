@@ -1,7 +1,7 @@
 //! What programs told their users.
 ghost use Rattle.std.specs.Option.{option_copied};
 ghost use Rattle.md_log.specs.Words.{Gives};
-ghost use Rattle.md_log.specs.Answers.{answer_line, about_line};
+ghost use Rattle.md_log.specs.Lines.{answer_line, about_line};
 
 use super::{Call, Said, folder};
 use crate::error::LineFault;
@@ -11,7 +11,7 @@ use md_text::{Folders, Rest, flags_from};
 use std::alloc::Global;
 
 /// The words of `answer` after it.
-#[tactic(auto, unfolding(crate::specs::Answers::answer_line))]
+#[tactic(auto, unfolding(crate::specs::Lines::answer_line))]
 pub(super) fn answer_line(
     alloc: Global,
     folders: &Folders,
@@ -44,7 +44,7 @@ pub(super) fn answer_line(
 }
 
 /// The words after what is said of the message: a folder and a unique name.
-#[tactic(auto, unfolding(crate::specs::Answers::about_line))]
+#[tactic(auto, unfolding(crate::specs::Lines::about_line))]
 fn about_line(
     alloc: Global,
     folders: &Folders,

@@ -3,7 +3,7 @@ ghost use Rattle.std.specs.Prelude.{◌≡◌, ◌<◌, length};
 ghost use Rattle.std.specs.Option.{option_copied};
 ghost use Rattle.md_text.specs.Bind.{Reads};
 ghost use Rattle.md_log.specs.Words.{Gives};
-ghost use Rattle.md_log.specs.Calls.{step_line, call_line, at_line, between_line, list_line, reply_at};
+ghost use Rattle.md_log.specs.Lines.{step_line, call_line, at_line, between_line, list_line, reply_at};
 
 use super::answers::answer_line;
 use super::ticks::time_of;
@@ -16,7 +16,7 @@ use md_text::{Folders, Rest, place_from};
 use std::alloc::Global;
 
 /// A step, whose first word was read.
-#[tactic(auto, unfolding(crate::specs::Calls::step_line))]
+#[tactic(auto, unfolding(crate::specs::Lines::step_line))]
 pub(super) fn step_line(
     alloc: Global,
     folders: &Folders,
@@ -39,7 +39,7 @@ pub(super) fn step_line(
 }
 
 /// The words after the actor: a call, its paths and its reply.
-#[tactic(auto, unfolding(crate::specs::Calls::call_line))]
+#[tactic(auto, unfolding(crate::specs::Lines::call_line))]
 fn call_line(alloc: Global, folders: &Folders, rest: Rest<'_>) -> Result<Call, LineFault>
     ensures { Gives (λ call. call) result (call_line folders.now (option_copied rest.entry)) }
 {
@@ -65,7 +65,7 @@ fn call_line(alloc: Global, folders: &Folders, rest: Rest<'_>) -> Result<Call, L
     }
 }
 
-#[tactic(auto, unfolding(crate::specs::Calls::at_line))]
+#[tactic(auto, unfolding(crate::specs::Lines::at_line))]
 fn at_line(alloc: Global, folders: &Folders, deed: Deed, rest: Rest<'_>) -> Result<Call, LineFault>
     ensures { Gives (λ call. call) result (at_line folders.now deed (option_copied rest.entry)) }
 {
@@ -75,7 +75,7 @@ fn at_line(alloc: Global, folders: &Folders, deed: Deed, rest: Rest<'_>) -> Resu
     Ok(Call::At { deed, path, reply })
 }
 
-#[tactic(auto, unfolding(crate::specs::Calls::between_line))]
+#[tactic(auto, unfolding(crate::specs::Lines::between_line))]
 fn between_line(
     alloc: Global,
     folders: &Folders,
@@ -96,7 +96,7 @@ fn between_line(
     })
 }
 
-#[tactic(auto, unfolding(crate::specs::Calls::list_line, crate::specs::Paths::directory_of))]
+#[tactic(auto, unfolding(crate::specs::Lines::list_line))]
 fn list_line(alloc: Global, folders: &Folders, rest: Rest<'_>) -> Result<Call, LineFault>
     ensures { Gives (λ call. call) result (list_line folders.now (option_copied rest.entry)) }
 {
@@ -115,7 +115,7 @@ fn list_line(alloc: Global, folders: &Folders, rest: Rest<'_>) -> Result<Call, L
 }
 
 /// The next word as the reply of a call that may find that a name exists, or not, and that may go on, or not.
-#[tactic(auto, unfolding(crate::specs::Calls::reply_at))]
+#[tactic(auto, unfolding(crate::specs::Lines::reply_at))]
 fn reply(rest: Rest<'_>, may_exist: bool, may_go_on: bool) -> Result<(Reply, Rest<'_>), LineFault>
     ensures { Reads (λ read. (read.0, option_copied read.1)) result (reply_at may_exist may_go_on (option_copied rest.entry)) }
 {

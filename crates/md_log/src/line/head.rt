@@ -3,7 +3,7 @@ ghost use Rattle.std.specs.Prelude.{◌≡◌};
 ghost use Rattle.std.specs.Option.{option_copied};
 ghost use Rattle.md_text.specs.Bind.{Reads};
 ghost use Rattle.md_log.specs.Words.{Gives};
-ghost use Rattle.md_log.specs.Heads.{head_of, head_line, folder_line, allowed_by, allow_line, file_line, also_line};
+ghost use Rattle.md_log.specs.Lines.{head_of, head_line, folder_line, allowed_by, allow_line, file_line, also_line};
 
 use super::{Line, path};
 use crate::clause::Clause;
@@ -22,7 +22,7 @@ pub(super) enum HeadWord {
     Also,
 }
 
-#[tactic(auto, unfolding(crate::specs::Heads::head_of))]
+#[tactic(auto, unfolding(crate::specs::Lines::head_of))]
 pub(super) fn head_word(word: &[u8]) -> Option<HeadWord>
     ensures { result ≡ head_of word.now }
 {
@@ -56,7 +56,7 @@ pub(super) fn head_line(
     }
 }
 
-#[tactic(auto, unfolding(crate::specs::Heads::folder_line))]
+#[tactic(auto, unfolding(crate::specs::Lines::folder_line))]
 fn folder_line(alloc: Global, rest: Rest<'_>) -> Result<Line, LineFault>
     ensures { Gives (λ line. line) result (folder_line (option_copied rest.entry)) }
 {
@@ -66,7 +66,7 @@ fn folder_line(alloc: Global, rest: Rest<'_>) -> Result<Line, LineFault>
     Ok(Line::Folder { name })
 }
 
-#[tactic(auto, unfolding(crate::specs::Heads::allow_line))]
+#[tactic(auto, unfolding(crate::specs::Lines::allow_line))]
 fn allow_line(rest: Rest<'_>) -> Result<Line, LineFault>
     ensures { Reads (λ line. line) result (allow_line (option_copied rest.entry)) }
 {
@@ -86,7 +86,7 @@ fn allowed(clause: Option<Clause>) -> Result<Clause, LineFault>
     }
 }
 
-#[tactic(auto, unfolding(crate::specs::Heads::file_line))]
+#[tactic(auto, unfolding(crate::specs::Lines::file_line))]
 fn file_line(alloc: Global, folders: &Folders, rest: Rest<'_>) -> Result<Line, LineFault>
     ensures { Gives (λ line. line) result (file_line folders.now (option_copied rest.entry)) }
 {
@@ -97,7 +97,7 @@ fn file_line(alloc: Global, folders: &Folders, rest: Rest<'_>) -> Result<Line, L
     Ok(Line::File { path, stamp })
 }
 
-#[tactic(auto, unfolding(crate::specs::Heads::also_line))]
+#[tactic(auto, unfolding(crate::specs::Lines::also_line))]
 fn also_line(alloc: Global, folders: &Folders, rest: Rest<'_>) -> Result<Line, LineFault>
     ensures { Gives (λ line. line) result (also_line folders.now (option_copied rest.entry)) }
 {

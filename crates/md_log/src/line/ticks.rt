@@ -1,6 +1,6 @@
 //! When a step took effect: `MOMENT`, or `MOMENT@BEGIN..END`.
 ghost use Rattle.std.specs.Prelude.{◌≡◌, ◌<◌, length};
-ghost use Rattle.md_log.specs.Ticks.{ticks_of, when_of};
+ghost use Rattle.md_log.specs.Lines.{ticks_of, when_of};
 
 use crate::error::LineFault;
 use crate::words::{number, parted};
@@ -14,7 +14,7 @@ pub struct Ticks {
 }
 
 /// When a step took effect, in seconds, and its ticks where they are known. A word that doesn't begin with a digit begins no line.
-#[tactic(auto, unfolding(crate::specs::Ticks::when_of))]
+#[tactic(auto, unfolding(crate::specs::Lines::when_of))]
 pub(super) fn time_of(word: &[u8]) -> Result<(u64, Option<Ticks>), LineFault>
     requires { 0 < length word.now }
     ensures { result ≡ when_of word.now }
@@ -32,7 +32,7 @@ pub(super) fn time_of(word: &[u8]) -> Result<(u64, Option<Ticks>), LineFault>
 }
 
 /// `BEGIN..END`.
-#[tactic(auto, unfolding(crate::specs::Ticks::ticks_of))]
+#[tactic(auto, unfolding(crate::specs::Lines::ticks_of))]
 fn ticks_from(text: &[u8]) -> Result<Ticks, LineFault>
     ensures { result ≡ ticks_of text.now }
 {
