@@ -1,6 +1,6 @@
 -- Sets of clauses.
 use Rattle.std.specs.Prelude.{◌≡◌, true, Some, slice_get}
-use Rattle.md_log.specs.declared.clause.Clause.{Clause}
+use Rattle.md_law.specs.Values.{Clause}
 use Rattle.md_log.specs.Texts.{clause_index}
 use Rattle.md_judge.specs.declared.clauses.Clauses.{Clauses}
 

@@ -1,8 +1,7 @@
 -- What a finding costs.
 use Rattle.std.specs.Prelude.{ℕ, List, Bool, true, false, codes}
-use Rattle.md_log.specs.declared.clause.Clause.{Clause}
+use Rattle.md_law.specs.Values.{Clause, Call}
 use Rattle.md_log.specs.declared.clause.Clause.TheVariants as clause
-use Rattle.md_log.specs.declared.line.Call.{Call}
 use Rattle.md_log.specs.declared.line.Call.TheVariants as call
 use Rattle.md_log.specs.declared.line.Said.TheVariants as said
 use Rattle.md_judge.specs.declared.grade.Grade.{Grade}

@@ -1,17 +1,15 @@
 -- A log, read: what there is at its beginning, and its steps.
 use Rattle.std.specs.Prelude.{ℕ, suc, Bool, not, List, [], ◌∷◌, ◌++◌, length, nat_lt, Result, Ok, Err, is_some, if◌then◌else◌, codes}
 use Rattle.std.specs.Str.{bytes_eq}
-use Rattle.md_dirs.specs.State.{State, bare, file_at}
+use Rattle.md_dirs.specs.State.{bare}
+use Rattle.md_law.specs.Values.{State, file_at, Path, Clause, Step}
 use Rattle.md_dirs.specs.Calls.{with_new_file, with_path, empty_file}
-use Rattle.md_dirs.specs.declared.paths.Path.{Path}
 use Rattle.md_head.specs.Header.{lines_of}
-use Rattle.md_log.specs.declared.clause.Clause.{Clause}
 use Rattle.md_log.specs.declared.error.LineFault.{LineFault}
 use Rattle.md_log.specs.declared.error.LineFault.TheVariants.{NoLog, SamePath, NoSuchPath}
 use Rattle.md_log.specs.declared.error.LogFault.{LogFault}
 use Rattle.md_log.specs.declared.line.Line.{Line}
 use Rattle.md_log.specs.declared.line.Line.TheVariants as line
-use Rattle.md_log.specs.declared.line.Step.{Step}
 use Rattle.md_text.specs.Bind.{◌>>=◌, require}
 use Rattle.md_text.specs.Words.{is_passed_over}
 use Rattle.md_log.specs.Folders.{with_folder}

@@ -1,7 +1,6 @@
 -- The orders in which the steps of a log whose calls overlap may take effect, and what is found in such an order.
 use Rattle.std.specs.Prelude.{ℕ, suc, ◌≡◌, ◌≢◌, ◌<◌, ◌≤◌, ◌↔◌, ◌⊎◌, List, Option, Some, None, length, slice_get}
-use Rattle.md_log.specs.declared.clause.Clause.{Clause}
-use Rattle.md_log.specs.declared.line.Step.{Step}
+use Rattle.md_law.specs.Values.{Clause, Step}
 use Rattle.md_log.specs.declared.line.ticks.Ticks.{Ticks}
 use Rattle.md_judge.specs.declared.log.Finding.{Finding}
 use Rattle.md_law.specs.Clauses.{NotADirectory}

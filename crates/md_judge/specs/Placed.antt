@@ -1,11 +1,10 @@
 -- What a session holds that has read a log in which calls may overlap.
 use Rattle.std.specs.Prelude.{ℕ, suc, ◌≡◌, ◌≢◌, ◌<◌, ◌+◌, ◌↔◌, ◌⊎◌, List, [], ◌++◌, ◌∷◌, Option, Some, None, length, slice_get, false}
-use Rattle.md_log.specs.declared.clause.Clause.{Clause}
+use Rattle.md_law.specs.Values.{Clause, Step}
 use Rattle.md_log.specs.declared.error.LineFault.{LineFault}
 use Rattle.md_log.specs.declared.error.LineFault.TheVariants.{NoMemory, NoOrder, TooManyOrders}
 use Rattle.md_log.specs.declared.line.Line.{Line}
 use Rattle.md_log.specs.declared.line.Line.TheVariants as line
-use Rattle.md_log.specs.declared.line.Step.{Step}
 use Rattle.md_log.specs.declared.line.ticks.Ticks.{Ticks}
 use Rattle.md_judge.specs.declared.log.Finding.{Finding}
 use Rattle.md_judge.specs.declared.session.Session.{Session}

@@ -1,6 +1,6 @@
 -- What is answered of the lines of a log, and what a session holds that has taken them in.
 use Rattle.std.specs.Prelude.{ℕ, suc, ◌≡◌, ◌≢◌, List, [], ◌∷◌, ◌++◌, take, length, Result, Ok, Err, IsOk}
-use Rattle.md_log.specs.declared.clause.Clause.{Clause}
+use Rattle.md_law.specs.Values.{Clause}
 use Rattle.md_log.specs.declared.clause.Clause.TheVariants.{InTwoFolders, NamedByAnother, Rewritten, UsedTwice, MadeAgain, WrittenLate}
 use Rattle.md_log.specs.declared.error.LineFault.{LineFault}
 use Rattle.md_log.specs.declared.error.LineFault.TheVariants.{NoMemory, NoOrder, TooManyOrders}

@@ -1,7 +1,6 @@
 -- What is found of a whole log.
 use Rattle.std.specs.Prelude.{ℕ, suc, ◌≡◌, ◌<◌, ◌⊎◌, List, Some, None, fold, take, slice_get}
-use Rattle.md_log.specs.declared.clause.Clause.{Clause}
-use Rattle.md_log.specs.declared.line.Step.{Step}
+use Rattle.md_law.specs.Values.{Clause, Step}
 use Rattle.md_law.specs.History.{History, opening, next}
 use Rattle.md_law.specs.Law.{Breaks}
 use Rattle.md_judge.specs.declared.log.Finding.{Finding}
