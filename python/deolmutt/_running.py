@@ -87,11 +87,21 @@ class _System:
             elif request.call == UNLINK:
                 os.unlink(path)
             else:
-                target = self._path(request.to_folder, request.to_place, request.other)
-                return self._link(path, target) if request.call == LINK else _rename(path, target)
+                return self._give_name(request, path)
         except OSError as error:
             return self._refused(error)
         return DONE
+
+    def _give_name(self, request: Request, path: bytes) -> int:
+        """Links or renames a file. That a name is not found is of the old one only if the directory of the new one is there."""
+        target = self._path(request.to_folder, request.to_place, request.other)
+        try:
+            return self._link(path, target) if request.call == LINK else _rename(path, target)
+        except FileNotFoundError as error:
+            if os.path.isdir(os.path.dirname(target)):
+                raise
+            self.cause = error
+            return FAULTED
 
     def _refused(self, error: Exception) -> int:
         """What is replied to a call that failed so. The error is kept."""

@@ -359,6 +359,15 @@ class MeanwhileTest(DiskCase):
             _running.run(Deliver(0, "v", MESSAGE), folders)
         self.assertIsInstance(refused.exception.__cause__, FileNotFoundError)
 
+    def test_no_directory_to_move_to(self) -> None:
+        """The message stays, and is not taken for one that is gone."""
+        (self.path / "cur/u:2,").write_bytes(MESSAGE)
+        (self.path / "other").mkdir()
+        with self.assertRaises(Fault) as raised:
+            _running.run(Move(0, "u", 1), [os.fsencode(self.path), os.fsencode(self.path / "other")])
+        self.assertIsInstance(raised.exception.__cause__, FileNotFoundError)
+        self.assertEqual(["u:2,"], self.names("cur"))
+
 
 class _Once:
     """A function at its first call, and another one from then on."""
