@@ -30,12 +30,14 @@ class Names(BoxTest):
 
     def test_hostile_names(self) -> None:
         """What a listing prints of a name names it again, in one line."""
-        names = [b"tab\ta", b"back\\slash", b"back\\x5c", b"q'\"$(a)`", "déjà".encode(), b"\x1b[31m", b"sp ace", b"-dash"]
+        names = [b"tab\ta", b"back\\slash", b"back\\x5c", b"q'\"$(a)`", "déjà".encode(), b"\x1b[31m", b"sp ace", b"-dash",
+                 b"\xc2\x9b31m\xc3\xa9"]
         for name in names:
             self.box.put("new", name)
         listed = self.run_well("list", "box")
         self.assertEqual(len(listed.splitlines()), len(names))
         self.assertTrue(all(byte >= 32 or byte in b"\t\n" for byte in listed))
+        self.assertNotIn(b"\xc2\x9b", listed)
         keys = b"".join(line.split(b"\t")[2] + b"\n" for line in listed.splitlines())
         self.run_well("seen", "box", "-", given=keys)
         self.assertEqual(self.box.names("cur"), sorted(name + b":2,S" for name in names))

@@ -1,5 +1,5 @@
 -- Bytes as a column of a line shows them, and a string of JSON.
-use Rattle.std.specs.Prelude.{ℕ, Bool, ◌&&◌, ◌==◌, ◌+◌, ◌/◌, ◌%◌, nat_lt, nat_le, List}
+use Rattle.std.specs.Prelude.{ℕ, Bool, false, not, ◌&&◌, ◌||◌, ◌==◌, ◌+◌, ◌/◌, ◌%◌, nat_lt, nat_le, List}
 use Rattle.std.specs.Prelude.{[], ◌∷◌, ◌++◌, length, if◌then◌else◌, codes}
 use Rattle.std.specs.List.{flat_map}
 use Rattle.std.specs.Str.Lossy.{utf8_valid_len}
@@ -20,7 +20,16 @@ hex b = digit_of (b / 16) ∷ digit_of (b % 16) ∷ []
 abbrev pub is_printed : ℕ → Bool
 is_printed b = nat_le 32 b && nat_le b 126
 
--- a byte of a column, where the bytes past ASCII are characters or not
+-- some two bytes are a control character from U+0080 to U+009F in UTF-8, where these come behind a byte
+abbrev pub has_controls : ℕ → List ℕ → Bool
+has_controls last [] = false
+has_controls last (b ∷ bytes) = (last == 194 && nat_lt b 160) || has_controls b bytes
+
+-- bytes that a terminal may be shown as they are, from 128 on: they are UTF-8, and none of their characters is a control character
+abbrev pub is_shown : List ℕ → Bool
+is_shown bytes = is_text bytes && not (has_controls 0 bytes)
+
+-- a byte of a column, where the bytes past ASCII are shown as they are or not
 abbrev pub escape : Bool → ℕ → List ℕ
 escape text b =
     if b == 92 then 92 ∷ 92 ∷ []
@@ -32,7 +41,7 @@ escape text b =
 
 -- bytes as a column shows them
 abbrev pub escaped : List ℕ → List ℕ
-escaped bytes = flat_map (escape (is_text bytes)) bytes
+escaped bytes = flat_map (escape (is_shown bytes)) bytes
 
 -- a byte of a string of JSON
 abbrev pub json_escape : Bool → ℕ → List ℕ

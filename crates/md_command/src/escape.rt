@@ -1,17 +1,33 @@
 //! Bytes as a column of a line, or a string of JSON, shows them.
 ghost use Rattle.std.specs.Prelude.{◌≡◌, ◌++◌, ◌<◌, OnOk};
 ghost use Rattle.std.specs.List.{flat_map};
-ghost use Rattle.md_command.specs.Escapes.{escape, escaped, hex, digit_of, is_text, json_escape, json_string};
+ghost use Rattle.md_command.specs.Escapes.{escape, escaped, hex, digit_of, has_controls, is_text, json_escape, json_string};
 
 use std::alloc::{AllocError, Global};
 
 /// Appends bytes as a column shows them: a backslash is `\\`, a tab `\t`, LF `\n` and CR `\r`, and any other byte of ASCII that is no
-/// printed character `\xHH`. So is each byte past ASCII where the whole is not UTF-8. Where memory runs out, the text may have a part of
-/// it.
+/// printed character `\xHH`. So is each byte past ASCII if the whole is not UTF-8, or has a control character from U+0080 to U+009F, which
+/// a terminal may obey. If memory runs out, the text may have a part of it.
 pub fn push_escaped(text: &mut Vec<u8>, bytes: &[u8]) -> Result<(), AllocError>
     ensures { OnOk result (text.new.items ≡ text.old.items ++ escaped bytes.now) }
 {
-    push_bytes(text, bytes, is_text(bytes))
+    push_bytes(text, bytes, is_text(bytes) && !has_controls(bytes))
+}
+
+// Whether two of the bytes are a control character from U+0080 to U+009F in UTF-8.
+fn has_controls(bytes: &[u8]) -> bool
+    ensures { result ≡ has_controls 0 bytes.now }
+{
+    let mut rest = bytes;
+    let mut last = 0;
+    while let Some((byte, more)) = rest.split_first() {
+        if last == 0xc2 && *byte < 0xa0 {
+            return true;
+        }
+        last = *byte;
+        rest = more;
+    }
+    false
 }
 
 /// Whether bytes are UTF-8.
@@ -24,7 +40,7 @@ pub fn is_text(bytes: &[u8]) -> bool
     }
 }
 
-// Appends the bytes of a column, of which those past ASCII are characters or not.
+// Appends the bytes of a column, of which those past ASCII are shown as they are or not.
 fn push_bytes(text: &mut Vec<u8>, bytes: &[u8], are_text: bool) -> Result<(), AllocError>
     ensures { OnOk result (text.new.items ≡ text.old.items ++ flat_map (escape are_text) bytes.now) }
 {
