@@ -14,7 +14,7 @@ from typing import Optional, Sequence
 from . import debian
 from .contents import Entry, below, packed, part, pkg_config, programs, tar
 from .refused import Refused
-from .tree import TOP, passed, state
+from .tree import TOP, built, passed, state
 
 sys.path.insert(0, str(TOP / "python"))
 
@@ -94,12 +94,15 @@ def main(words: Optional[Sequence[str]] = None) -> int:
     parser = argparse.ArgumentParser(prog="tools/package", description=ABOUT)
     parser.add_argument("--out", type=Path, default=OUT, metavar="DIR", help="where the packages go (out/packages)")
     parser.add_argument("--tree", action="store_true", help="prints the prover and the sum of each file of the tree, and makes nothing")
+    parser.add_argument("--built", action="store_true", help="prints the sum of each program that is built, and makes nothing")
     options = parser.parse_args(words)
     # Folders and files have the modes that are said here, whoever makes the packages.
     os.umask(0o022)
     try:
         if options.tree:
             sys.stdout.write(state())
+        elif options.built:
+            sys.stdout.write(built())
         else:
             for path in make(options.out.resolve()):
                 print(f"{path.stat().st_size:>10} {path}")

@@ -11,8 +11,10 @@ from typing import Dict, Iterator
 from .refused import Refused
 
 TOP = Path(__file__).resolve().parents[2]
-# What the gate leaves: a line `prover IDENTITY`, and then `SUM PATH` for each file.
+# What the gate leaves: a line `prover IDENTITY`, then `SUM PATH` for each file, and `built SUM PATH` for each program.
 PASSED = TOP / "out/passed-tree"
+# The programs that the gate builds and packages hold. Packages have the library for C built anew.
+BUILT = ("crates/deolmutt/out/deolmutt", "crates/maildir_cli/out/maildir_cli")
 # What is made of the tree, and is no part of it.
 MADE_FOLDERS = {".git", "out", "target", "__pycache__", ".mypy_cache"}
 MADE_FILES = {"python/deolmutt/libdeolmutt.so"}
@@ -28,9 +30,13 @@ def files() -> Iterator[str]:
                 yield path
 
 
+def sum_of(path: str) -> str:
+    return hashlib.sha256((TOP / path).read_bytes()).hexdigest()
+
+
 def sums() -> Dict[str, str]:
     """The sum of each file of the tree as it is now."""
-    return {path: hashlib.sha256((TOP / path).read_bytes()).hexdigest() for path in files()}
+    return {path: sum_of(path) for path in files()}
 
 
 def lines_of(found: Dict[str, str]) -> str:
@@ -49,16 +55,25 @@ def state() -> str:
     return f"prover {prover()}\n{lines_of(sums())}"
 
 
+def built() -> str:
+    """What the gate keeps of the programs that it has built."""
+    return "".join(f"built {sum_of(path)} {path}\n" for path in BUILT)
+
+
 def passed() -> tuple[str, str]:
-    """The prover of the tree and the sum of the sums of its files. Refused where the gate has not passed the tree as it is."""
+    """The prover of the tree and the sum of the sums of its files. Refused if the gate has not passed the tree as it is, or has built other
+    programs of it."""
     try:
         head, *rows = PASSED.read_text(encoding="utf-8").splitlines()
     except FileNotFoundError:
         raise Refused("the gate has not passed this tree: run .ci/run") from None
-    then = {path: sum for sum, path in (row.split(" ", 1) for row in rows)}
+    programs = [row for row in rows if row.startswith("built ")]
+    then = {path: sum for sum, path in (row.split(" ", 1) for row in rows if row not in programs)}
     now = sums()
     for path in sorted(then.keys() | now.keys()):
         if then.get(path) != now.get(path):
             what = "is gone" if path not in now else "is new" if path not in then else "has changed"
             raise Refused(f"{path} {what} since the gate passed this tree: run .ci/run")
+    if programs != built().splitlines():
+        raise Refused("the programs are not those that the gate has built: run .ci/run")
     return head.partition(" ")[2], hashlib.sha256(lines_of(now).encode()).hexdigest()

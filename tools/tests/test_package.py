@@ -23,7 +23,8 @@ class TreeTest(unittest.TestCase):
         (self.top / "crates/out").mkdir(parents=True)
         for name in ("a", "crates/b c", "crates/out/made"):
             (self.top / name).write_text(name)
-        for name, value in {"TOP": self.top, "PASSED": self.top / "out/passed-tree", "prover": lambda: "kit 1"}.items():
+        for name, value in {"TOP": self.top, "PASSED": self.top / "out/passed-tree", "BUILT": ("crates/out/made",),
+                            "prover": lambda: "kit 1"}.items():
             put = mock.patch.object(tree, name, value)
             put.start()
             self.addCleanup(put.stop)
@@ -31,7 +32,7 @@ class TreeTest(unittest.TestCase):
     def passes(self) -> None:
         """What the gate does."""
         tree.PASSED.parent.mkdir(exist_ok=True)
-        tree.PASSED.write_text(tree.state())
+        tree.PASSED.write_text(tree.state() + tree.built())
 
     def assert_refused(self, text: str) -> None:
         with self.assertRaisesRegex(Refused, text):
@@ -42,8 +43,13 @@ class TreeTest(unittest.TestCase):
         self.passes()
         prover, first = tree.passed()
         self.assertEqual("kit 1", prover)
-        (self.top / "crates/out/made").write_text("anew")
+        (self.top / "crates/out/other").write_text("anew")
         self.assertEqual(("kit 1", first), tree.passed())
+
+    def test_programs_that_the_gate_has_not_built(self) -> None:
+        self.passes()
+        (self.top / "crates/out/made").write_text("anew")
+        self.assert_refused("the programs are not those that the gate has built")
 
     def test_a_tree_that_has_changed_since(self) -> None:
         self.passes()
