@@ -29,9 +29,9 @@ two asked makes false false e h = inr (inr h)
 
 -- what the first checks say counts, whatever the last ones say
 why : (asked : Call) (ps cs : Checks) → IsHeldWhy asked cs → (e : CoreError) → IsRefusal (first_met (ps ++ cs)) e → IsWhy asked (first_met ps) e
-why asked [] cs is = is
+why asked [] cs is e h = is e h
 why asked ((true, x) ∷ ps) cs is e h = h
-why asked ((false, x) ∷ ps) cs is = why asked ps cs is
+why asked ((false, x) ∷ ps) cs is e h = why asked ps cs is e h
 
 none-first : (ps cs : Checks) → first_met (ps ++ cs) ≡ None → first_met ps ≡ None
 none-first [] cs h = refl
