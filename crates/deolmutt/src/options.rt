@@ -165,6 +165,15 @@ fn count<'a>(alloc: Global, help: &'a str, most: i64) -> Arg<'a> {
     one(alloc, "N", help).value_parser(value_parser!(u64).range(1..=most))
 }
 
+// A command with one more option, which can't be used with these others.
+pub(crate) fn with_other<'a>(
+    command: Command<'a>,
+    option: Arg<'a>,
+    others: &[&'a str],
+) -> Result<Command<'a>, AllocError> {
+    command.arg(option.conflicts_with_all(others)?)
+}
+
 // A subcommand on a maildir.
 fn on_box<'a>(alloc: Global, name: &'a str, about: &'a str) -> Result<Command<'a>, AllocError> {
     Command::new(alloc, name)
@@ -193,7 +202,7 @@ fn to_box<'a>(alloc: Global, name: &'a str, about: &'a str) -> Result<Command<'a
 }
 
 fn deliver<'a>(alloc: Global) -> Result<Command<'a>, AllocError> {
-    on_box(
+    let command = on_box(
         alloc,
         "deliver",
         "Delivers the message on standard input, of at most 16777216 bytes",
@@ -214,19 +223,18 @@ fn deliver<'a>(alloc: Global) -> Result<Command<'a>, AllocError> {
         alloc,
         "no-sync",
         "Leaves it to the system when what was written reaches the disk",
-    ))?
-    .arg(with_many(alloc)?)?
-    .arg(switch(alloc, "print", "Prints the unique name of each message"))
-}
-
-// Files are a message each, and no mailboxes.
-fn with_many<'a>(alloc: Global) -> Result<Arg<'a>, AllocError> {
-    switch(
+    ))?;
+    // Files are a message each, and no mailboxes.
+    let many = switch(
         alloc,
         "many",
         "Reads an mbox (mboxrd), and stops at the first message that is not delivered",
-    )
-    .conflicts_with_all(&["from"])
+    );
+    with_other(command, many, &["from"])?.arg(switch(
+        alloc,
+        "print",
+        "Prints the unique name of each message",
+    ))
 }
 
 fn list<'a>(alloc: Global) -> Result<Command<'a>, AllocError> {

@@ -1,6 +1,6 @@
 //! The subcommands on logs of directory calls, and their help.
 
-use crate::options::{switch, valued};
+use crate::options::{switch, valued, with_other};
 use clap::{Arg, ArgAction, Command};
 use std::alloc::{AllocError, Global};
 
@@ -117,13 +117,4 @@ fn with_owed<'a>(alloc: Global, command: Command<'a>) -> Result<Command<'a>, All
         "Leaves the steps of this actor out, with --owed or --relies; may be repeated",
     );
     with_other(command, by.action(ArgAction::Append), LAW_ALONE)
-}
-
-// A command with one more option, which can't be used with these others.
-fn with_other<'a>(
-    command: Command<'a>,
-    option: Arg<'a>,
-    others: &[&'a str],
-) -> Result<Command<'a>, AllocError> {
-    command.arg(option.conflicts_with_all(others)?)
 }
