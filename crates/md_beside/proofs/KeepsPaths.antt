@@ -146,12 +146,12 @@ module _ (t : Story) (story : IsStory t) (k : ℕ) (x : Step) (is : step_at t k 
   overwrites-nothing none (p, m, n, was, now, differ) = differ (sym (none p m n (before p m was) (after p n now)))
 
   no_two_names : HasOnePath (state t (suc k)) → TwoNames h → ⊥
-  no_two_names one (p, q, m, n, adds, differ, first, second) =
-      differ (one p q m n (after p m first.0) (after q n second.0) first.1.0 second.1.0 (sym second.1.2))
+  no_two_names one (p, q, m, n, adds, message, differ, there) =
+      differ (one p q m n (after p m adds.1) (after q n there.0) message there.1.0 (sym there.1.2))
 
   not_in_two_folders : HasOnePath (state t (suc k)) → InTwoFolders h → ⊥
-  not_in_two_folders one (p, q, m, n, adds, differ, first, second) =
-      differ (ap (λ (r : Path). r.folder) (one p q m n (after p m first.0) (after q n second.0) first.1.0 second.1.0 (sym second.1.2)))
+  not_in_two_folders one (p, q, m, n, adds, message, differ, there) =
+      differ (ap (λ (r : Path). r.folder) (one p q m n (after p m adds.1) (after q n there.0) message there.1.0 (sym there.1.2)))
 
   -- ---- by its call
 
@@ -315,7 +315,7 @@ module _ (t : Story) (story : IsStory t) (k : ℕ) (x : Step) (is : step_at t k 
       links-new : owed.UsedTwice h → ⊥
       links-new used = by_path used.0 target
           (λ one. never (once-of (history t k) (unique_of used.0.name) tmp.name used.2 (ap (λ (q : Path). unique_of q.name) one
-          ∙ plain) used.6))
+          ∙ plain) used.5))
           (λ differ. used.3.1 (sym (unchanged used.0 differ) ∙ used.3.0))
 
       names-linked : owed.NamedByAnother h → ⊥

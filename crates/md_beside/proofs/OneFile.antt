@@ -41,7 +41,6 @@ module _ (h : History) (x : Seen) (one : HasOnePath (at (next h x))) (files : Is
         n,
         (is.0, λ there. differ (files u m n (once-now (λ y. IsOf y u m) h (p, (there, is.1))) was)),
         is.1.0,
-        (λ same. differ (sym same)),
         subst (λ (v : List ℕ). WasOf h v n) (sym is.1.2) was,
         λ once. differ (files u m n (subst (λ (v : List ℕ). WasOf h v m) is.1.2 once) was),
       )))

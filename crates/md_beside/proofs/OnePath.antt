@@ -20,8 +20,8 @@ module _ (h : History) (one : HasOnePath (at (before h))) (two : TwoNames h → 
   added : (p q : Path) (m n : ℕ) → file_at (at (before h)) p ≡ None → file_at (at h) p ≡ Some m → file_at (at h) q ≡ Some n →
       is_message p ≡ true → is_message q ≡ true → unique_of p.name ≡ unique_of q.name → p ≡ q
   added p q m n was is is' message message' same = by_path p q (λ e. e) (λ differ. by_number p.folder q.folder
-      (λ here. absurd (two (p, q, m, n, (was, is), differ, (is, (message, refl, refl)), (is', (message', sym here, sym same)))))
-      (λ there. absurd (folders (p, q, m, n, (was, is), there, (is, (message, refl, refl)), (is', (message', refl, sym same))))))
+      (λ here. absurd (two (p, q, m, n, (was, is), message, differ, (is', (message', sym here, sym same)))))
+      (λ there. absurd (folders (p, q, m, n, (was, is), message, there, (is', (message', refl, sym same))))))
 
   one_path-kept : HasOnePath (at h)
   one_path-kept p q m n is is' message message' same =

@@ -138,7 +138,7 @@ module _ (t : Story) (story : IsStory t) (k : ℕ) (x : Step) (is : step_at t k 
   made-none (p, n, other, names, in_tmp, differ, once) = not_tmp p p in_tmp (named p n names).message refl
 
   used-none : owed.UsedTwice h → ⊥
-  used-none (p, n, other, names, message, differ, was, never) = elim (named p n names).unique [
+  used-none (p, n, other, names, message, was, never) = elim (named p n names).unique [
     | inl same ↦ never (once-now (λ m. (q : Path) × IsMessageAt (at m) q.folder (unique_of p.name) q n) (history t k)
         ((named p n names).from, was-of p n names (unique_of p.name) (named p n names).from.folder same.0 refl))
     | inr fresh ↦ fresh.1 (of-used (history t k) (unique_of p.name) other was)

@@ -94,8 +94,8 @@ NotFlushed h = (file : ℕ) × BeginsToBeSeen h file × IsUnflushed (before h) f
 
 -- maildir(5), the unique part names the message: the step adds a second path of a message to its folder.
 abbrev pub TwoNames : History → Type 0
-TwoNames h = (p q : Path) × (m n : ℕ) × Adds h p m × (p ≢ q)
-    × IsMessageAt (at h) p.folder (unique_of p.name) p m × IsMessageAt (at h) p.folder (unique_of p.name) q n
+TwoNames h = (p q : Path) × (m n : ℕ) × Adds h p m × (is_message p ≡ true) × (p ≢ q)
+    × IsMessageAt (at h) p.folder (unique_of p.name) q n
 
 -- maildir(5), T: "the trash will be emptied by a later user action": a message leaves its folder otherwise than by an unlink of a name in
 -- cur with T, and its file is no message of its unique name in another folder.

@@ -22,8 +22,8 @@ NamedByAnother h = (actor : List ℕ) × (p : Path) × (file : ℕ) × IsBy h ac
 
 -- "Using maildir format", names are unique: a path of a message is added, and its unique name is that of a message in another folder.
 abbrev pub InTwoFolders : History → Type 0
-InTwoFolders h = (p q : Path) × (m n : ℕ) × Adds h p m × (p.folder ≢ q.folder)
-    × IsMessageAt (at h) p.folder (unique_of p.name) p m × IsMessageAt (at h) q.folder (unique_of p.name) q n
+InTwoFolders h = (p q : Path) × (m n : ℕ) × Adds h p m × (is_message p ≡ true) × (p.folder ≢ q.folder)
+    × IsMessageAt (at h) q.folder (unique_of p.name) q n
 
 -- the file is, or was, a message of the unique name, in any folder
 abbrev pub WasOf : History → List ℕ → ℕ → Type 0
@@ -32,7 +32,7 @@ WasOf h unique file = Once (λ m. (p : Path) × IsMessageAt (at m) p.folder uniq
 -- The same, of messages that were: a path of a message comes to name a file that never was a message of its unique name, and another file
 -- was.
 abbrev pub UsedTwice : History → Type 0
-UsedTwice h = (p : Path) × (file other : ℕ) × Names h p file × (is_message p ≡ true) × (other ≢ file)
+UsedTwice h = (p : Path) × (file other : ℕ) × Names h p file × (is_message p ≡ true)
     × WasOf (before h) (unique_of p.name) other × (WasOf (before h) (unique_of p.name) file → ⊥)
 
 -- The same, of tmp: a path of tmp comes to name a file, and once named another.

@@ -73,8 +73,8 @@ module _ (past : History) (x : Step) where
   pub two_names : Decides (found.breaks_two_names (at past) (now h) (messages_kept past) x) (law.TwoNames h)
   unfolding moment
   two_names = Decides-like _
-      (λ (p, m, adds, message, (q, n, other, there, is)). (p, q, m, n, adds, other, (adds.1, (message, refl, refl)), (there, is)))
-      (λ (p, q, m, n, adds, other, here, there). (p, m, adds, here.1.0, (q, n, other, there.0, there.1)))
+      (λ (p, m, adds, message, (q, n, other, there, is)). (p, q, m, n, adds, message, other, (there, is)))
+      (λ (p, q, m, n, adds, message, other, there). (p, m, adds, message, (q, n, other, there.0, there.1)))
       (added-is _ (λ p m. (q : Path) × (n : ℕ) × (p ≢ q) × (file_at (at h) q ≡ Some n) × IsOf q p.folder (unique_of p.name))
       (λ p m adds message.
       another-is _ (λ q n. IsOf q p.folder (unique_of p.name)) (λ e. of-is p.folder (unique_of p.name) e.0) (at h) p m adds.1
@@ -138,8 +138,8 @@ module _ (past : History) (x : Step) where
   unfolding moment
   in_two_folders = Decides-like _
       (λ (p, m, adds, message, (q, n, there, is, other)).
-      (p, q, m, n, adds, λ same. other (sym same), (adds.1, (message, refl, refl)), (there, (is.0, refl, is.1))))
-      (λ (p, q, m, n, adds, other, here, there). (p, m, adds, here.1.0, (q, n, there.0, (there.1.0, there.1.2), λ same. other (sym same))))
+      (p, q, m, n, adds, message, λ same. other (sym same), (there, (is.0, refl, is.1))))
+      (λ (p, q, m, n, adds, message, other, there). (p, m, adds, message, (q, n, there.0, (there.1.0, there.1.2), λ same. other (sym same))))
       (added-is _ (λ p m. (q : Path) × (n : ℕ) × (file_at (at h) q ≡ Some n) × IsOfAny (unique_of p.name) q × (q.folder ≢ p.folder))
       (λ p m adds message. Decides-like _ (λ (q, n, there, both). (q, n, there, both.0, both.1))
       (λ (q, n, there, is, other). (q, n, there, (is, other)))
@@ -152,8 +152,8 @@ module _ (past : History) (x : Step) where
       let other = once-some _ past (once-map (IsAnywhere (unique_of p.name))
       (λ m. (k : ℕ) × ((q : Path) × IsMessageAt (at m) q.folder (unique_of p.name) q k))
       (λ m (q, k, there, is). (k, (q, (there, (is.0, refl, is.1))))) past both.0.1) in
-      (p, n, other.0, new, both.0.0, λ same. both.1 (subst (WasOf past (unique_of p.name)) same other.1), other.1, both.1))
-      (λ (p, n, other, new, message, differ, was, never). (
+      (p, n, other.0, new, both.0.0, other.1, both.1))
+      (λ (p, n, other, new, message, was, never). (
         p,
         n,
         new,
