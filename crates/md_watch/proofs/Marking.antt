@@ -1,5 +1,5 @@
 -- What is kept of flags is changed by a path that comes or goes.
-use Rattle.std.proofs.Common.{ℕ, ◌≡◌, ◌+◌, ◌-◌, ◌==◌, ◌&&◌, cond, not, nat_eq, nat_lt, List, [], ◌∷◌, ◌++◌, Option, Some, None, Bool, true, false, refl, sym, ap, ◌∙◌, arith}
+use Rattle.std.proofs.Common.{ℕ, ◌≡◌, ◌+◌, ◌==◌, ◌&&◌, cond, not, nat_eq, nat_lt, List, [], ◌∷◌, ◌++◌, Option, Some, None, Bool, true, false, refl, sym, ap, ◌∙◌, arith}
 use Rattle.std.specs.Option.{option_map}
 use Rattle.std.specs.Str.{bytes_eq}
 use Rattle.std.proofs.lemmas.Bool.Decides.{Decides-eqb}
@@ -18,7 +18,7 @@ use Rattle.md_watch.specs.declared.flagged.Shown.{Shown}
 use Rattle.md_watch.specs.declared.flagged.Flagged.{Flagged}
 use Rattle.md_watch.specs.declared.spells.Spell.{Spell}
 use Rattle.md_kept.specs.declared.table.Table.{Table}
-use Rattle.md_watch.specs.Flagged.{shows, times, mark_of, names_of, spell_in_it, showing_of, count_of, spell_of, set_at, count_by, spell_by, IsOf, more_at, less_at, Adds, Changes, Lends, Comes, Goes, Puts as PutsPath}
+use Rattle.md_watch.specs.Flagged.{shows, times, mark_of, names_of, spell_in_it, showing_of, count_of, spell_of, set_at, count_by, spell_by, IsOf, count_after, count_after_at, Adds, Changes, Lends, Turns, Puts as PutsPath}
 use Rattle.md_watch.specs.Spells.{since_of, ended_of, Passes, IsSame}
 use Rattle.md_kept.specs.Tables.{value_at, is_key, Puts}
 use Rattle.md_kept.proofs.Keys.{key-is}
@@ -180,13 +180,11 @@ module _ (w n : ℕ) (old mid new : Flagged) (lent put : Shown)
                 (passes-none (nat_lt 0 (count_by old word m q)) n (spell_by old word m q));
           }
 
-more : (b : Bool) (count : ℕ) → count + cond b 1 0 ≡ cond b (count + 1) count
-more true count = refl
-more false count = omega arith
-
-less : (b : Bool) (count : ℕ) → count - cond b 1 0 ≡ cond b (count - 1) count
-less true count = refl
-less false count = omega arith
+once : (comes b : Bool) (count : ℕ) → count_after comes count (cond b 1 0) ≡ cond b (count_after comes count 1) count
+once true true count = refl
+once true false count = omega arith
+once false true count = refl
+once false false count = omega arith
 
 -- by a path that shows the mark
 module _ (p : Path) (k : ℕ) (u : List ℕ) (w : ℕ) (mark : mark_of p ≡ Some (u, w)) where
@@ -199,17 +197,11 @@ module _ (p : Path) (k : ℕ) (u : List ℕ) (w : ℕ) (mark : mark_of p ≡ Som
 
   module _ (n : ℕ) (old mid new : Flagged) (lent put : Shown)
       (lends : Lends w lent old mid) (updates : Updates nat_eq mid.sets new.sets w (Some put)) where
-    pub came : Changes (more_at p.folder u) n (Some lent) (Some put) → Comes (Some (p, k)) n old new
-    came changes = put-back w n old mid new lent put lends updates
-        (λ word m q count. count + times word m q (Some (p, k))) (more_at p.folder u) changes
-        (λ word m q count same. ap (λ t. count + t) (at-word word m q same) ∙ more (is_key (p.folder, u) (m, q)) count)
-        (λ word m q count other. ap (λ t. count + t) (at-none word m q other) ∙ more false count)
-
-    pub went : Changes (less_at p.folder u) n (Some lent) (Some put) → Goes (Some (p, k)) n old new
-    went changes = put-back w n old mid new lent put lends updates
-        (λ word m q count. count - times word m q (Some (p, k))) (less_at p.folder u) changes
-        (λ word m q count same. ap (λ t. count - t) (at-word word m q same) ∙ less (is_key (p.folder, u) (m, q)) count)
-        (λ word m q count other. ap (λ t. count - t) (at-none word m q other) ∙ less false count)
+    pub turns : (comes : Bool) → Changes (count_after_at comes p.folder u) n (Some lent) (Some put) → Turns (Some (p, k)) comes n old new
+    turns comes changes = put-back w n old mid new lent put lends updates
+        (λ word m q count. count_after comes count (times word m q (Some (p, k)))) (count_after_at comes p.folder u) changes
+        (λ word m q count same. ap (count_after comes count) (at-word word m q same) ∙ once comes (is_key (p.folder, u) (m, q)) count)
+        (λ word m q count other. ap (count_after comes count) (at-none word m q other) ∙ once comes false count)
 
 -- ---- at the beginning
 
@@ -230,10 +222,10 @@ module _ (p : Path) (u : List ℕ) (w : ℕ) (mark : mark_of p ≡ Some (u, w)) 
           ap (λ o. count_of o m q) (here-at w 0 old mid new lent put lends updates word is) ∙ adds.counts m q
           ∙ ap (λ (k : ℕ). cond (is_key (p.folder, u) (m, q)) (k + 1) k) (ap names_of (lent-is word m q is))
           ∙ sym (ap (λ k. count_by old word m q + k) (at-word p 0 u w mark word m q is)
-          ∙ more (is_key (p.folder, u) (m, q)) (count_by old word m q))
+          ∙ once true (is_key (p.folder, u) (m, q)) (count_by old word m q))
       counts word m q false is =
           ap (λ o. count_of o m q) (beside w 0 old mid new lent put lends updates word is)
-          ∙ sym (ap (λ k. count_by old word m q + k) (at-none p 0 u w mark word m q is) ∙ more false (count_by old word m q))
+          ∙ sym (ap (λ k. count_by old word m q + k) (at-none p 0 u w mark word m q is) ∙ once true false (count_by old word m q))
 
       spells : (word m : ℕ) (q : List ℕ) (b : Bool) → nat_eq w word ≡ b → IsSame (spell_by old word m q) (spell_by new word m q)
       spells word m q true is =

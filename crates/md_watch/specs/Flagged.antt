@@ -1,6 +1,6 @@
 -- By how many names in cur each message shows each set of flags, when it did, and how paths that come and go change it. A set of flags is
 -- known by its word.
-use Rattle.std.specs.Prelude.{ℕ, ◌≡◌, ◌+◌, ◌-◌, ◌==◌, ◌&&◌, List, Option, Some, None, Bool, false, nat_eq, nat_lt, if◌then◌else◌}
+use Rattle.std.specs.Prelude.{ℕ, ◌≡◌, ◌+◌, ◌-◌, ◌==◌, ◌&&◌, List, Option, Some, None, Bool, true, false, nat_eq, nat_lt, if◌then◌else◌}
 use Rattle.std.specs.Borrow.{Bor}
 use Rattle.std.specs.Option.{option_map}
 use Rattle.indexmap.specs.IndexMap.{get}
@@ -89,12 +89,13 @@ spell_in w folder unique flags = spell_by w (word_of flags) folder unique
 
 -- ---- how it changes
 
--- a count at one key is one more, or one less, and at others it stays
-abbrev pub more_at : ℕ → List ℕ → ℕ → List ℕ → ℕ → ℕ
-more_at folder unique m q count = if is_key (folder, unique) (m, q) then count + 1 else count
+-- a count after some came, or went
+abbrev pub count_after : Bool → ℕ → ℕ → ℕ
+count_after comes count times = if comes then count + times else count - times
 
-abbrev pub less_at : ℕ → List ℕ → ℕ → List ℕ → ℕ → ℕ
-less_at folder unique m q count = if is_key (folder, unique) (m, q) then count - 1 else count
+-- at one key one came, or went, and at others the count stays
+abbrev pub count_after_at : Bool → ℕ → List ℕ → ℕ → List ℕ → ℕ → ℕ
+count_after_at comes folder unique m q count = if is_key (folder, unique) (m, q) then count_after comes count 1 else count
 
 -- In a step of a number the counts of one set of flags change so, and its spells go with them.
 pub record Changes (f : ℕ → List ℕ → ℕ → ℕ) (n : ℕ) (old new : Option Shown) : Type 0 where
@@ -104,7 +105,7 @@ pub record Changes (f : ℕ → List ℕ → ℕ → ℕ) (n : ℕ) (old new : O
 
 -- At the beginning one more name of the key shows one set of flags; no spell changes.
 pub record Adds (folder : ℕ) (unique : List ℕ) (old new : Option Shown) : Type 0 where
-  pub counts : (m : ℕ) (q : List ℕ) → count_of new m q ≡ more_at folder unique m q (count_of old m q)
+  pub counts : (m : ℕ) (q : List ℕ) → count_of new m q ≡ count_after_at true folder unique m q (count_of old m q)
   pub spells : (m : ℕ) (q : List ℕ) → IsSame (spell_of old m q) (spell_of new m q)
 
 -- What is kept of the set of a word is lent, where nothing is kept as nothing, and of the others all is kept.
@@ -113,19 +114,17 @@ pub record Lends (word : ℕ) (lent : Shown) (old new : Flagged) : Type 0 where
   pub others : (v : ℕ) → nat_eq word v ≡ false → set_at new v ≡ set_at old v
 
 -- A path came to name a file, or one went, in a step of a number.
-abbrev pub Comes : Option (Path × ℕ) → ℕ → Flagged → Flagged → Type 0
-Comes named n old new = (word : ℕ) → Changes (λ m q count. count + times word m q named) n (set_at old word) (set_at new word)
-
-abbrev pub Goes : Option (Path × ℕ) → ℕ → Flagged → Flagged → Type 0
-Goes went n old new = (word : ℕ) → Changes (λ m q count. count - times word m q went) n (set_at old word) (set_at new word)
+abbrev pub Turns : Option (Path × ℕ) → Bool → ℕ → Flagged → Flagged → Type 0
+Turns named comes n old new =
+    (word : ℕ) → Changes (λ m q count. count_after comes count (times word m q named)) n (set_at old word) (set_at new word)
 
 -- First a path comes, and then one goes, and one.
 pub record Follows (t : Turn) (n : ℕ) (old new : Flagged) : Type 0 where
   pub come : Flagged
   pub gone : Flagged
-  pub comes : Comes t.named n old come
-  pub goes : Goes t.taken n come gone
-  pub turns : Goes t.turned n gone new
+  pub comes : Turns t.named true n old come
+  pub goes : Turns t.taken false n come gone
+  pub turns : Turns t.turned false n gone new
 
 -- At the beginning a path names a file.
 pub record Puts (p : Path) (old new : Flagged) : Type 0 where

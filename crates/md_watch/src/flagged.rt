@@ -1,9 +1,9 @@
 //! When messages showed flags in cur.
-ghost use Rattle.std.specs.Prelude.{◌≡◌, ◌+◌, ◌-◌, ℕ, List, [], Some, None, nat_lt, OnOk};
+ghost use Rattle.std.specs.Prelude.{◌≡◌, ◌+◌, ℕ, List, [], Some, None, nat_lt, IfOk, OnOk};
 ghost use Rattle.std.specs.Option.{option_map};
 ghost use Rattle.md_kept.specs.Changes.{turn_of};
 ghost use Rattle.md_kept.specs.Files.{lent_as};
-ghost use Rattle.md_watch.specs.Flagged.{Adds, Changes, Comes, Follows, Goes, IsOf, Lends, Puts, count_by, count_of, is_in, less_at, lent_mark, mark_of, more_at, showing_of, spell_by, spell_in, spell_of};
+ghost use Rattle.md_watch.specs.Flagged.{Adds, Changes, Follows, IsOf, Lends, Puts, Turns, count_after, count_after_at, count_by, count_of, is_in, lent_mark, mark_of, showing_of, spell_by, spell_in, spell_of};
 ghost use Rattle.md_watch.specs.Spells.{Passes, ended_of, ever_by, since_of};
 ghost use Rattle.md_kept.specs.Tables.{Puts as PutsAt};
 
@@ -39,36 +39,36 @@ impl Showing {
         self.names > 0
     }
 
-    /// One more name shows them.
+    /// At the beginning one more name shows them.
     fn add(&mut self) -> Result<(), AllocError>
         ensures names { OnOk result (self.new.names ≡ self.old.names + 1) }
         ensures same { self.new.spell ≡ self.old.spell }
     {
-        self.names = self.names.checked_add(1).ok_or(AllocError)?;
+        self.names = count_after(true, self.names)?;
         Ok(())
     }
 
-    /// One more does, in the step of a number.
-    fn come(&mut self, now: usize) -> Result<(), AllocError>
-        ensures names { OnOk result (self.new.names ≡ self.old.names + 1) }
+    /// In the step of a number a name comes to show them, or no longer does.
+    fn turn(&mut self, comes: bool, now: usize) -> Result<(), AllocError>
+        ensures names { OnOk result (self.new.names ≡ count_after comes self.old.names 1) }
         ensures spell { OnOk result
             (Passes (nat_lt 0 self.old.names) (nat_lt 0 self.new.names) now (Some self.old.spell) (Some self.new.spell)) }
     {
         let was = self.is();
-        self.add()?;
-        self.spell.pass(was, true, now)
-    }
-
-    /// One name less does.
-    fn go(&mut self, now: usize) -> Result<(), AllocError>
-        ensures names { OnOk result (self.new.names ≡ self.old.names - 1) }
-        ensures spell { OnOk result
-            (Passes (nat_lt 0 self.old.names) (nat_lt 0 self.new.names) now (Some self.old.spell) (Some self.new.spell)) }
-    {
-        let was = self.is();
-        self.names = self.names.saturating_sub(1);
+        self.names = count_after(comes, self.names)?;
         let is = self.is();
         self.spell.pass(was, is, now)
+    }
+}
+
+/// One more, or one less.
+fn count_after(comes: bool, count: usize) -> Result<usize, AllocError>
+    ensures { IfOk result (λ after. after ≡ count_after comes count 1) }
+{
+    if comes {
+        count.checked_add(1).ok_or(AllocError)
+    } else {
+        Ok(count.saturating_sub(1))
     }
 }
 
@@ -116,21 +116,18 @@ impl Shown {
         self.all.put_back(at, folder, unique, showing)
     }
 
-    /// One more name shows them.
-    fn come(&mut self, folder: usize, unique: &[u8], now: usize) -> Result<(), AllocError>
-        ensures { OnOk result (Changes (more_at folder unique.now) now (Some self.old) (Some self.new)) }
+    /// In the step of a number a name of the message comes to show them, or no longer does.
+    fn turn(
+        &mut self,
+        folder: usize,
+        unique: &[u8],
+        comes: bool,
+        now: usize,
+    ) -> Result<(), AllocError>
+        ensures { OnOk result (Changes (count_after_at comes folder unique.now) now (Some self.old) (Some self.new)) }
     {
         let (at, mut showing) = self.take(folder, unique);
-        showing.come(now)?;
-        self.all.put_back(at, folder, unique, showing)
-    }
-
-    /// One name less does.
-    fn go(&mut self, folder: usize, unique: &[u8], now: usize) -> Result<(), AllocError>
-        ensures { OnOk result (Changes (less_at folder unique.now) now (Some self.old) (Some self.new)) }
-    {
-        let (at, mut showing) = self.take(folder, unique);
-        showing.go(now)?;
+        showing.turn(comes, now)?;
         self.all.put_back(at, folder, unique, showing)
     }
 
@@ -201,13 +198,14 @@ impl Flagged {
     pub(crate) fn follow(&mut self, change: &Change<'_>, now: usize) -> Result<(), AllocError>
         ensures { OnOk result (Follows (turn_of change.now) now self.old self.new) }
     {
-        self.come(change.named, now)?;
-        self.go(change.taken, now)?;
-        self.go(change.turned, now)
+        self.turn(change.named, true, now)?;
+        self.turn(change.taken, false, now)?;
+        self.turn(change.turned, false, now)
     }
 
-    fn come(&mut self, named: Option<Named<'_>>, now: usize) -> Result<(), AllocError>
-        ensures { OnOk result (Comes (lent_as named.entry) now self.old self.new) }
+    /// A path comes, or goes.
+    fn turn(&mut self, named: Option<Named<'_>>, comes: bool, now: usize) -> Result<(), AllocError>
+        ensures { OnOk result (Turns (lent_as named.entry) comes now self.old self.new) }
     {
         let Some((path, _)) = named else {
             return Ok(());
@@ -216,22 +214,7 @@ impl Flagged {
             return Ok(());
         };
         let mut shown = self.lend(word);
-        shown.come(path.folder as usize, unique, now)?;
-        self.sets.insert(word, shown)?;
-        Ok(())
-    }
-
-    fn go(&mut self, named: Option<Named<'_>>, now: usize) -> Result<(), AllocError>
-        ensures { OnOk result (Goes (lent_as named.entry) now self.old self.new) }
-    {
-        let Some((path, _)) = named else {
-            return Ok(());
-        };
-        let Some((unique, word)) = mark_of(path) else {
-            return Ok(());
-        };
-        let mut shown = self.lend(word);
-        shown.go(path.folder as usize, unique, now)?;
+        shown.turn(path.folder as usize, unique, comes, now)?;
         self.sets.insert(word, shown)?;
         Ok(())
     }
