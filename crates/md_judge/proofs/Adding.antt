@@ -9,7 +9,7 @@ use Rattle.md_judge.specs.declared.session.Session.{Session}
 use Rattle.md_log.specs.Texts.{clauses, clause_index}
 use Rattle.md_judge.specs.Verdict.{IsAmong}
 use Rattle.md_judge.specs.Placed.{AddsFinding}
-use Rattle.md_judge.proofs.Lists.{one-more, first-are, last-is}
+use Rattle.md_judge.proofs.Lists.{one-more, stays, last-is}
 use Rattle.md_judge.proofs.Ordered.{HaveNumbersFrom}
 
 -- a broken clause comes after the others
@@ -25,7 +25,7 @@ adds-one c o n before fs gs P broken more m =
             inr (ap (λ (g : Finding). g.line) is.1 ∙ now.3, (same, subst P same broken))
       ],
       λ some. subst (λ (hs : List Finding). IsAmong hs m o) (sym more) (elim some [
-        | inl was ↦ (was.0, was.1, first-are fs f was.0 was.1 was.2, was.3, was.4)
+        | inl was ↦ (was.0, was.1, stays fs f was.0 was.1 was.2, was.3, was.4)
         | inr one ↦ (length fs, f, last-is fs f, one.0, one.1.0)
       ]),
     )

@@ -10,7 +10,7 @@ use Rattle.md_judge.specs.Logs.{Log, Numbered, with_step}
 use Rattle.md_judge.specs.Orders.{AreOfOneStretch, IsOrder, IsReordered, Fits, IsFindingIn}
 use Rattle.md_judge.specs.Placed.{MayComeNext}
 use Rattle.md_judge.specs.Verdict.{history, IsAllowed}
-use Rattle.md_judge.proofs.Lists.{last-is, first-are, same-step, one-more}
+use Rattle.md_judge.proofs.Lists.{last-is, stays, same-step, one-more}
 use Rattle.md_judge.proofs.Telling.{pushed, history-same}
 
 -- what stood at a place of a list stands there in a longer one, and what stands there stood there if the place is not the last
@@ -30,7 +30,7 @@ stretch-longer l n a b low low' are k x between is =
     within (inr at) = let to = at.1 in omega (arith, low, low', to)
 
 stretch-shorter : (l : Log) (n : Numbered) (a b : ℕ) → AreOfOneStretch (pushed l n) a b → AreOfOneStretch l a b
-stretch-shorter l n a b are k x between is = are k x between (first-are l.steps n k x is)
+stretch-shorter l n a b are k x between is = are k x between (stays l.steps n k x is)
 
 -- an order of its steps stays one
 pub order-longer : (l : Log) (n : Numbered) (order : List ℕ) → IsOrder l order → IsOrder (pushed l n) order
@@ -61,7 +61,7 @@ same-longer l m n order may low same = record {
 pub found-longer : (l m : Log) (n : Numbered) (order : List ℕ) (number : ℕ) (c : Clause) → IsOrder l order
     → IsFindingIn order l m number c ↔ IsFindingIn order (pushed l n) m number c
 found-longer l m n order number c may = (
-  λ is. (is.0, (is.1.0, is.1.1, is.1.2, is.1.3, first-are l.steps n is.1.1 _ is.1.4, is.1.5)),
+  λ is. (is.0, (is.1.0, is.1.1, is.1.2, is.1.3, stays l.steps n is.1.1 _ is.1.4, is.1.5)),
   λ is. (is.0, (is.1.0, is.1.1, is.1.2, is.1.3, was-there l.steps n is.1.1 _ (may.within is.1.0 is.1.1 is.1.3) is.1.4, is.1.5)),
 )
 
@@ -122,7 +122,7 @@ module _ (l : Log) (order : List ℕ) (i : ℕ) where
       rest = λ k. record (same.rest k) { steps = m.steps ++ one ∷ [] };
       many = length_push m.steps one ∙ ap (λ n. n + 1) same.many ∙ sym (length_push order i);
       steps = λ a j z w is is-here is-there. elim (one-more order i a j is) [
-        | inl was ↦ first-are m.steps one a _ (same.steps a j z w was is-here is-there)
+        | inl was ↦ stays m.steps one a _ (same.steps a j z w was is-here is-there)
         | inr now ↦
             let x-is : Some x ≡ Some z = sym here ∙ ap (slice_get l.steps) (sym now.0) ∙ is-here in
             let y-is : Some y ≡ Some w = sym there ∙ ap (slice_get l.steps) now.1 ∙ is-there in
@@ -162,7 +162,7 @@ module _ (l : Log) (order : List ℕ) (i : ℕ) where
             let within = slice_get_within order is.1.0 is.1.1 is.1.3 in
             let many = same.many in
             let low : is.1.0 < length m.steps = omega (arith, within, many) in
-            (is.0, (is.1.0, is.1.1, is.1.2, first-are order i is.1.0 is.1.1 is.1.3, is.1.4, subst (Breaks c) (sym (history-same m one (suc is.1.0) (omega (arith, low)))) is.1.5))
+            (is.0, (is.1.0, is.1.1, is.1.2, stays order i is.1.0 is.1.1 is.1.3, is.1.4, subst (Breaks c) (sym (history-same m one (suc is.1.0) (omega (arith, low)))) is.1.5))
         | inr new ↦ (
           new.1,
           (length order, i, y.step, last-is order i, there ∙ (λ k. Some (record { number = new.0 k; step = y.step })), new.2),

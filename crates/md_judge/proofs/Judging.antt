@@ -17,7 +17,7 @@ use Rattle.md_judge.specs.Orders.{IsFindingIn}
 use Rattle.md_judge.specs.Verdict.{history, HasNoTicks, AreEarlier, AreInOrder}
 use Rattle.md_judge.specs.Placed.{AreInOrderAtLines, AreBelowAtLine, MayComeNext, HasLines, HasJudged, Judges}
 use Rattle.md_judge.proofs.InOrder.{order-longer, same-longer, found-longer, order-next, same-next, found-next, fits-next}
-use Rattle.md_judge.proofs.Lists.{one-more, first-are}
+use Rattle.md_judge.proofs.Lists.{one-more, stays}
 use Rattle.md_judge.proofs.Telling.{history-next}
 
 module _ (number : ℕ) (l m : Log) (order : List ℕ) (i : ℕ) (x y : Numbered) (s : Session) (read : HasLines number l s)
@@ -57,8 +57,8 @@ module _ (number : ℕ) (l m : Log) (order : List ℕ) (i : ℕ) (x y : Numbered
     all-earlier unmoved last k f is =
         let finding : IsFindingIn order l m f.line f.clause = (judged.found f.line f.clause).0 (k, f, is, refl, refl) in
         let within = slice_get_within order finding.1.0 finding.1.1 finding.1.3 in
-        let stays : finding.1.1 ≡ finding.1.0 = judged.unmoved unmoved finding.1.0 finding.1.1 finding.1.3 in
-        inl (read.numbered.rises finding.1.1 i (record { number = f.line; step = finding.1.2 }) y (omega (arith, within, stays, last)) finding.1.4 there)
+        let unmoved-it : finding.1.1 ≡ finding.1.0 = judged.unmoved unmoved finding.1.0 finding.1.1 finding.1.3 in
+        inl (read.numbered.rises finding.1.1 i (record { number = f.line; step = finding.1.2 }) y (omega (arith, within, unmoved-it, last)) finding.1.4 there)
 
     -- a session that judges the next step has judged it with the others
     pub judged-next : (t : Session) → Judges past y.number y.step s t
@@ -153,5 +153,5 @@ module _ (number : ℕ) (l : Log) (x : Step) (s : Session) (read : HasLines numb
     at_lines = judged.at_lines;
     unmoved = judged.unmoved;
     ordered = judged.ordered;
-    plain = λ none. judged.plain (λ k y is. none k y (first-are l.steps one k y is));
+    plain = λ none. judged.plain (λ k y is. none k y (stays l.steps one k y is));
   }

@@ -1,14 +1,6 @@
 -- Lists that get one more element.
 use Rattle.std.proofs.Common.{ℕ, zero, suc, ◌≡◌, ◌<◌, ◌⊎◌, inl, inr, List, [], ◌++◌, ◌∷◌, Some, length, slice_get, refl, sym, ap, subst, ◌∙◌, arith}
-
-pub last-is : {A : Type 0} (xs : List A) (y : A) → slice_get (xs ++ y ∷ []) (length xs) ≡ Some y
-last-is [] y = refl
-last-is (x ∷ xs) y = last-is xs y
-
-pub first-are : {A : Type 0} (xs : List A) (y : A) (i : ℕ) (x : A) → slice_get xs i ≡ Some x → slice_get (xs ++ y ∷ []) i ≡ Some x
-first-are [] y i x is = absurd (cc is)
-first-are (z ∷ xs) y zero x is = is
-first-are (z ∷ xs) y (suc i) x is = first-are xs y i x is
+pub use Rattle.lists.proofs.Pushed.{last-is, stays}
 
 -- an element that was there is there in a longer list
 pub same-step : {A : Type 0} (xs : List A) (y : A) (j : ℕ) → j < length xs → slice_get xs j ≡ slice_get (xs ++ y ∷ []) j

@@ -19,7 +19,7 @@ use Rattle.md_judge.specs.Placed.{IsUnplaced, AddsWaiting, AreWaiting, MayComeNe
 use Rattle.md_judge.specs.Verdict.{history}
 use Rattle.md_judge.proofs.Judging.{judged-next, judged-longer, lines-longer}
 use Rattle.md_judge.proofs.Placing.{judged-on, waits-on}
-use Rattle.md_judge.proofs.Lists.{one-more, first-are, last-is, stands-at, no-more}
+use Rattle.md_judge.proofs.Lists.{one-more, stays, last-is, stands-at, no-more}
 use Rattle.md_judge.proofs.Lines.{HasSame, begun-after}
 
 -- what waits is what waited where only other parts of the session change
@@ -77,7 +77,7 @@ module _ (number : ℕ) (l : Log) (x : Step) where
             ];
         lines = λ k y is. elim (one-more l.steps one (from + k) y is) [
           | inl was ↦
-              subst (λ ns. slice_get ns k ≡ Some y.number) (sym adds.lines) (first-are old.lines.items number k y.number (waits.lines k y was))
+              subst (λ ns. slice_get ns k ≡ Some y.number) (sym adds.lines) (stays old.lines.items number k y.number (waits.lines k y was))
           | inr now ↦
               let end = now.0 in
               let here : k ≡ length old.lines.items = omega (arith, end, many, long) in
@@ -153,7 +153,7 @@ module _ (number : ℕ) (l : Log) (x : Step) where
               (judged-longer number l x s settled.read order m (omega (arith, all)) settled.judged) here here (comes-next s settled none) t
               judges (λ unmoved. (refl, (λ k. (sym keeps.stretch k).moved) ∙ unmoved)) (λ ticks wrong. ticks none)
               (λ plain. (λ k. (keeps.stretch k).moved)
-              ∙ settled.judged.plain (λ k y is. plain k y (first-are l.steps one k y is)));
+              ∙ settled.judged.plain (λ k y is. plain k y (stays l.steps one k y is)));
           placed = λ a j is. elim (one-more order i a j is) [
             | inl was ↦ let low = settled.judged.may.within a j was in omega (arith, low, long, all)
             | inr now ↦ let last = now.1 in omega (arith, last, long)
