@@ -92,5 +92,5 @@ fn is_dots(name: &[u8]) -> bool
 fn has_barred(name: &[u8]) -> bool
     ensures { result ≡ list_any is_barred name.now }
 {
-    name.iter().any(|b| *b == b'/' || *b == 0)
+    name.contains(&b'/') | name.contains(&0)
 }
