@@ -3,11 +3,13 @@
 from __future__ import annotations
 
 from collections import defaultdict
-from typing import Any, Callable, DefaultDict, Dict, Iterable, List, NamedTuple, Optional, Set, Tuple
+from typing import Any, Callable, DefaultDict, Dict, Iterable, List, NamedTuple, Optional, Set, Tuple, TypeVar
 
 from .folders import File, Place
 from .names import Path
 from .processes import Turn
+
+K, V = TypeVar("K"), TypeVar("V")
 
 
 class Change(NamedTuple):
@@ -73,9 +75,17 @@ class Directories:
         while len(self._undo) > mark:
             self._undo.pop()()
 
-    def undone_by(self, undo: Callable[[], Any]) -> None:
-        """Keeps how a change is taken back."""
-        self._undo.append(undo)
+    def change(self, what: Any, field: str, value: Any) -> None:
+        """Changes a field of an object."""
+        former = getattr(what, field)
+        setattr(what, field, value)
+        self._undo.append(lambda: setattr(what, field, former))
+
+    def _keep(self, kept: Dict[K, V], key: K, value: Optional[V]) -> None:
+        """Keeps a value, or none any more."""
+        former = kept.get(key)
+        _put(kept, key, value)
+        self._undo.append(lambda: _put(kept, key, former))
 
     def new_file(self) -> int:
         """A file of no name yet."""
@@ -84,10 +94,8 @@ class Directories:
 
     def made_up(self, folder: bytes) -> Path:
         """A name in tmp that nothing has, for a file that comes from outside."""
-        former = self._made_up
-        self._undo.append(lambda: setattr(self, "_made_up", former))
         while True:
-            self._made_up += 1
+            self.change(self, "_made_up", self._made_up + 1)
             path = Path(folder, "tmp", b"arrived.%d" % self._made_up)
             if path not in self.names:
                 return path
@@ -100,8 +108,8 @@ class Directories:
         if former is not None:
             self.take(path)
         self._name(path, file)
+        self._undo.append(lambda: self._unname(path, file))
         self._tell(path, True)
-        self._undo.append(lambda: self._forget(path, file))
 
     def take(self, path: Path) -> None:
         """Takes a path away."""
@@ -109,10 +117,11 @@ class Directories:
         if file is None:
             return
         self._unname(path, file)
+        self._undo.append(lambda: self._name(path, file))
         if file <= self._first_files:
             self._former.setdefault(path, []).append(file)
+            self._undo.append(self._former[path].pop)
         self._tell(path, False)
-        self._undo.append(lambda: self._restore(path, file))
 
     def path_of(self, file: Optional[int]) -> Optional[Path]:
         """A path that a file has now."""
@@ -129,15 +138,13 @@ class Directories:
 
     def start_reading(self, actor: str, place: Place, owner: Turn) -> Reading:
         """A new reading of a directory, in place of the actor's last."""
-        former, reading = self.readings.get((actor, place)), Reading(owner, self.names_in(place))
-        self.readings[actor, place] = reading
-        self._undo.append(lambda: self._put_reading(actor, place, former))
+        reading = Reading(owner, self.names_in(place))
+        self._keep(self.readings, (actor, place), reading)
         return reading
 
     def end_reading(self, actor: str, place: Place) -> None:
         """The actor's reading is over."""
-        former = self.readings.pop((actor, place), None)
-        self._undo.append(lambda: self._put_reading(actor, place, former))
+        self._keep(self.readings, (actor, place), None)
 
     def show(self, reading: Reading, names: Iterable[bytes]) -> None:
         """Adds names that a reading showed."""
@@ -147,24 +154,11 @@ class Directories:
 
     def set_unflushed(self, file: int, actor: Optional[str]) -> None:
         """Whether a file was written to since its last flush, and by whom."""
-        former = self.unflushed.get(file)
-        self._put_unflushed(file, actor)
-        self._undo.append(lambda: self._put_unflushed(file, former))
-
-    def _put_unflushed(self, file: int, actor: Optional[str]) -> None:
-        if actor is None:
-            self.unflushed.pop(file, None)
-        else:
-            self.unflushed[file] = actor
-
-    def _put_reading(self, actor: str, place: Place, reading: Optional[Reading]) -> None:
-        if reading is None:
-            self.readings.pop((actor, place), None)
-        else:
-            self.readings[actor, place] = reading
+        self._keep(self.unflushed, file, actor)
 
     def _tell(self, path: Path, is_there: bool) -> None:
         self.changes.append(Change(len(self.told), path, is_there))
+        self._undo.append(self.changes.pop)
         for (_, place), reading in self.readings.items() if self.readings else ():
             if path[:2] == place:
                 self._tell_reading(reading, path.name, is_there)
@@ -194,12 +188,9 @@ class Directories:
             del self._paths[file]
         self._in[path.folder, path.place].discard(path.name)
 
-    def _forget(self, path: Path, file: int) -> None:
-        self._unname(path, file)
-        self.changes.pop()
 
-    def _restore(self, path: Path, file: int) -> None:
-        self._name(path, file)
-        if file <= self._first_files:
-            self._former[path].pop()
-        self.changes.pop()
+def _put(kept: Dict[K, V], key: K, value: Optional[V]) -> None:
+    if value is None:
+        kept.pop(key, None)
+    else:
+        kept[key] = value

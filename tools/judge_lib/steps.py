@@ -127,22 +127,16 @@ class Open(Step):
             word = "create" if self._makes else "write" if self._empties else None
             return [self.line(word, self._path, self._reply)] if word else self.looked(directories, self._path, self._reply)
         if self._makes and (file is None or self._is_exclusive):
-            self._set(directories, directories.new_file())
+            directories.change(self._opened, "file", directories.new_file())
+            directories.put(self._path, self._opened.file)
             return [self.line("create", self._path, "ok")]
         if file is None:
             return [self.comment(f"{self._path.word().decode('utf-8', 'replace')} was opened, and the log doesn't have it")]
-        self._set(directories, file, is_new=False)
+        directories.change(self._opened, "file", file)
         if self._empties:
             directories.set_unflushed(file, self.when.actor)
             return [self.line("write", self._path, "ok")]
         return self.looked(directories, self._path, self._reply)
-
-    def _set(self, directories: Directories, file: int, is_new: bool = True) -> None:
-        former, opened = self._opened.file, self._opened
-        opened.file = file
-        directories.undone_by(lambda: setattr(opened, "file", former))
-        if is_new:
-            directories.put(self._path, file)
 
 
 class Look(Step):
@@ -276,8 +270,7 @@ class AtOnce(Step):
     def _put(self, directories: Directories, is_new: bool) -> None:
         come = self._coming.file
         if is_new:
-            former, come.file = come.file, directories.new_file()
-            directories.undone_by(lambda: setattr(come, "file", former))
+            directories.change(come, "file", directories.new_file())
             if Made("write") in self._coming.made and Made("flush") not in self._coming.made:
                 directories.set_unflushed(come.file, self.when.actor)
         directories.put(self._new, come.file)
@@ -318,8 +311,7 @@ class Read(Step):
 
     def _drop(self, directories: Directories, turn: Turn) -> Line:
         """A reading that was not read to its end says nothing: its line is that of one which faults."""
-        turn.is_dropped = True
-        directories.undone_by(lambda: setattr(turn, "is_dropped", False))
+        directories.change(turn, "is_dropped", True)
         return self._listed("fault", [])
 
     def _listed(self, reply: str, names: List[bytes]) -> Line:
