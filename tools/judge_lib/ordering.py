@@ -1,7 +1,8 @@
 """The order in which calls took effect: that of their returns, unless calls overlap and their replies tell another one.
 
 The lines of calls that overlap have ticks. The judge keeps the order of the lines where it gives all replies, and refuses a log that has no
-such order, so no program is blamed for an order that nobody knows.
+such order, so no program is blamed for an order that nobody knows. It is looked for here too: whether an `open` created its file,
+which path an open file has, and what a status claims all go by what was there at that moment, and a log says only what came of it.
 """
 
 from __future__ import annotations
