@@ -6,7 +6,8 @@ import os
 import subprocess
 import tempfile
 import time
-from typing import Callable, Dict, FrozenSet, List, NamedTuple, Optional, Sequence, Tuple
+from contextlib import contextmanager
+from typing import Callable, Dict, FrozenSet, Iterator, List, NamedTuple, Optional, Sequence, Tuple
 
 from .claims import Claim
 from .folders import Folder, Folders, files_of, found_folders, named_folders
@@ -141,12 +142,26 @@ def line_of(log: bytes, number: int) -> str:
 
 def run_once(pairing: Pairing, prefix: str) -> Tuple[Played, Log]:
     """Plays one interleaving, in a directory of its own."""
+    with rooms(pairing.setup) as (base, room):
+        stepped, making = started(pairing, base, room)
+        try:
+            played = play(stepped, prefix)
+            if not stepped.run_to_end(_SECONDS_AFTER_WAITING):
+                raise Refused(f"the commands did not end, after the calls {played.order}")
+        finally:
+            stepped.close()
+        return played, ended(stepped, making)
+
+
+@contextmanager
+def rooms(setup: str) -> Iterator[Tuple[str, str]]:
+    """A directory with the maildirs that are made for a run, and one beside it."""
     with tempfile.TemporaryDirectory(prefix="explore-") as top:
         base, room = os.path.join(top, "work"), os.path.join(top, "room")
         os.mkdir(base)
         os.mkdir(room)
-        make_ready(pairing.setup, base)
-        return _play(pairing, prefix, base, room)
+        make_ready(setup, base)
+        yield base, room
 
 
 def make_ready(setup: str, base: str) -> None:
@@ -154,17 +169,6 @@ def make_ready(setup: str, base: str) -> None:
     made = subprocess.run(["sh", "-ec", setup], cwd=base, stdin=subprocess.DEVNULL, capture_output=True, check=False)
     if made.returncode:
         raise Refused(f"the setup ended with status {made.returncode}: {made.stderr.decode('utf-8', 'replace').strip()}")
-
-
-def _play(pairing: Pairing, prefix: str, base: str, room: str) -> Tuple[Played, Log]:
-    stepped, making = started(pairing, base, room)
-    try:
-        played = play(stepped, prefix)
-        if not stepped.run_to_end(_SECONDS_AFTER_WAITING):
-            raise Refused(f"the commands did not end, after the calls {played.order}")
-    finally:
-        stepped.close()
-    return played, ended(stepped, making)
 
 
 def started(pairing: Pairing, base: str, room: str) -> Tuple[Stepped, Making]:

@@ -4,7 +4,7 @@ from __future__ import annotations
 
 import os
 from functools import lru_cache
-from typing import Callable, Dict, Iterable, Iterator, List, NamedTuple, Optional, Set, Tuple, Union
+from typing import Callable, Dict, Iterable, Iterator, List, NamedTuple, Set, Tuple, Union
 
 from .names import PLACES, Path
 from .refused import Refused
@@ -170,8 +170,3 @@ def _add(found: Dict[Tuple[int, int], File], path: Path, entry: os.DirEntry[byte
     former = found.get(key)
     paths = (*former.paths, path) if former else (path,)
     found[key] = File(paths, max(0, int(status.st_mtime)), entry.is_file(follow_symlinks=False))
-
-
-def first_path(where: Union[Path, Place, None]) -> Optional[Path]:
-    """A file's path, where it is one."""
-    return where if isinstance(where, Path) else None

@@ -62,14 +62,13 @@ def deolmutt() -> str:
 
 def judge(log: bytes, allowed: Iterable[str] = ()) -> List[Finding]:
     """What the judge finds in a log, but for the clauses that are allowed."""
-    found = map(json.loads, _said("--json", allowed, input=log))
-    return [Finding(each["line"], each["clause"], each["grade"]) for each in found]
+    return [Finding(each["line"], each["clause"], each["grade"]) for each in _found(allowed, input=log)]
 
 
-def judge_file(path: str, allowed: Iterable[str] = ()) -> List[Told]:
+def judge_file(path: str, allowed: Iterable[str]) -> List[Told]:
     """What the judge says of a log's file."""
     with open(path, "rb") as log:
-        return [_told(json.loads(line)) for line in _said("--json", allowed, stdin=log)]
+        return [_told(each) for each in _found(allowed, stdin=log)]
 
 
 def _told(found: Dict[str, Any]) -> Told:
@@ -78,9 +77,9 @@ def _told(found: Dict[str, Any]) -> Told:
     return Told(found["line"], found["clause"], words["actor"], words["call"], found["why"], found["before"])
 
 
-def _said(form: str, allowed: Iterable[str], **given: Any) -> List[str]:
+def _found(allowed: Iterable[str], **given: Any) -> List[Dict[str, Any]]:
     words = [word for clause in allowed for word in ("--allow", clause)]
-    run = subprocess.run([deolmutt(), "judge", form, *words], capture_output=True, check=False, **given)
+    run = subprocess.run([deolmutt(), "judge", "--json", *words], capture_output=True, check=False, **given)
     if run.returncode not in (0, 1):
         raise Refused(f"the judge ended with status {run.returncode}: {run.stderr.decode('utf-8', 'replace').strip()}")
-    return run.stdout.decode().splitlines()
+    return [json.loads(line) for line in run.stdout.decode().splitlines()]

@@ -32,8 +32,8 @@ def text(outcome: Outcome) -> List[str]:
     scene = outcome.scene
     head = f"{scene.name}: {scene.program} ({scene.package} {outcome.version}) {scene.about}"
     if not outcome.found:
-        return [head, f"  nothing{_of_runs(outcome)}{_unjudged(outcome)}"]
-    return [head, *(f"  {each.grade}: {each.clause}{_share(each, outcome)}: {each.sentence}: {each.line}" for each in outcome.found)]
+        return [head, f"  nothing{_in_runs(outcome)}{_unjudged(outcome)}"]
+    return [head, *(f"  {each.grade}: {each.clause}{_in_runs(outcome, each)}: {each.sentence}: {each.line}" for each in outcome.found)]
 
 
 def chosen(outcome: Outcome, least: str) -> Outcome:
@@ -75,9 +75,9 @@ def _cell(outcome: Optional[Outcome]) -> str:
 
 def _row(outcome: Outcome) -> str:
     scene = outcome.scene
-    found = "; ".join(f"*{each.grade}*: `{each.clause}`{_share(each, outcome)}, {each.sentence}: `{_short(each.line)}`"
+    found = "; ".join(f"*{each.grade}*: `{each.clause}`{_in_runs(outcome, each)}, {each.sentence}: `{_short(each.line)}`"
                       for each in outcome.found)
-    cell = found or f"nothing{_of_runs(outcome)}"
+    cell = found or f"nothing{_in_runs(outcome)}"
     return f"| {program_of(outcome)} | {scene.about} | {cell}{_unjudged(outcome)} | `tools/scenes {scene.name}` |"
 
 
@@ -88,18 +88,12 @@ def program_of(outcome: Outcome) -> str:
     return f"{shown}, {outcome.scene.package} {outcome.version}"
 
 
-def _share(found: Found, outcome: Outcome) -> str:
-    return "" if outcome.scene.beside is None else f" in {found.runs} of {outcome.runs} interleavings{_and_more(outcome)}"
-
-
-def _of_runs(outcome: Outcome) -> str:
+def _in_runs(outcome: Outcome, found: Optional[Found] = None) -> str:
+    """How many interleavings there are, and in how many of them something was found."""
     if outcome.scene.beside is None:
         return ""
-    return f" in {outcome.runs} interleavings{_and_more(outcome)}"
-
-
-def _and_more(outcome: Outcome) -> str:
-    return "" if outcome.is_whole else ", and there are more"
+    share = f"{found.runs} of " if found else ""
+    return f" in {share}{outcome.runs} interleavings{'' if outcome.is_whole else ', and there are more'}"
 
 
 def _unjudged(outcome: Outcome) -> str:

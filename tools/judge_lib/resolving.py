@@ -6,7 +6,7 @@ import re
 from typing import Callable, Dict, Iterable, Iterator, List, Optional, Set, Union
 
 from .arguments import Descriptor, read_descriptor, read_digits, read_string, shown_names, split
-from .folders import Folders, Place, first_path
+from .folders import Folders, Place
 from .names import Path
 from .outside import Coming, Made, OutsideFile, OutsideFiles
 from .processes import OpenFile, Process, Processes, Turn
@@ -37,7 +37,7 @@ class Resolver:
         self._said: Set[str] = set()
         # Whether the call that is read was done, or found its path there.
         self._is_done = False
-        self._by_name: Dict[str, Callable[[_Made], Iterable[Step]]] = {
+        self._by_name: Dict[str, Callable[[_Made], Optional[Iterable[Step]]]] = {
             **{name: self._start for name in STARTS},
             **{name: self._program for name in ("execve", "execveat")},
             "chdir": self._change_directory, "fchdir": self._change_directory, "chroot": self._unseen,
@@ -74,7 +74,7 @@ class Resolver:
         self._is_done = call.error is None or call.error == "EEXIST"
         if call.error == "ENAMETOOLONG":
             return (Unsaid(made.when, f"{call.name} of a name that is too long"),)
-        return steps(made)
+        return steps(made) or ()
 
     def _end(self, event: Ended) -> Iterator[Step]:
         self._processes.of(event.pid)
@@ -101,23 +101,21 @@ class Resolver:
 
     # Processes and descriptors
 
-    def _start(self, made: _Made) -> Iterator[Step]:
+    def _start(self, made: _Made) -> None:
         if made.call.result:
             self._processes.expect(made.call.result, made.call.pid, made.call.arguments)
             self._processes.of(made.call.result)
-        return iter(())
 
-    def _program(self, made: _Made) -> Iterator[Step]:
+    def _program(self, made: _Made) -> None:
         program = read_string(made.words[1 if made.call.name == "execveat" else 0])
         if made.is_ok():
             self._processes.start_program(made.call.pid, program or b"?")
-        return iter(())
 
-    def _change_directory(self, made: _Made) -> Iterator[Step]:
-        path = made.descriptor_path(0) if made.call.name == "fchdir" else made.path(0)
+    def _change_directory(self, made: _Made) -> None:
+        at = read_descriptor(made.words[0])
+        path = made.path(0) if made.call.name == "chdir" else at and at.path
         if made.is_ok() and path is not None:
             made.process.directory = path
-        return iter(())
 
     def _unseen(self, made: _Made) -> Iterator[Step]:
         """A call after which this tracer may see too little. It is said once."""
@@ -126,27 +124,24 @@ class Resolver:
             what = {"chroot": "paths after chroot", "syncfs": "which files syncfs flushes"}
             yield Unsaid(made.when, what.get(made.call.name, "calls that are made by io_uring"))
 
-    def _copy(self, made: _Made) -> Iterator[Step]:
+    def _copy(self, made: _Made) -> None:
         is_copy = made.call.name != "fcntl" or made.words[1].startswith("F_DUPFD")
         descriptor = read_descriptor(made.words[0])
         if is_copy and made.is_ok() and descriptor is not None and made.call.result is not None:
             made.process.table.pop(made.call.result, None)
             if descriptor.number in made.process.table and (descriptor.path or b"/")[:1] == b"/":
                 made.process.table[made.call.result] = made.process.table[descriptor.number]
-        return iter(())
 
-    def _close(self, made: _Made) -> Iterable[Step]:
+    def _close(self, made: _Made) -> None:
         descriptor = read_descriptor(made.words[0])
         if descriptor is not None:
             made.process.table.pop(descriptor.number, None)
-        return ()
 
-    def _close_range(self, made: _Made) -> Iterator[Step]:
+    def _close_range(self, made: _Made) -> None:
         first, last = (int(word, 0) for word in made.words[:2])
         if "CLOEXEC" not in made.call.arguments:
             for number in [each for each in made.process.table if first <= each <= last]:
                 del made.process.table[number]
-        return iter(())
 
     # Files
 
@@ -251,12 +246,11 @@ class Resolver:
 
     # Directories
 
-    def _seek(self, made: _Made) -> Iterator[Step]:
+    def _seek(self, made: _Made) -> None:
         opened = self._opened_place(made)
         if opened is not None and made.words[1:] != ["0", "SEEK_CUR"]:
             opened.turn = Turn()
             opened.turn.is_dropped = made.words[1] != "0"
-        return iter(())
 
     def _read(self, made: _Made) -> Iterator[Step]:
         opened = self._opened_place(made)
@@ -326,9 +320,8 @@ class Resolver:
 
     def _named(self, made: _Made, word: str, old: Optional[bytes], new: Optional[bytes]) -> Iterable[Step]:
         where_old, where_new, reply = self._where(old), self._where(new), made.call.reply()
-        if isinstance(where_old, Path) and isinstance(where_new, Path) and not self._folders.is_nested:
-            return (Name(made.when, word, where_old, where_new, reply),)
-        if reply == "ok" and any(path is not None and self._is_directory(path) for path in (old, new)):
+        may_be_directory = self._folders.is_nested or not (isinstance(where_old, Path) and isinstance(where_new, Path))
+        if may_be_directory and reply == "ok" and any(path is not None and self._folders.holds(path) for path in (old, new)):
             return (Unsaid(made.when, f"a {word} of a judged directory: what the log says after it may be wrong"),)
         if isinstance(where_old, Path) and isinstance(where_new, Path):
             return (Name(made.when, word, where_old, where_new, reply),)
@@ -375,7 +368,7 @@ class Resolver:
             text = f"{made.call.name} of a directory: the next line says it as a file"
             comments = [Unsaid(made.when, text)] if is_directory and made.is_ok() else []
             return [*comments, Unlink(made.when, where, made.call.reply())]
-        if made.is_ok() and path is not None and (where is not None or self._is_directory(path)):
+        if made.is_ok() and path is not None and (where is not None or self._folders.holds(path)):
             return (Unsaid(made.when, f"{made.call.name} of a directory: {path.decode('utf-8', 'replace')}"),)
         if made.is_ok() and path is not None:
             self._outside.forget(self._folders.outside(path))
@@ -385,8 +378,8 @@ class Resolver:
         name = made.call.name
         at = {"symlink": 1, "symlinkat": 2, "mknod": 0, "mkdir": 0}.get(name, 1)
         path = made.path(at, at - 1 if name.endswith("at") else None)
-        where = first_path(self._where(path))
-        if where is not None:
+        where = self._where(path)
+        if isinstance(where, Path):
             is_link = name.startswith("symlink")
             text = f"{NOT_SAID}{name}: the next {'lines say' if is_link else 'line says'} it as a file"
             yield AtOnce(made.when, where, made.call.reply(), Coming(OutsideFile(), [Made("create")], [text], is_whole=is_link))
@@ -416,9 +409,6 @@ class Resolver:
             self._folders.absent.discard(place)
         return None if place in self._folders.absent else where
 
-    def _is_directory(self, path: bytes) -> bool:
-        return self._folders.holds(path)
-
 
 class _Made:
     """A call with its process and its arguments."""
@@ -447,8 +437,3 @@ class _Made:
         """An argument that may be a path, after a descriptor or not."""
         at = number - 1 if number and read_descriptor(self.words[number - 1]) is not None else None
         return self.path(number, at)
-
-    def descriptor_path(self, number: int) -> Optional[bytes]:
-        """The path of an argument that is an open file."""
-        descriptor = read_descriptor(self.words[number])
-        return None if descriptor is None else descriptor.path

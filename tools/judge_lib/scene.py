@@ -106,10 +106,10 @@ def read_pairs(path: Path) -> Iterator[Scene]:
                         beside=beside, status=status, is_unprivileged=bool(user), pair=(first, peer))
 
 
-def read_scenes(names: List[str], folder: Path = FOLDER) -> List[Scene]:
+def read_scenes(names: List[str]) -> List[Scene]:
     """The scenes of these names, or all that have a file of their own. A file of pairs is named as a whole, or by a scene of it."""
-    alone = {scene.name: [scene] for scene in sorted(map(read_scene, folder.glob("*" + ENDING)), key=lambda scene: scene.name)}
-    pairs = {path.name.removesuffix(PAIRS): list(read_pairs(path)) for path in folder.glob("*" + PAIRS)}
+    alone = {scene.name: [scene] for scene in sorted(map(read_scene, FOLDER.glob("*" + ENDING)), key=lambda scene: scene.name)}
+    pairs = {path.name.removesuffix(PAIRS): list(read_pairs(path)) for path in FOLDER.glob("*" + PAIRS)}
     there = {**alone, **pairs, **{scene.name: [scene] for scenes in pairs.values() for scene in scenes}}
     for name in names:
         if name not in there:

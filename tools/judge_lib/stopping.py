@@ -7,6 +7,7 @@ import select
 import signal
 import subprocess
 import time
+from contextlib import suppress
 from typing import Dict, List, Optional, Sequence
 
 from .making import Making
@@ -67,17 +68,20 @@ class Stepped:
             if self._read(until) is None or self._strace.poll() is not None:
                 raise Refused("the commands did not start under strace")
         for side in self.sides:
-            pid = self._roots[side] = self._pid_in_file(side) or 0
+            pid = self._roots[side] = self._pid_in_file(side)
             self._side_of[pid] = side
             self._processes.of(pid).actor = side
             self._processes.answering[pid] = side
 
-    def _pid_in_file(self, side: str) -> Optional[int]:
-        try:
-            with open(os.path.join(self._room, side), encoding="ascii") as file:
-                return int(file.read() or 0)
-        except FileNotFoundError:
-            return None
+    def _pid_in_file(self, side: str) -> int:
+        """The number of a command's process, and 0 where it has not begun."""
+        return int(self._written(side) or 0)
+
+    def _written(self, name: str) -> bytes:
+        """What was written to a file of the room so far."""
+        with suppress(FileNotFoundError), open(os.path.join(self._room, name), "rb") as file:
+            return file.read()
+        return b""
 
     def has_ended(self, side: str) -> bool:
         """Whether a command has ended."""
@@ -122,7 +126,7 @@ class Stepped:
 
     def said(self) -> Dict[str, bytes]:
         """What each command printed."""
-        return {side: _read_file(os.path.join(self._room, side + ".out")) for side in self.sides}
+        return {side: self._written(side + ".out") for side in self.sides}
 
     def _is_running(self, side: str) -> bool:
         own = [pid for pid, its in self._side_of.items() if its == side]
@@ -136,7 +140,8 @@ class Stepped:
 
     def _continue(self, pid: int) -> None:
         del self._stopped[pid]
-        _signal(pid, signal.SIGCONT)
+        with suppress(ProcessLookupError):
+            os.kill(pid, signal.SIGCONT)
 
     def _read(self, until: float) -> Optional[List[str]]:
         """Reads what comes next, and gives the sides that were stopped after a call which counts; None where nothing comes in time."""
@@ -174,32 +179,14 @@ class Stepped:
     def _stop(self, pid: int) -> List[str]:
         is_counted, self._is_counted[pid] = self._is_counted.get(pid, False), False
         self._stopped[pid] = None
-        if is_counted or not self._roots and pid == self._own_start(pid):
+        if is_counted or not self._roots and pid in map(self._pid_in_file, self.sides):
             side = self._side_of.get(pid)
             return [side] if side else []
         self._continue(pid)
         return []
-
-    def _own_start(self, pid: int) -> Optional[int]:
-        return pid if pid in map(self._pid_in_file, self.sides) else None
 
     def _end(self, pid: int) -> None:
         self._stopped.pop(pid, None)
         side = self._side_of.pop(pid, None)
         if side is not None and self._roots.get(side) == pid:
             del self._roots[side]
-
-
-def _read_file(path: str) -> bytes:
-    try:
-        with open(path, "rb") as file:
-            return file.read()
-    except FileNotFoundError:
-        return b""
-
-
-def _signal(pid: int, number: int) -> None:
-    try:
-        os.kill(pid, number)
-    except ProcessLookupError:
-        pass

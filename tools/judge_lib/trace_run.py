@@ -16,7 +16,7 @@ from .folders import File, Folder, Folders, check_made, files_of, found_folders,
 from .making import UNCLAIMED, Beginning, Making
 from .processes import Actors, Processes, actor_word
 from .refused import Refused
-from .statuses import Statuses
+from .statuses import Statuses, shown
 from .steps import NOT_SAID, Line
 from .tracing import Tracer, strace, tracer_of, version
 
@@ -234,7 +234,7 @@ def warnings(traced: Traced, has_claims: bool) -> Iterator[str]:
         yield IDLE
     for actor, status in traced.statuses.items():
         if status != 0:
-            yield f"{actor} ended with " + ("a signal" if status is None else f"status {status}")
+            yield f"{actor} ended with {shown(status)}"
     for text, times in sorted(traced.unsaid.items(), key=lambda item: -item[1])[:_MOST_WARNED]:
         yield f"not said: {text}" + (f" ({times} times)" if times > 1 else "")
     if len(traced.unsaid) > _MOST_WARNED:

@@ -8,6 +8,7 @@ import signal
 import subprocess
 import sys
 import time
+from contextlib import suppress
 from types import FrameType
 from typing import IO, Iterator, List, Optional, Sequence
 
@@ -134,14 +135,10 @@ def end_traced(tracer: subprocess.Popen[bytes]) -> None:
     until = time.monotonic() + _SECONDS_TO_END
     while tracer.poll() is None and time.monotonic() < until:
         for pid in _traced_by(tracer.pid):
-            try:
+            with suppress(ProcessLookupError):
                 os.kill(pid, signal.SIGKILL)
-            except ProcessLookupError:
-                pass
-        try:
+        with suppress(subprocess.TimeoutExpired):
             tracer.wait(0.05)
-        except subprocess.TimeoutExpired:
-            pass
     if tracer.poll() is None:
         tracer.kill()
         tracer.wait()

@@ -3,12 +3,11 @@
 from __future__ import annotations
 
 import os
-import tempfile
 import time
 from typing import Dict, Iterable, Iterator, List, NamedTuple, Optional, Tuple
 
 from .arguments import read_descriptor, read_string, split
-from .exploring import Bounds, Broken, Keep, Order, Pairing, Tell, ended, judged, make_ready, started
+from .exploring import Bounds, Broken, Keep, Order, Pairing, Tell, ended, judged, rooms, started
 from .folders import Folders, files_of
 from .mail_left import Beside, Mail, mail_in
 from .making import Beginning, Log, Making
@@ -71,8 +70,7 @@ class _Whole(NamedTuple):
 
 
 def _run_whole(pairing: Pairing) -> _Whole:
-    with tempfile.TemporaryDirectory(prefix="explore-") as top:
-        base, room = _rooms(pairing, top)
+    with rooms(pairing.setup) as (base, room):
         stepped, making = started(pairing, base, room)
         before, calls = mail_in(making.folders()), []
         try:
@@ -97,8 +95,7 @@ def _goes_on(stepped: Stepped) -> bool:
 
 
 def _killed(pairing: Pairing, number: int, whole: _Whole, broken: Dict[str, Broken], keep: Keep) -> Trial:
-    with tempfile.TemporaryDirectory(prefix="explore-") as top:
-        base, room = _rooms(pairing, top)
+    with rooms(pairing.setup) as (base, room):
         stepped, making = started(pairing, base, room)
         try:
             for _ in range(number):
@@ -182,8 +179,7 @@ def _failed(name: str, call: str, beside: Beside, run: _Run, order: Order, other
 
 def _run_traced(pairing: Pairing, faults: List[str]) -> _Run:
     """A run with faults."""
-    with tempfile.TemporaryDirectory(prefix="explore-") as top:
-        base, room = _rooms(pairing, top)
+    with rooms(pairing.setup) as (base, room):
         real = os.fsencode(os.path.realpath(base))
         folders = pairing.judged_folders(real)
         making = Making(Beginning(Folders(folders), files_of(folders)), Processes(Actors("one", _ALONE), real), pairing.claims, faults)
@@ -210,14 +206,6 @@ def _calls(lines: Iterable[str], making: Making, base: bytes) -> Iterator[_Fault
             is_judged = event.name in ALL_CALLS.split() and any(step.is_counted for step in steps)
             if is_judged or event.is_made_to_fail:
                 yield _Faultable(event.name, counts[key], _described(event, base), is_judged, event.is_made_to_fail)
-
-
-def _rooms(pairing: Pairing, top: str) -> Tuple[str, str]:
-    base, room = os.path.join(top, "work"), os.path.join(top, "room")
-    os.mkdir(base)
-    os.mkdir(room)
-    make_ready(pairing.setup, base)
-    return base, room
 
 
 def _described(call: Call, base: bytes) -> str:
