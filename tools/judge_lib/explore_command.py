@@ -17,6 +17,7 @@ from .judge_run import SENTENCES, deolmutt
 from .keeping import Keeper
 from .making import UNCLAIMED
 from .names import escaped
+from .progress import tell
 from .refused import Refused
 from .schedules import prefix_of
 from .statuses import Expected, read_expected
@@ -93,9 +94,9 @@ def main(words: Optional[Sequence[str]] = None) -> int:
         pairing, keeper = _pairing(options, expected), Keeper(options.logs, options.keep)
         bounds = Bounds(options.runs, options.seconds)
         if options.kill:
-            return _show_trials(kill(pairing, bounds, _tell, keeper.keep), options)
+            return _show_trials(kill(pairing, bounds, tell, keeper.keep), options)
         if options.fail:
-            return _show_trials(fail(pairing, options.fail, bounds, _tell, keeper.keep), options)
+            return _show_trials(fail(pairing, options.fail, bounds, tell, keeper.keep), options)
         return _show(_explored(options, pairing, bounds, keeper), expected, options)
     except (Refused, OSError) as error:
         print(f"explore: {error}", file=sys.stderr)
@@ -103,7 +104,7 @@ def main(words: Optional[Sequence[str]] = None) -> int:
     except KeyboardInterrupt:
         return 130
     finally:
-        _end_line()
+        tell("")
 
 
 def _pairing(options: argparse.Namespace, expected: Expected) -> Pairing:
@@ -120,25 +121,15 @@ def _pairing(options: argparse.Namespace, expected: Expected) -> Pairing:
 
 def _explored(options: argparse.Namespace, pairing: Pairing, bounds: Bounds, keeper: Keeper) -> Explored:
     if options.order is None:
-        return explore(pairing, bounds, _tell, keeper.keep)
+        return explore(pairing, bounds, tell, keeper.keep)
     explored = explore_one(pairing, prefix_of(options.order), keeper.keep)
     if options.order not in explored.orders:
         raise Refused(f"the calls came as {next(iter(explored.orders))}, and not as {options.order}")
     return explored
 
 
-def _tell(text: str) -> None:
-    if sys.stderr.isatty():
-        print(f"\r{text}\033[K", end="", file=sys.stderr, flush=True)
-
-
-def _end_line() -> None:
-    if sys.stderr.isatty():
-        print("\r\033[K", end="", file=sys.stderr, flush=True)
-
-
 def _show(explored: Explored, expected: Expected, options: argparse.Namespace) -> int:
-    _end_line()
+    tell("")
     if options.json:
         print(json.dumps(explored_table.as_json(explored, expected)))
     else:
@@ -157,6 +148,6 @@ def _lines(explored: Explored, expected: Expected, options: argparse.Namespace) 
 
 
 def _show_trials(tried: Tried, options: argparse.Namespace) -> int:
-    _end_line()
+    tell("")
     print(json.dumps(trials_table.as_json(tried)) if options.json else "\n".join(trials_table.table(tried)))
     return 1 if trials_table.is_faulty(tried) else 0

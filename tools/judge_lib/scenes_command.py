@@ -17,6 +17,7 @@ from .exploring import Bounds
 from .judge_run import BUILT, deolmutt
 from .grades import GRADES
 from .outcomes import chosen, markdown, repeated, text
+from .progress import tell
 from .refused import Refused
 from .results import Results
 from .scene import OWN, Scene, read_scenes, version_of
@@ -165,8 +166,7 @@ def _staged(scene: Scene, bounds: Bounds, results: Results) -> Optional[Outcome]
 def _tell(words: str) -> None:
     if _STOPPED.is_set() and threading.current_thread() is not threading.main_thread():
         raise Refused("stopped before the end of a scene")
-    if sys.stderr.isatty():
-        print(f"\r{words}\033[K", end="", file=sys.stderr, flush=True)
+    tell(words)
 
 
 def _say(words: str) -> None:

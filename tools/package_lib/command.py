@@ -11,9 +11,10 @@ import tempfile
 from pathlib import Path
 from typing import Optional, Sequence
 
+from judge_lib.refused import Refused
+
 from . import debian
 from .contents import Entry, below, packed, part, pkg_config, programs, tar
-from .refused import Refused
 from .tree import TOP, built, passed, state
 
 sys.path.insert(0, str(TOP / "python"))

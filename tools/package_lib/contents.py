@@ -8,7 +8,8 @@ import tarfile
 from pathlib import Path
 from typing import Dict, Iterable, NamedTuple
 
-from .refused import Refused
+from judge_lib.refused import Refused
+
 from .tree import TOP
 
 PROGRAMS = TOP / "launcher/files.txt"

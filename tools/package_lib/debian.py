@@ -11,8 +11,9 @@ import tempfile
 from pathlib import Path
 from typing import Dict, NamedTuple
 
+from judge_lib.refused import Refused
+
 from .contents import Entries, Entry, below, packed, part, pkg_config, programs
-from .refused import Refused
 from .tree import TOP
 
 sys.path.insert(0, str(TOP / "python"))

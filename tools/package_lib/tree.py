@@ -8,7 +8,7 @@ import subprocess
 from pathlib import Path
 from typing import Dict, Iterator
 
-from .refused import Refused
+from judge_lib.refused import Refused
 
 TOP = Path(__file__).resolve().parents[2]
 # What the gate leaves: a line `prover IDENTITY`, then `SUM PATH` for each file, and `built SUM PATH` for each program.

@@ -9,7 +9,8 @@ import subprocess
 import sys
 from pathlib import Path
 
-from judge_lib.refused import Refused as JudgeRefused
+from judge_lib.progress import tell
+from judge_lib.refused import Refused
 from judge_lib.scene import read_scenes
 
 from . import kept, ours
@@ -21,7 +22,6 @@ from .picture import delivery, twice
 from .play import Played, Programs, check_script, play_whole
 from .races import EXAMPLES, RACES, TOP, Race
 from .record import explored_runs, kept_of, record, written
-from .refused import Refused
 from .scene import Scene, read_scene, shown
 from .side import Side
 from .tree import actors_of, interleavings
@@ -151,12 +151,6 @@ def keep(names: list[str]) -> None:
             print(f"races: {race.kept}: {len(one['orders'])} orders", file=sys.stderr)
 
 
-def tell(text: str) -> None:
-    """Says on a terminal how far it is."""
-    if sys.stderr.isatty():
-        print(f"\r{text}\033[K", end="", file=sys.stderr, flush=True)
-
-
 def work(chosen: argparse.Namespace) -> None:
     """Makes what the command line asks for."""
     if chosen.record is not None:
@@ -192,7 +186,7 @@ def main() -> int:
         options().error("--most is at least 1")
     try:
         work(chosen)
-    except (Refused, JudgeRefused, OSError) as refused:
+    except (Refused, OSError) as refused:
         print(f"races: {refused}", file=sys.stderr)
         return 1
     return 0

@@ -9,9 +9,9 @@ from pathlib import Path
 from typing import Any, NamedTuple
 
 from judge_lib.judge_run import SENTENCES
+from judge_lib.refused import Refused
 
 from .losses import Names, headline_of, lines_of, lost_in, outcome_of
-from .refused import Refused
 from .side import Order, Shown, Side
 from .words import Act, Directories, Parts, sentence
 
@@ -49,7 +49,7 @@ def side_of(kept: dict[str, Any], names: Names) -> Side:
         is_kept=True,
     )
     for order in kept["orders"]:
-        side.add(order_of(kept, order, names, Directories(folders, dict.fromkeys(first))))
+        side.orders.append(order_of(kept, order, names, Directories(folders, dict.fromkeys(first))))
     side.own = side.worst()
     side.count = side.counted(lost_in(kept, side), names.late)
     side.headline = headline_of(kept, side, names)

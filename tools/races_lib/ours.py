@@ -55,7 +55,7 @@ def side_of(scene: Scene, interleavings: list[Played], own: Played, there_are: s
         repeat=repeat,
     )
     for played in interleavings:
-        side.add(order_of(scene, played, letters))
+        side.orders.append(order_of(scene, played, letters))
     turns = "".join(letters[step.actor] for step in own.steps)
     side.own = next((at for at, order in enumerate(side.orders) if order.turns.startswith(turns)), 0)
     side.count = side.counted("")

@@ -7,7 +7,8 @@ from collections.abc import Collection
 from dataclasses import dataclass, field
 from pathlib import Path
 
-from .refused import Refused
+from judge_lib.refused import Refused
+
 from .scene import Scene, shown
 
 # What a script only prints, and the halves of its listings.

@@ -18,12 +18,12 @@ from judge_lib.claims import read_claims
 from judge_lib.exploring import STOPS, Bounds, Pairing, explore
 from judge_lib.judge_run import judge
 from judge_lib.outcomes import ran_here, repeated
+from judge_lib.refused import Refused
 from judge_lib.scene import Scene, version_of
 from judge_lib.staging import before, setup_of, traced
 from judge_lib.statuses import shown
 from judge_lib.stopping import SIDES
 
-from .refused import Refused
 
 Tell = Callable[[str], None]
 

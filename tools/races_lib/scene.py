@@ -6,7 +6,7 @@ import os
 from dataclasses import dataclass, field
 from pathlib import Path
 
-from .refused import Refused
+from judge_lib.refused import Refused
 
 MOST_ACTORS = 3
 
@@ -90,10 +90,8 @@ def read_line(scene: Scene, line: bytes) -> None:
 
 def check_actors(file: Path, actors: list[Actor], fewest: int) -> None:
     """Refuses a scene that has no race, or too many at once."""
-    if len(actors) < fewest:
+    if not fewest <= len(actors) <= MOST_ACTORS:
         raise Refused(f"{file}: a race takes two or three jobs or listings, and the script has {len(actors) or 'none'}")
-    if len(actors) > MOST_ACTORS:
-        raise Refused(f"{file}: a race takes two or three jobs or listings, and the script has {len(actors)}")
     for actor in actors:
         if not actor.folder and not actor.moments:
             raise Refused(f"{file}: {actor.name} takes no step in the script, so its moment isn't known")

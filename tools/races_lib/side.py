@@ -75,10 +75,6 @@ class Side:
     # The order with which the page opens.
     own: int = 0
 
-    def add(self, order: Order) -> None:
-        """Adds an order."""
-        self.orders.append(order)
-
     def counted(self, loss: str, late: str = "") -> str:
         """In how many orders something is lost, in words; and why it is in those in which the second begins late."""
         lost, said = ([order for order in self.orders if order.outcome == kind] for kind in (LOST, SAID))

@@ -12,7 +12,7 @@ sys.path.insert(0, str(Path(__file__).resolve().parent.parent))
 
 from package_lib import contents, debian, tree
 from package_lib.contents import Entry
-from package_lib.refused import Refused
+from judge_lib.refused import Refused
 
 
 class TreeTest(unittest.TestCase):

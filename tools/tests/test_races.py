@@ -17,13 +17,12 @@ TOOLS = Path(__file__).resolve().parent.parent
 sys.path.insert(0, str(TOOLS))
 
 from judge_lib.judge_run import judge, deolmutt  # noqa: E402
-from judge_lib.refused import Refused as JudgeRefused  # noqa: E402
+from judge_lib.refused import Refused  # noqa: E402
 from races_lib import command, kept, losses, page, record, scene, side, words  # noqa: E402
 from races_lib.count import count  # noqa: E402
 from races_lib.marks import marks_of  # noqa: E402
 from races_lib.races import RACES  # noqa: E402
 from races_lib.play import Played, Programs, Step, play, play_whole, run  # noqa: E402
-from races_lib.refused import Refused  # noqa: E402
 from races_lib.tree import actors_of, interleavings  # noqa: E402
 
 CHOSEN = command.options().parse_args([])
@@ -99,7 +98,7 @@ def has_judge() -> bool:
     """Whether the judge is built."""
     try:
         return bool(deolmutt())
-    except JudgeRefused:
+    except Refused:
         return False
 
 

@@ -1,5 +1,0 @@
-"""What no package is made for."""
-
-
-class Refused(Exception):
-    """Why there is no package, in a line."""
