@@ -61,7 +61,7 @@ class Deliveries:
         """Writes a file to tmp. Where that fails, nothing of it is left."""
         self._count += 1
         fresh = b"%d.P%dQ%dR%b.export" % (time.time(), os.getpid(), self._count, self._run)
-        tmp = self._maildir.descriptor(b"tmp")
+        tmp = self._maildir.places[b"tmp"]
         descriptor = os.open(fresh, os.O_WRONLY | os.O_CREAT | os.O_EXCL | os.O_CLOEXEC, 0o600, dir_fd=tmp)
         try:
             write_all(descriptor, file.body)
@@ -90,8 +90,7 @@ class Deliveries:
         try:
             os.close(written.descriptor)
             if failure is None:
-                tmp, directory = map(self._maildir.descriptor, (b"tmp", file.place))
-                place(written.fresh, file.name, tmp, directory)
+                place(written.fresh, file.name, self._maildir.places[b"tmp"], self._maildir.places[file.place])
                 return Delivery(file, None, written.keeps_time)
         except OSError as error:
             failure = failure or error
@@ -108,7 +107,7 @@ class Deliveries:
     def _unlink(self, fresh: bytes) -> None:
         # Whoever cleans tmp takes it away later.
         with suppress(OSError):
-            os.unlink(fresh, dir_fd=self._maildir.descriptor(b"tmp"))
+            os.unlink(fresh, dir_fd=self._maildir.places[b"tmp"])
 
 
 def _set_time(descriptor: int, stamp: int) -> bool:

@@ -38,7 +38,7 @@ class Export:
         Where it can't go on after that, it is Stopped and no longer Refused.
         """
         with ExitStack() as stack:
-            scripts = [stack.enter_context(closing(self._script(path))) for path in paths]
+            scripts = [stack.enter_context(closing(Script(path, self.limits, self.interrupts))) for path in paths]
             total = sum(self._count_lines(script) for script in scripts)
             flushers = stack.enter_context(ThreadPoolExecutor(_FLUSHERS))
             target = stack.enter_context(closing(Target(tree, self.report, flushers, self.is_dry)))
@@ -54,9 +54,6 @@ class Export:
                 with suppress(Stopped):
                     target.leave()
                 raise
-
-    def _script(self, path: bytes) -> Script:
-        return Script(path, self.limits, self.interrupts)
 
     def _count_lines(self, script: Script) -> int:
         count = 0

@@ -64,15 +64,8 @@ class Interrupts:
         if self._met is not None:
             raise Interrupted(self._met)
 
-    def wait_to_read(self, descriptor: int) -> None:
-        """Waits for another program to write, unless a signal comes."""
-        self._wait(descriptor, select.POLLIN)
-
-    def wait_to_write(self, descriptor: int) -> None:
-        """Waits for another program to read, unless a signal comes."""
-        self._wait(descriptor, select.POLLOUT)
-
-    def _wait(self, descriptor: int, event: int) -> None:
+    def wait(self, descriptor: int, event: int) -> None:
+        """Waits for another program to write (POLLIN) or to read (POLLOUT), unless a signal comes."""
         poll = select.poll()
         poll.register(descriptor, event)
         poll.register(self._wake, select.POLLIN)

@@ -63,9 +63,7 @@ def is_file_name(name: bytes) -> bool:
 
 def is_folder_name(name: bytes) -> bool:
     """Whether a `folder` line may name this, as far as the word alone tells."""
-    if len(name) > FOLDER_NAME_BYTES or name.startswith(b"."):
-        return False
-    return not _NEVER_IN_NAMES.search(name)
+    return len(name) <= FOLDER_NAME_BYTES and not name.startswith(b".") and not _NEVER_IN_NAMES.search(name)
 
 
 def has_long_unique_name(place: bytes, name: bytes) -> bool:

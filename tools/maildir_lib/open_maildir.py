@@ -22,7 +22,8 @@ class OpenMaildir:
     def __init__(self, tree: int, steps: Steps, is_to_be_made: bool) -> None:
         """Opens the directories, and makes those that aren't there where that is asked for."""
         self._is_to_be_made = is_to_be_made
-        self._places: dict[bytes, int] = {}
+        # The descriptor of each directory.
+        self.places: dict[bytes, int] = {}
         # Whether some of it wasn't there.
         self.is_new = False
         directory: Optional[int] = os.dup(tree)
@@ -32,7 +33,7 @@ class OpenMaildir:
             for place in PLACES:
                 descriptor = self._open(directory, place)
                 if descriptor is not None:
-                    self._places[place] = descriptor
+                    self.places[place] = descriptor
         except BaseException:
             self.close()
             raise
@@ -66,26 +67,22 @@ class OpenMaildir:
             self.is_new = True
             sync_directory(directory)
 
-    def descriptor(self, place: bytes) -> int:
-        """The directory of a place."""
-        return self._places[place]
-
     def has(self, place: bytes, name: bytes) -> bool:
         """Whether a name is there, whatever it names."""
-        if place not in self._places:
+        if place not in self.places:
             return False
         try:
-            os.stat(name, dir_fd=self._places[place], follow_symlinks=False)
+            os.stat(name, dir_fd=self.places[place], follow_symlinks=False)
         except FileNotFoundError:
             return False
         return True
 
     def sync(self) -> None:
         """Writes the names to the disk."""
-        for descriptor in self._places.values():
+        for descriptor in self.places.values():
             sync_directory(descriptor)
 
     def close(self) -> None:
         """Lets the directories go."""
-        while self._places:
-            let_go(self._places.popitem()[1])
+        while self.places:
+            let_go(self.places.popitem()[1])

@@ -85,7 +85,7 @@ class ToStream(_SingleOutput[SpooledDraft]):
             for draft in self.drafts:
                 while piece := draft.file.read(select.PIPE_BUF):
                     # So many bytes don't wait once there is room.
-                    self._interrupts.wait_to_write(self._descriptor)
+                    self._interrupts.wait(self._descriptor, select.POLLOUT)
                     write_all(self._descriptor, piece)
 
 

@@ -48,7 +48,6 @@ class BadLine(Exception):
 
     def __init__(self, fault: Fault, why: str) -> None:
         super().__init__(f"{fault.value}: {why}")
-        self.fault = fault
 
 
 class FolderLine(NamedTuple):

@@ -3,6 +3,7 @@
 from __future__ import annotations
 
 import os
+import select
 import stat
 import tempfile
 from typing import IO, Iterator, Optional
@@ -72,7 +73,7 @@ class Script:
         return copy
 
     def _read_piece(self, descriptor: int) -> bytes:
-        self._interrupts.wait_to_read(descriptor)
+        self._interrupts.wait(descriptor, select.POLLIN)
         return os.read(descriptor, _PIECE_BYTES)
 
     def _check_size(self, size: int) -> None:

@@ -36,10 +36,12 @@ class File(NamedTuple):
 
 
 class _What(Enum):
-    DIRECTORY = "directory"
-    FILE = "file"
-    LINK = "link"
-    SPECIAL = "special"
+    """What a name is, and why a script can't say it, if so."""
+
+    DIRECTORY = Reason.DIRECTORY
+    FILE = None
+    LINK = Reason.SYMBOLIC_LINK
+    SPECIAL = Reason.SPECIAL
 
 
 class _Entry(NamedTuple):
@@ -121,24 +123,11 @@ def list_files(folder: Folder, report: Report) -> Iterator[File]:
     for place in PLACES:
         for entry in _entries(os.path.join(folder.directory, place), report):
             file = File(folder, place, entry.name)
-            reason = _reason_against(place, entry)
+            reason = entry.what.value or name_reason(place, entry.name)
             if reason is None:
                 yield file
             else:
                 report.add(file.path, reason)
-
-
-_REASON_OF = {
-    _What.LINK: Reason.SYMBOLIC_LINK,
-    _What.DIRECTORY: Reason.DIRECTORY,
-    _What.SPECIAL: Reason.SPECIAL,
-}
-
-
-def _reason_against(place: bytes, entry: _Entry) -> Optional[Reason]:
-    if entry.what is not _What.FILE:
-        return _REASON_OF[entry.what]
-    return name_reason(place, entry.name)
 
 
 def name_reason(place: bytes, name: bytes) -> Optional[Reason]:
