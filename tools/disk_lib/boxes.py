@@ -34,6 +34,11 @@ def run(*words: Any, given: bytes = b"", before: Sequence[str] = (), **how: Any)
     return Ended(done.returncode, done.stdout, done.stderr)
 
 
+def sent(streams: str) -> Sequence[str]:
+    """What starts the program as a shell does that sends its streams elsewhere."""
+    return "sh", "-c", f'exec "$@" {streams}', "sh"
+
+
 class Box:
     """A maildir that a test makes itself."""
 

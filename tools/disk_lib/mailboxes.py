@@ -3,9 +3,8 @@
 from __future__ import annotations
 
 import os
-import subprocess
 
-from .boxes import PROGRAM, BoxTest, run
+from .boxes import BoxTest, run, sent
 
 MANY = b"""From a@b Thu Jan  1 00:00:00 1970
 Subject: one
@@ -54,11 +53,7 @@ class Mailboxes(DeliveryTest):
         self.assertEqual(self.box.files(), {})
 
     def test_unread(self) -> None:
-        folder = os.open(self.top, os.O_RDONLY)
-        self.addCleanup(os.close, folder)
-        command = [PROGRAM, "deliver", "box", "--many"]
-        done = subprocess.run(command, stdin=folder, capture_output=True, cwd=self.top, check=False)
-        self.assertEqual((done.returncode, done.stderr), (74, b"deolmutt: message 1: reading failed: Is a directory (os error 21)\n"))
+        self.run_badly(74, b"message 1: reading failed: Is a directory (os error 21)", "deliver", "box", "--many", before=sent("</"))
 
     def test_a_long_one(self) -> None:
         """The first message that is too long ends it, and those before it are delivered."""

@@ -24,8 +24,7 @@ class Names(BoxTest):
         """A name of 255 bytes can't get a flag, and the message stays."""
         name = b"u" * 255
         self.box.put("cur", name)
-        ended = run("flag", "box", "+F", name, cwd=self.top)
-        self.assertNotEqual(ended.status, 0)
+        self.assertNotEqual(run("flag", "box", "+F", name, cwd=self.top).status, 0)
         self.assertEqual(self.box.files(), {b"cur/" + name: MAIL})
 
     def test_hostile_names(self) -> None:
@@ -46,14 +45,12 @@ class Names(BoxTest):
         """A name that is not UTF-8 is listed, and nothing is done with it."""
         self.box.put("new", b"a\xff")
         self.assertEqual(self.run_well("list", "box"), b"new\t-\ta\\xff\n")
-        ended = run("seen", "box", "-", cwd=self.top, given=b"a\\xff\n")
-        self.assertNotEqual(ended.status, 0)
+        self.assertNotEqual(run("seen", "box", "-", cwd=self.top, given=b"a\\xff\n").status, 0)
         self.assertEqual(self.box.files(), {b"new/a\xff": MAIL})
 
     def test_wrong_escapes(self) -> None:
         for line in (b"\\", b"\\y", b"\\x1", b"\\xzz", b"a" * 100_000):
-            ended = run("seen", "box", "-", cwd=self.top, given=line)
-            self.assertEqual(ended.status, 64, line[:10])
+            self.assertEqual(run("seen", "box", "-", cwd=self.top, given=line).status, 64, line[:10])
 
     def test_links_and_directories(self) -> None:
         path = os.fsencode(self.box.path)

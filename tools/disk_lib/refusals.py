@@ -6,9 +6,11 @@ import os
 import subprocess
 import unittest
 
-from .boxes import MAIL, NOBODY, PROGRAM, UNIQUE, BoxTest, run
+from .boxes import MAIL, NOBODY, PROGRAM, UNIQUE, BoxTest, run, sent
 
 MOST_BYTES = 16_777_216
+# Another user, who runs the program.
+OTHER = {"user": NOBODY, "group": NOBODY, "extra_groups": []}
 
 # Each command that wants a maildir to be there.
 COMMANDS = (("deliver", "B"), ("list", "B"), ("read", "B", "k"), ("seen", "B", "k"), ("flag", "B", "+F", "k"), ("expunge", "B", "k"),
@@ -47,39 +49,32 @@ class Refusals(BoxTest):
 
     def test_wrong_keys(self) -> None:
         for key in ("", "a/b", "other/cur/a", "box/tmp/a", "box/cur/", "box/cur/.a", ".a", ":2,S", "/"):
-            ended = run("seen", "box", "--", key, cwd=self.top)
-            self.assertEqual(ended.status, 64, key)
+            self.assertEqual(run("seen", "box", "--", key, cwd=self.top).status, 64, key)
 
     def test_keys_that_cannot_be_read(self) -> None:
         """The keys before them are done, and no key after them."""
         for name in (b"a", b"b"):
             self.box.put("new", name)
-        folder = os.open(self.top, os.O_RDONLY)
-        self.addCleanup(os.close, folder)
-        command = [PROGRAM, "seen", "box", "none", "a", "-", "b"]
-        done = subprocess.run(command, stdin=folder, capture_output=True, cwd=self.top, check=False)
-        self.assertEqual((done.returncode, done.stderr), (
+        ended = run("seen", "box", "none", "a", "-", "b", before=sent("</"), cwd=self.top)
+        self.assertEqual((ended.status, ended.said), (
             74, b"deolmutt: standard input: reading failed: Is a directory (os error 21)\ndeolmutt: none: no such message\n"))
         self.assertEqual((self.box.names("new"), self.box.names("cur")), ([b"b"], [b"a:2,S"]))
 
     def test_wrong_changes(self) -> None:
         self.box.put("cur", UNIQUE + b":2,")
         for change in ("+", "-", "F", "+F-", "+-F", "+F+S", "+F-S-T", "+1", ""):
-            ended = run("flag", "box", "--", change, UNIQUE, cwd=self.top)
-            self.assertEqual(ended.status, 64, change)
+            self.assertEqual(run("flag", "box", "--", change, UNIQUE, cwd=self.top).status, 64, change)
         self.assertEqual(self.box.names("cur"), [UNIQUE + b":2,"])
 
     def test_wrong_folders(self) -> None:
         for folder in ("", ".a", "a/b"):
-            ended = run("deliver", "box", f"--folder={folder}", cwd=self.top, given=MAIL)
-            self.assertEqual(ended.status, 64, folder)
+            self.assertEqual(run("deliver", "box", f"--folder={folder}", cwd=self.top, given=MAIL).status, 64, folder)
 
     def test_same_maildir(self) -> None:
         self.run_badly(64, b"box: the message is there already", "move", "box", "box/", "k")
 
     def test_no_text(self) -> None:
-        ended = run("list", b"\xff", cwd=self.top)
-        self.assertEqual((ended.status, ended.said), (64, b"deolmutt: a word is not UTF-8; try 'deolmutt --help'\n"))
+        self.run_badly(64, b"a word is not UTF-8; try 'deolmutt --help'", "list", b"\xff")
 
     def test_too_long(self) -> None:
         body = b"a" * MOST_BYTES
@@ -91,33 +86,26 @@ class Refusals(BoxTest):
     def test_full_output(self) -> None:
         self.box.put("new", UNIQUE)
         for words in (("list", "box"), ("read", "box", UNIQUE), ("--help",)):
-            with open("/dev/full", "wb") as full:
-                command = [PROGRAM, *(os.fsencode(word) for word in words)]
-                done = subprocess.run(command, stdout=full, stderr=subprocess.PIPE, cwd=self.top, check=False)
-            self.assertEqual(done.returncode, 74, words)
-            self.assertEqual(done.stderr, b"deolmutt: standard output: writing failed: No space left on device (os error 28)\n")
+            self.run_badly(74, b"standard output: writing failed: No space left on device (os error 28)", *words, before=sent(">/dev/full"))
 
     def test_full_output_of_deliveries(self) -> None:
         """A message whose name is not printed is delivered, and so are those after it."""
         for words, given, count in (((), MAIL, 1), (("--many",), b"From a\n1\n\nFrom b\n2\n", 2)):
             before = self.box.names("new")
-            with open("/dev/full", "wb") as full:
-                command = [PROGRAM, "deliver", "box", "--print", *words]
-                done = subprocess.run(command, input=given, stdout=full, stderr=subprocess.PIPE, cwd=self.top, check=False)
+            ended = run("deliver", "box", "--print", *words, given=given, before=sent(">/dev/full"), cwd=self.top)
             names = [name for name in self.box.names("new") if name not in before]
-            self.assertEqual((done.returncode, len(names)), (74, count), words)
+            self.assertEqual((ended.status, len(names)), (74, count), words)
             why = b": delivered, but its name could not be printed: No space left on device (os error 28)"
-            self.assertEqual(sorted(done.stderr.splitlines()), sorted(b"deolmutt: " + name + why for name in names))
+            self.assertEqual(sorted(ended.said.splitlines()), sorted(b"deolmutt: " + name + why for name in names))
 
     @unittest.skipIf(os.geteuid() != 0, "another user can't be asked")
     def test_no_rights(self) -> None:
         self.box.put("new", UNIQUE)
-        other = {"user": NOBODY, "group": NOBODY, "extra_groups": []}
         for words in (("deliver", "box"), ("seen", "box", UNIQUE), ("make", "box/.sub")):
-            ended = run(*words, cwd=self.top, given=MAIL, **other)
+            ended = run(*words, cwd=self.top, given=MAIL, **OTHER)
             self.assertEqual(ended.status, 77, (words, ended.said))
         (self.box.path / "cur").chmod(0)
-        ended = run("list", "box", cwd=self.top, **other)
+        ended = run("list", "box", cwd=self.top, **OTHER)
         self.assertEqual((ended.status, ended.printed), (77, b""))
         self.assertEqual(self.box.files(), {b"new/" + UNIQUE: MAIL})
 
@@ -127,7 +115,7 @@ class Refusals(BoxTest):
         os.utime(self.box.put("tmp", b"old"), (1000, 1000))
         (self.box.path / "tmp").chmod(0o744)
         for words in (("clean", "box"), ("check", "box")):
-            ended = run(*words, cwd=self.top, user=NOBODY, group=NOBODY, extra_groups=[])
+            ended = run(*words, cwd=self.top, **OTHER)
             self.assertEqual((ended.status, ended.printed), (77, b""), words)
 
     @unittest.skipIf(os.geteuid() != 0, "another user can't be asked")
@@ -136,36 +124,33 @@ class Refusals(BoxTest):
         for name in (b"a", b"b", b"c"):
             self.box.put("new", name)
         os.chmod(self.box.path / "new" / "b", 0)
-        other = {"user": NOBODY, "group": NOBODY, "extra_groups": []}
-        ended = run("list", "box", "--headers", cwd=self.top, **other)
+        ended = run("list", "box", "--headers", cwd=self.top, **OTHER)
         self.assertEqual((ended.status, ended.said), (77, b"deolmutt: box/new/b: permission denied\n"))
         columns = b"\t%d\t-\ta@example.org\tone\n" % len(MAIL)
         self.assertEqual(ended.printed, b"new\t-\ta" + columns + b"new\t-\tb\t-\t-\t-\t-\n" + b"new\t-\tc" + columns)
 
-    def test_other_file_system(self) -> None:
-        script = """mount -t tmpfs none "$1" && mkdir -p "$1/b/tmp" "$1/b/new" "$1/b/cur" || exit
-            for act in move copy; do "$2" $act box "$1/b" "$3"; echo "status $?"; done
-            ls "$1/b/new" """
-        self.box.put("new", UNIQUE)
-        place = self.top / "other"
+    def run_on_small_disk(self, script: str, *words: str) -> subprocess.CompletedProcess[bytes]:
+        """Runs a script whose first word is a small file system of its own, with the maildir b, and whose second word is the program."""
+        place = self.top / "small"
         place.mkdir()
-        command = ["unshare", "-rm", "sh", "-c", script, "sh", str(place), PROGRAM, UNIQUE.decode()]
+        mount = 'mount -t tmpfs -o size=262144 none "$1" && mkdir -p "$1/b/tmp" "$1/b/new" "$1/b/cur" || exit\n'
+        command = ["unshare", "-rm", "sh", "-c", mount + script, "sh", str(place), PROGRAM, *words]
         done = subprocess.run(command, capture_output=True, cwd=self.top, check=False)
         if b"status" not in done.stdout:
             self.skipTest("no file system of its own")
+        return done
+
+    def test_other_file_system(self) -> None:
+        self.box.put("new", UNIQUE)
+        script = 'for act in move copy; do "$2" $act box "$1/b" "$3"; echo "status $?"; done; ls "$1/b/new"'
+        done = self.run_on_small_disk(script, UNIQUE.decode())
         self.assertEqual(done.stdout, b"status 73\nstatus 73\n", done.stderr)
         self.assertEqual(done.stderr, 2 * (b"deolmutt: " + UNIQUE + b": it is on another file system\n"))
         self.assertEqual(self.box.files(), {b"new/" + UNIQUE: MAIL})
 
     def test_full_disk(self) -> None:
-        script = """mount -t tmpfs -o size=262144 none "$1" && mkdir -p "$1/b/tmp" "$1/b/new" "$1/b/cur" && cd "$1" || exit
+        done = self.run_on_small_disk("""cd "$1"
             head -c 1000000 /dev/zero | "$2" deliver b; echo "status $?"; ls b/tmp b/new
-            echo hello | "$2" deliver b; echo "status $?"; cat b/new/*"""
-        place = self.top / "full"
-        place.mkdir()
-        command = ["unshare", "-rm", "sh", "-c", script, "sh", str(place), PROGRAM]
-        done = subprocess.run(command, capture_output=True, check=False)
-        if b"status" not in done.stdout:
-            self.skipTest("no file system of its own")
+            echo hello | "$2" deliver b; echo "status $?"; cat b/new/*""")
         self.assertEqual(done.stdout, b"status 75\nb/new:\n\nb/tmp:\nstatus 0\nhello\n", done.stderr)
         self.assertIn(b"it could not be done: no storage space", done.stderr)
