@@ -139,13 +139,6 @@ def _is_known(event: Event, processes: Processes) -> bool:
     return isinstance(event, (Unread, Starting)) or processes.knows(event.pid)
 
 
-def make_log(trace: Iterable[str], making: Making) -> Log:
-    """The log of a whole trace."""
-    for _ in making.feed(trace):
-        pass
-    return making.log()
-
-
 def _comment(text: str) -> bytes:
     return f"# {text}".replace("\n", "\\n").replace("\r", "\\r").encode("utf-8", "surrogateescape")
 
@@ -159,5 +152,3 @@ def _first_lines(beginning: Beginning) -> Iterator[bytes]:
         yield b"file %b %d" % (file.paths[0].word(), file.stamp)
         for path in file.paths[1:]:
             yield b"also %b %b" % (path.word(), file.paths[0].word())
-
-

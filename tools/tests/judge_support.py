@@ -4,22 +4,17 @@ from __future__ import annotations
 
 import json
 import os
-import sys
-from pathlib import Path as FilePath
 from typing import Any, Dict, Iterable, List, Optional, Tuple
 
-sys.dont_write_bytecode = True
+from shared import TOOLS
 
-TOOLS = FilePath(__file__).resolve().parent.parent
-RECORDED = FilePath(__file__).resolve().parent / "strace"
-sys.path.insert(0, str(TOOLS))
+from judge_lib.claims import Claim, read_claims
+from judge_lib.folders import File, Folder, Folders
+from judge_lib.making import Beginning, Log, Making
+from judge_lib.names import Path
+from judge_lib.processes import Actors, Processes
 
-from judge_lib.claims import Claim, read_claims  # noqa: E402
-from judge_lib.folders import File, Folder, Folders  # noqa: E402
-from judge_lib.making import Beginning, Log, Making, make_log  # noqa: E402
-from judge_lib.names import Path  # noqa: E402
-from judge_lib.processes import Actors, Processes  # noqa: E402
-
+RECORDED = TOOLS / "tests/strace"
 BOX = Folder(b"box", b"/srv/mail/box")
 
 
@@ -38,7 +33,10 @@ def log_of(lines: Iterable[str], files: Iterable[Tuple[str, bytes]] = (), claims
            start: Optional[Beginning] = None) -> Log:
     """The log of a trace, whose first process is the actor `a`."""
     said: Dict[Optional[str], List[Claim]] = read_claims(list(claims))
-    return make_log(lines, Making(start or beginning(files), Processes(actors, b"/srv/mail"), said, []))
+    making = Making(start or beginning(files), Processes(actors, b"/srv/mail"), said, [])
+    for _ in making.feed(lines):
+        pass
+    return making.log()
 
 
 def steps_of(log: Log) -> List[str]:

@@ -11,17 +11,15 @@ import signal
 import subprocess
 import sys
 import tempfile
-import unittest
-from pathlib import Path
 from typing import IO, Any, Callable, Iterator, NamedTuple, Optional
 from unittest import mock
 
-TOOLS = Path(__file__).resolve().parent.parent
-TOOL = str(TOOLS / "maildir")
-sys.path.insert(0, str(TOOLS))
+from shared import TOOLS, RoomTest
 
-from maildir_lib import command  # noqa: E402
-from maildir_lib.language import Limits  # noqa: E402
+from maildir_lib import command
+from maildir_lib.language import Limits
+
+TOOL = str(TOOLS / "maildir")
 
 PLACES = (b"tmp", b"new", b"cur")
 NOBODY = 65534
@@ -50,17 +48,16 @@ class Kept(NamedTuple):
     seconds: int
 
 
-class TreeTest(unittest.TestCase):
+class TreeTest(RoomTest):
     """A test with a scratch folder, which others may search. It meets signals as a program does that a
     user starts, and so does what it starts."""
 
     def setUp(self) -> None:
+        super().setUp()
         for number, handler in USUAL_HANDLERS.items():
             self.addCleanup(signal.signal, number, signal.signal(number, handler))
-        scratch = tempfile.TemporaryDirectory()
-        self.addCleanup(scratch.cleanup)
-        os.chmod(scratch.name, 0o755)
-        self.scratch = os.fsencode(scratch.name)
+        self.room.chmod(0o755)
+        self.scratch = os.fsencode(self.room)
         self.tree = self.path(b"tree")
 
     def path(self, *steps: bytes) -> bytes:
@@ -100,6 +97,29 @@ class TreeTest(unittest.TestCase):
         with contextlib.redirect_stderr(printed):
             status = command.main([os.fsdecode(word) for word in words], limits)
         return Run(status, b"", printed.getvalue())
+
+    def call_in_child(self, prepare: Callable[[], object], *words: bytes | str, limits: Limits = Limits()) -> Run:
+        """Runs the command in a child process, which first gives up rights or takes on limits for good."""
+        receive, send = os.pipe()
+        child = os.fork()
+        if child == 0:
+            status = 99
+            with contextlib.suppress(BaseException):
+                prepare()
+                run = self.call(*words, limits=limits)
+                status = run.status
+                os.write(send, run.err.encode()[:60_000])
+            os._exit(status)
+        os.close(send)
+        with open(receive, "rb") as pipe:
+            printed = pipe.read().decode()
+        return Run(os.waitstatus_to_exitcode(os.waitpid(child, 0)[1]), b"", printed)
+
+    def assert_ended(self, run: Run, status: int, *said: str) -> None:
+        """Asks for the status of a run, and for what it said on standard error."""
+        self.assertEqual(run.status, status, run.err)
+        for text in said:
+            self.assertIn(text, run.err)
 
     def import_into(self, limits: Limits = Limits(), *options: str) -> tuple[Run, list[bytes]]:
         """Imports the tree into a fresh directory. The run, and the scripts in order."""
@@ -147,23 +167,6 @@ def everything_in(tree: bytes) -> dict[bytes, tuple[int, int]]:
             status = os.lstat(os.path.join(directory, name))
             found[os.path.join(directory, name)] = (status.st_mtime_ns, status.st_ino)
     return found
-
-
-def in_child(task: Callable[[], Run]) -> Run:
-    """Makes a run in a child process, which may give up rights or take on limits for good."""
-    receive, send = os.pipe()
-    child = os.fork()
-    if child == 0:
-        status = 99
-        with contextlib.suppress(BaseException):
-            run = task()
-            status = run.status
-            os.write(send, run.err.encode()[:60_000])
-        os._exit(status)
-    os.close(send)
-    with open(receive, "rb") as pipe:
-        printed = pipe.read().decode()
-    return Run(os.waitstatus_to_exitcode(os.waitpid(child, 0)[1]), b"", printed)
 
 
 def read_terminal(ours: int) -> bytes:

@@ -5,12 +5,10 @@ import shutil
 import signal
 import subprocess
 import sys
-import tempfile
 import time
 import unittest
-from pathlib import Path
 
-from judge_support import TOOLS
+from shared import TOOLS, RoomTest
 
 from judge_lib.tracing import tracer_of
 
@@ -35,13 +33,10 @@ def can_trace():
 
 
 @unittest.skipUnless(can_trace(), "strace can't trace here")
-class BadPrograms(unittest.TestCase):
+class BadPrograms(RoomTest):
     def setUp(self):
-        room = tempfile.TemporaryDirectory()
-        self.addCleanup(room.cleanup)
-        self.room = Path(os.path.realpath(room.name))
-        for place in ("tmp", "new", "cur"):
-            (self.room / "box" / place).mkdir(parents=True)
+        super().setUp()
+        self.make_maildir("box")
 
     def run_tool(self, tool, *words):
         begun = time.monotonic()
@@ -139,7 +134,3 @@ class BadPrograms(unittest.TestCase):
             finally:
                 server.kill()
         self.assertIn("there is no process 4194305", self.run_tool("trace", "-p", "4194305").stderr)
-
-
-if __name__ == "__main__":
-    unittest.main()

@@ -1,22 +1,12 @@
 """Tests of tools/check_pages: what pages quote, where their links lead, and the words of those with a budget."""
 
 import contextlib
-import importlib.machinery
-import importlib.util
 import io
-import sys
-import tempfile
-import unittest
-from pathlib import Path
 from unittest import mock
 
-sys.dont_write_bytecode = True
+from shared import TOP, RoomTest, loaded
 
-TOOLS = Path(__file__).resolve().parent.parent
-sys.path.insert(0, str(TOOLS))
-LOADER = importlib.machinery.SourceFileLoader("check_pages", str(TOOLS / "check_pages"))
-check_pages = importlib.util.module_from_spec(importlib.util.spec_from_loader("check_pages", LOADER))
-LOADER.exec_module(check_pages)
+check_pages = loaded("check_pages")
 
 LIST = """# Changes
 
@@ -35,22 +25,20 @@ LIST = """# Changes
 """
 
 
-class Pages(unittest.TestCase):
+class Pages(RoomTest):
     """A tree of pages in a folder of its own: each is given as its text."""
 
     def setUp(self):
-        room = tempfile.TemporaryDirectory()
-        self.addCleanup(room.cleanup)
-        self.top = Path(room.name)
+        super().setUp()
         self.write("CONTRIBUTING.md", LIST)
 
     def write(self, name, text):
-        path = self.top / name
+        path = self.room / name
         path.parent.mkdir(exist_ok=True)
         path.write_text(text, encoding="utf-8")
 
     def faults(self, budgets=(), quoting=()):
-        with mock.patch.multiple(check_pages, TOP=self.top, BUDGETS=dict(budgets), QUOTING=list(quoting)):
+        with mock.patch.multiple(check_pages, TOP=self.room, BUDGETS=dict(budgets), QUOTING=list(quoting)):
             return list(check_pages.faults())
 
     def test_a_page_over_its_budget(self):
@@ -102,7 +90,7 @@ class Pages(unittest.TestCase):
     def test_the_status_and_what_is_printed(self):
         for text, status in (("amid", 1), ("during", 0)):
             self.write("a.md", text)
-            tree = mock.patch.multiple(check_pages, TOP=self.top, BUDGETS={"a.md": 1}, QUOTING=[])
+            tree = mock.patch.multiple(check_pages, TOP=self.room, BUDGETS={"a.md": 1}, QUOTING=[])
             with tree, contextlib.redirect_stdout(io.StringIO()) as printed:
                 self.assertEqual(check_pages.main([]), status)
             self.assertEqual(len(printed.getvalue().splitlines()), status)
@@ -114,9 +102,5 @@ class Pages(unittest.TestCase):
             self.assertEqual(printed.getvalue(), check_pages.__doc__)
 
     def test_the_list_of_the_repository_is_read(self):
-        dropped = check_pages.words.dropped_by((TOOLS.parent / "CONTRIBUTING.md").read_text(encoding="utf-8"))
+        dropped = check_pages.words.dropped_by((TOP / "CONTRIBUTING.md").read_text(encoding="utf-8"))
         self.assertTrue({"amid", "refused", "gate", "kit"} <= set(dropped), dropped)
-
-
-if __name__ == "__main__":
-    unittest.main()

@@ -4,12 +4,10 @@ import json
 import os
 import subprocess
 import sys
-import tempfile
-import unittest
 import xml.etree.ElementTree as xml
-from pathlib import Path
 
-from judge_support import RECORDED, TOOLS, check_schema
+from judge_support import RECORDED, check_schema
+from shared import TOOLS, RoomTest
 
 from judge_lib import known, reports
 from judge_lib.judge_run import SENTENCES, Told
@@ -49,20 +47,14 @@ sys.exit(1 if found else 0)
 """
 
 
-class Faked(unittest.TestCase):
+class Faked(RoomTest):
     """A deliverer that flushes after its rename, traced and judged by stand-ins."""
 
     def setUp(self):
-        room = tempfile.TemporaryDirectory()
-        self.addCleanup(room.cleanup)
-        self.room = Path(os.path.realpath(room.name))
-        for name, text in (("bin/strace", STRACE), ("bin/judge", JUDGE)):
-            path = self.room / name
-            path.parent.mkdir(exist_ok=True)
-            path.write_text(text)
-            path.chmod(0o755)
-        for place in ("tmp", "new", "cur"):
-            (self.room / "box" / place).mkdir(parents=True)
+        super().setUp()
+        self.program("bin/strace", STRACE)
+        self.program("bin/judge", JUDGE)
+        self.make_maildir("box")
 
     def run_tool(self, tool, *words, **more):
         environment = {**os.environ, "PATH": f"{self.room}/bin", "DEOLMUTT": f"{self.room}/bin/judge", "GITHUB_ACTIONS": "false", **more}
@@ -164,7 +156,7 @@ class Deliverer(Faked):
         self.assertRegex(annotation, r"^::error file=check-run.log,line=\d+,title=NotFlushed::d: rename ")
 
 
-class Reports(unittest.TestCase):
+class Reports(RoomTest):
     TOLD = Told(7, "Gone", "a", "unlink box/cur/\x01% ok", "it\ngoes", 4)
     CHECKED = Checked("log", {"a": 0}, [TOLD], [], [], ["a\nb"], False, [])
 
@@ -179,14 +171,9 @@ class Reports(unittest.TestCase):
         self.assertEqual([self.CHECKED.status(), self.CHECKED._replace(new=[]).status(), self.CHECKED._replace(new=[], wrong=[]).status()], [1, 2, 0])
 
     def test_a_star_is_any_text_and_all_else_itself(self):
-        with tempfile.NamedTemporaryFile("w") as file:
-            file.write("Gone a unlink box/cur/* ok\nGone a unlink box.cur/*\n")
-            file.flush()
-            new, old, unmet = known.split([self.TOLD], known.read_known(file.name))
+        path = self.room / "known"
+        path.write_text("Gone a unlink box/cur/* ok\nGone a unlink box.cur/*\n")
+        new, old, unmet = known.split([self.TOLD], known.read_known(str(path)))
         self.assertEqual((new, old, unmet), ([], [self.TOLD], ["Gone a unlink box.cur/*"]))
         with self.assertRaises((Refused, OSError)):
             known.read_known("/nowhere")
-
-
-if __name__ == "__main__":
-    unittest.main()

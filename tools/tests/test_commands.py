@@ -1,19 +1,11 @@
 """Tests of tools/check_commands: what of a page is a command, and that a command which doesn't do as its page says is told."""
 
-import importlib.machinery
-import importlib.util
-import sys
-import tempfile
-import unittest
 from pathlib import Path
 from unittest import mock
 
-sys.dont_write_bytecode = True
+from shared import RoomTest, loaded
 
-TOOL = Path(__file__).resolve().parent.parent / "check_commands"
-LOADER = importlib.machinery.SourceFileLoader("check_commands", str(TOOL))
-check_commands = importlib.util.module_from_spec(importlib.util.spec_from_loader("check_commands", LOADER))
-LOADER.exec_module(check_commands)
+check_commands = loaded("check_commands")
 
 PAGE = """Save this as `a.script`:
 
@@ -38,11 +30,10 @@ See `tools/check_pages` and `rt ci`.
 """
 
 
-class Commands(unittest.TestCase):
+class Commands(RoomTest):
     def setUp(self):
-        room = tempfile.TemporaryDirectory()
-        self.addCleanup(room.cleanup)
-        self.page = Path(room.name) / "page.md"
+        super().setUp()
+        self.page = self.room / "page.md"
         self.page.write_text(PAGE, encoding="utf-8")
 
     def faults(self, program, listed):
@@ -68,7 +59,3 @@ class Commands(unittest.TestCase):
         self.assertIn("./deolmutt --version: printed\n", found[0])
         self.assertIn("false: ended with status 1", found[1])
         self.assertIn("no page has the command rt gone", found[2])
-
-
-if __name__ == "__main__":
-    unittest.main()

@@ -1,20 +1,11 @@
 """Tests of tools/make-definitions: what has a row, and that a page which isn't as it is made, or lacks what it has to say, is told."""
 
 import contextlib
-import importlib.machinery
-import importlib.util
 import io
-import sys
-import tempfile
-import unittest
-from pathlib import Path
 
-sys.dont_write_bytecode = True
+from shared import RoomTest, loaded
 
-TOOL = Path(__file__).resolve().parent.parent / "make-definitions"
-LOADER = importlib.machinery.SourceFileLoader("make_definitions", str(TOOL))
-make_definitions = importlib.util.module_from_spec(importlib.util.spec_from_loader("make_definitions", LOADER))
-LOADER.exec_module(make_definitions)
+make_definitions = loaded("make-definitions")
 
 SPECS = """-- What a number is
 -- good for.
@@ -114,11 +105,9 @@ TABLE = """# Words
 """
 
 
-class Definitions(unittest.TestCase):
+class Definitions(RoomTest):
     def setUp(self):
-        room = tempfile.TemporaryDirectory()
-        self.addCleanup(room.cleanup)
-        self.top = Path(room.name)
+        super().setUp()
         self.put("crates/low/specs/Lib.antt", "pub mod Small\n")
         self.put("crates/low/specs/Small.antt", SPECS)
         self.put("crates/low/src/lib.rt", LIB)
@@ -128,34 +117,34 @@ class Definitions(unittest.TestCase):
         self.put("docs/DEFINITIONS.md", TABLE)
 
     def put(self, path, text):
-        (self.top / path).parent.mkdir(parents=True, exist_ok=True)
-        (self.top / path).write_text(text, encoding="utf-8")
+        (self.room / path).parent.mkdir(parents=True, exist_ok=True)
+        (self.room / path).write_text(text, encoding="utf-8")
 
     def change(self, path, old, new):
-        text = (self.top / path).read_text(encoding="utf-8")
+        text = (self.room / path).read_text(encoding="utf-8")
         self.assertEqual(text.count(old), 1, old)
         self.put(path, text.replace(old, new))
 
     def made(self):
         """Makes the page, and then checks it."""
-        self.assertEqual(make_definitions.main([], self.top), 0)
-        return list(make_definitions.faults(self.top))
+        self.assertEqual(make_definitions.main([], self.room), 0)
+        return list(make_definitions.faults(self.room))
 
     def test_a_page_that_is_as_it_is_made_passes(self):
         self.assertEqual(self.made(), [])
-        self.assertEqual((self.top / "docs/DEFINITIONS.md").read_text(encoding="utf-8"), TABLE)
+        self.assertEqual((self.room / "docs/DEFINITIONS.md").read_text(encoding="utf-8"), TABLE)
 
     def test_words_of_public_contracts_alone_count(self):
-        words = {name for _, name in make_definitions.contract_words(self.top)}
+        words = {name for _, name in make_definitions.contract_words(self.room)}
         self.assertEqual(words, {"is_even", "Pair", "sum_of"})
 
     def test_a_page_that_was_changed_by_hand_is_told(self):
         self.change("docs/DEFINITIONS.md", "two are enough", "two are too few")
-        self.assertEqual(list(make_definitions.faults(self.top)), ["docs/DEFINITIONS.md: not as tools/make-definitions makes it"])
+        self.assertEqual(list(make_definitions.faults(self.room)), ["docs/DEFINITIONS.md: not as tools/make-definitions makes it"])
 
     def test_a_comment_that_changed_is_told(self):
         self.change("crates/low/specs/Small.antt", "-- two numbers\n", "-- a pair\n")
-        self.assertEqual(list(make_definitions.faults(self.top)), ["docs/DEFINITIONS.md: not as tools/make-definitions makes it"])
+        self.assertEqual(list(make_definitions.faults(self.room)), ["docs/DEFINITIONS.md: not as tools/make-definitions makes it"])
 
     def test_a_word_of_a_contract_without_a_comment_is_told(self):
         self.change("crates/low/src/laws.rt", "small.sum_of p ≡ 0", "small.sum_of p ≡ small.helper")
@@ -182,31 +171,27 @@ class Definitions(unittest.TestCase):
     def test_a_row_of_a_definition_that_is_gone_is_refused(self):
         self.change("tools/definitions.txt", "@why Pair sum_of", "@why Pair old_sum")
         with self.assertRaisesRegex(make_definitions.Fault, "0 of these files have the definition old_sum"):
-            make_definitions.Page(self.top)
+            make_definitions.Page(self.room)
 
     def test_a_definition_has_one_row(self):
         self.change("tools/definitions.txt", "@why Pair", "@row Pair\n@why Pair")
         with self.assertRaisesRegex(make_definitions.Fault, "Pair has two rows"):
-            make_definitions.Page(self.top)
+            make_definitions.Page(self.room)
 
     def test_a_file_that_is_gone_is_refused(self):
         self.change("tools/definitions.txt", "@files low Small", "@files low Small Old")
         with self.assertRaisesRegex(make_definitions.Fault, "there is no file crates/low/specs/Old.antt"):
-            make_definitions.Page(self.top)
+            make_definitions.Page(self.room)
 
     def test_wrong_words_are_refused(self):
         said = io.StringIO()
         with contextlib.redirect_stderr(said):
-            self.assertEqual(make_definitions.main(["--chek"], self.top), 64)
+            self.assertEqual(make_definitions.main(["--chek"], self.room), 64)
         self.assertIn("make-definitions [--check]", said.getvalue())
 
     def test_a_refusal_ends_with_status_1(self):
         self.put("tools/definitions.txt", "@row Pair\n")
         said = io.StringIO()
         with contextlib.redirect_stdout(said):
-            self.assertEqual(make_definitions.main(["--check"], self.top), 1)
+            self.assertEqual(make_definitions.main(["--check"], self.room), 1)
         self.assertEqual(said.getvalue(), "tools/definitions.txt: no table stands before @row Pair\n")
-
-
-if __name__ == "__main__":
-    unittest.main()

@@ -2,14 +2,13 @@
 
 from __future__ import annotations
 
-import sys
 import unittest
 from collections.abc import Iterator
 from pathlib import Path
 
-sys.dont_write_bytecode = True
+from shared import TOP
 
-CRATES = Path(__file__).resolve().parents[2] / "crates"
+CRATES = TOP / "crates"
 
 
 def changes(edit: Path) -> Iterator[tuple[Path, str, str]]:
@@ -36,7 +35,3 @@ class Edits(unittest.TestCase):
                 for file, old, new in found:
                     self.assertEqual(file.read_text(encoding="utf-8").count(old), 1)
                     self.assertNotEqual(old, new)
-
-
-if __name__ == "__main__":
-    unittest.main()

@@ -1,14 +1,13 @@
 """Tests of tools/explore: which interleavings are tried, and what is said of them."""
 
 import json
-import os
 import subprocess
 import sys
-import tempfile
 import unittest
 from itertools import permutations
 
-from judge_support import BOX, TOOLS, beginning, check_schema, quoted, trace
+from judge_support import BOX, beginning, check_schema, quoted, trace
+from shared import TOOLS, RoomTest
 
 from judge_lib.explored_table import all_unexpected, as_json, table
 from judge_lib.exploring import Broken, Explored, Order, note
@@ -105,23 +104,23 @@ class Statuses(unittest.TestCase):
             check_ran({"A": 0, "B": 127}, {"B": b"sh: 1: x: not found\n"})
 
 
-class Kept(unittest.TestCase):
+class Kept(RoomTest):
+    def there(self):
+        return sorted(str(path.relative_to(self.room)) for path in self.room.glob("**/*") if path.is_file())
+
     def test_logs_by_clause_and_all_of_each_order(self):
-        with tempfile.TemporaryDirectory() as room:
-            findings, whole = os.path.join(room, "found"), os.path.join(room, "whole")
-            log = Log([b"maildir_log 1"], [], {}, {"A": b"said"})
-            keeper = Keeper(findings, whole)
-            keeper.keep("AB", log, Order({"A": 0, "B": None}, ["Gone", "Mixed"]))
-            keeper.keep("BA", log, Order({"A": 0, "B": 0}, []))
-            there = sorted(os.path.relpath(os.path.join(at, name), room) for at, _, names in os.walk(room) for name in names)
-            self.assertEqual(there, ["found/Gone/AB.log", "found/Mixed/AB.log", *(f"whole/{order}/{name}" for order in ("AB", "BA")
-                                                                                  for name in ("A.out", "log", "statuses"))])
-            with open(os.path.join(whole, "AB/statuses"), encoding="ascii") as statuses:
-                self.assertEqual(statuses.read(), "A ended with status 0\nB ended with a signal\n")
-            with self.assertRaisesRegex(Refused, "is not empty"):
-                Keeper(findings, whole)
-            Keeper(findings, None)
-            self.assertEqual(os.listdir(os.path.join(findings, "Gone")), [])
+        findings, whole = str(self.room / "found"), str(self.room / "whole")
+        log = Log([b"maildir_log 1"], [], {}, {"A": b"said"})
+        keeper = Keeper(findings, whole)
+        keeper.keep("AB", log, Order({"A": 0, "B": None}, ["Gone", "Mixed"]))
+        keeper.keep("BA", log, Order({"A": 0, "B": 0}, []))
+        of_whole = [f"whole/{order}/{name}" for order in ("AB", "BA") for name in ("A.out", "log", "statuses")]
+        self.assertEqual(self.there(), ["found/Gone/AB.log", "found/Mixed/AB.log", *of_whole])
+        self.assertEqual((self.room / "whole/AB/statuses").read_text(), "A ended with status 0\nB ended with a signal\n")
+        with self.assertRaisesRegex(Refused, "is not empty"):
+            Keeper(findings, whole)
+        Keeper(findings, None)
+        self.assertEqual(self.there(), of_whole)
 
 
 class Table(unittest.TestCase):
@@ -154,7 +153,3 @@ class Table(unittest.TestCase):
         for words in [["true"], ["--claims", "done box u", "true", "true"], ["--status", "C: 1", "true", "true"], ["true"] * 4]:
             run = subprocess.run([sys.executable, TOOLS / "explore", *words], capture_output=True, check=False)
             self.assertEqual((run.returncode, run.stdout), (2, b""))
-
-
-if __name__ == "__main__":
-    unittest.main()

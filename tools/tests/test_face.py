@@ -1,18 +1,13 @@
 """Tests of tools/check_face: a stand-in that answers as the rows say passes them, and each wrong main fails."""
 
 import errno
-import os
 import shutil
 import subprocess
 import sys
-import tempfile
 import unittest
 from pathlib import Path
 
-sys.dont_write_bytecode = True
-
-TOOLS = Path(__file__).resolve().parent.parent
-sys.path.insert(0, str(TOOLS))
+from shared import TOOLS, TOP, RoomTest
 
 from face_lib.faults import Fault, built, faults, run_with, wrong_memory
 from face_lib.large import cases, is_front, pieces, run_in_pieces
@@ -34,14 +29,6 @@ sys.exit(70)
 """
 
 
-def program(folder: str, text: str) -> str:
-    """A program of this text."""
-    path = Path(folder) / "stand-in"
-    path.write_text(text, encoding="utf-8")
-    path.chmod(0o755)
-    return str(path)
-
-
 # Prints how many bytes each read gives.
 READS = """#!{python}
 import os, sys
@@ -50,7 +37,7 @@ while given := os.read(0, 65536):
 """
 
 
-class Large(unittest.TestCase):
+class Large(RoomTest):
     def test_each_limit_has_a_case_past_it(self):
         statuses = [case.wanted.status for case in cases()]
         self.assertGreaterEqual(statuses.count(1), 6)
@@ -64,9 +51,8 @@ class Large(unittest.TestCase):
                 self.assertFalse(is_front(ended, 40))
 
     def test_a_read_gives_a_piece(self):
-        with tempfile.TemporaryDirectory() as folder:
-            ended = run_in_pieces([program(folder, READS.format(python=sys.executable))], b"abcdefgh", 3)
-            self.assertEqual(ended, Ended(0, b"3 3 2 ", b""))
+        ended = run_in_pieces([self.program("stand-in", READS.format(python=sys.executable))], b"abcdefgh", 3)
+        self.assertEqual(ended, Ended(0, b"3 3 2 ", b""))
 
     def test_a_program_that_reads_nothing_ends_the_run(self):
         self.assertEqual(run_in_pieces(["true"], b"x" * 1_000_000, 1_000), Ended(0, b"", b""))
@@ -130,11 +116,9 @@ def compiled(folder: str, text: str) -> str:
 
 
 @unittest.skipUnless(shutil.which("gcc"), "gcc is not installed")
-class Faults(unittest.TestCase):
+class Faults(RoomTest):
     def setUp(self):
-        room = tempfile.TemporaryDirectory()
-        self.addCleanup(room.cleanup)
-        self.room = room.name
+        super().setUp()
         self.library = built(self.room)
 
     def test_each_fault_is_met(self):
@@ -203,7 +187,7 @@ class Rows(unittest.TestCase):
             self.assertGreaterEqual(words.count(["threads", number]), 9)
 
     def test_each_log_of_the_judge_is_a_row(self):
-        logs = len(list((TOOLS.parent / "crates/judge_examples/data").glob("*.log")))
+        logs = len(list((TOP / "crates/judge_examples/data").glob("*.log")))
         self.assertGreaterEqual(logs, 62)
         self.assertGreaterEqual(sum(row.words == ["judge", "--lines"] for row in rows_of("deolmutt")), logs)
 
@@ -213,16 +197,14 @@ class Rows(unittest.TestCase):
         self.assertFalse(row.is_right(row.example._replace(printed=b"")))
 
 
-class Planted(unittest.TestCase):
+class Planted(RoomTest):
     def setUp(self):
-        room = tempfile.TemporaryDirectory()
-        self.addCleanup(room.cleanup)
-        self.room = room.name
-        self.program = program(self.room, STAND_IN.format(python=sys.executable, tools=str(TOOLS)))
+        super().setUp()
+        self.stand_in = str(self.program("stand-in", STAND_IN.format(python=sys.executable, tools=str(TOOLS))))
 
     def wrong_row(self, script):
         """The first row that fails for the stand-in as a shell makes it."""
-        return next(wrong_rows(planted(self.program, script, self.room), rows_of("maildir_cli")), None)
+        return next(wrong_rows(planted(self.stand_in, script, self.room), rows_of("maildir_cli")), None)
 
     def test_what_answers_as_the_rows_say_passes(self):
         self.assertIsNone(self.wrong_row('exec "$0" "$@"'))
@@ -233,11 +215,11 @@ class Planted(unittest.TestCase):
                 self.assertIsNotNone(self.wrong_row(script))
 
     def test_a_main_that_passes_is_told(self):
-        told = list(passed_plants(self.program, lambda command: iter(())))
+        told = list(passed_plants(self.stand_in, lambda command: iter(())))
         self.assertEqual(len(told), len(PLANTED))
 
 
-class FailingStreams(unittest.TestCase):
+class FailingStreams(RoomTest):
     FACE = Face(
         streams=[Streams("", b"", ">/dev/full", Ended(3, b"", b"full\n"))],
         unread=[Streams("", b"", "", Ended(3, b"", b"full\n"))],
@@ -259,10 +241,9 @@ sys.exit(3)
 """
 
     def test_streams_that_fail_are_met(self):
-        with tempfile.TemporaryDirectory() as room:
-            stand_in = program(room, self.TEXT.format(python=sys.executable))
-            self.assertEqual(list(wrong_streams([stand_in], self.FACE)), [])
-            self.assertEqual(run([stand_in], [], b"").status, 3)
+        stand_in = self.program("stand-in", self.TEXT.format(python=sys.executable))
+        self.assertEqual(list(wrong_streams([stand_in], self.FACE)), [])
+        self.assertEqual(run([stand_in], [], b"").status, 3)
 
     def test_what_does_not_come_to_it_is_told(self):
         self.assertEqual(len(list(wrong_streams(["true"], self.FACE))), 6)
@@ -270,7 +251,7 @@ sys.exit(3)
 
 class Words(unittest.TestCase):
     def test_wrong_words_are_refused(self):
-        for words in ([], ["no-such-program"], [sys.executable], [TOOLS.parent / "crates/maildir_cli"]):
+        for words in ([], ["no-such-program"], [sys.executable], [TOP / "crates/maildir_cli"]):
             with self.subTest(words):
                 done = subprocess.run([TOOLS / "check_face", *words], capture_output=True, check=False)
                 self.assertEqual(done.returncode, 2)
@@ -278,7 +259,3 @@ class Words(unittest.TestCase):
 
     def test_each_program_is_known(self):
         self.assertEqual(set(FACES), {"deolmutt", "maildir_cli"})
-
-
-if __name__ == "__main__":
-    unittest.main()

@@ -2,20 +2,15 @@
 
 from __future__ import annotations
 
-import importlib.machinery
-import importlib.util
 import os
 import subprocess
-import tempfile
 import unittest
-from pathlib import Path
 from types import SimpleNamespace
 from unittest import mock
 
-TOOLS = Path(__file__).resolve().parent.parent
-LOADER = importlib.machinery.SourceFileLoader("build_archive", str(TOOLS / "build-archive"))
-build_archive = importlib.util.module_from_spec(importlib.util.spec_from_loader("build_archive", LOADER))
-LOADER.exec_module(build_archive)
+from shared import TOOLS, RoomTest, loaded
+
+build_archive = loaded("build-archive")
 
 
 class HelpTest(unittest.TestCase):
@@ -31,24 +26,22 @@ class HelpTest(unittest.TestCase):
             self.assertEqual((64, ""), (ran.returncode, ran.stdout))
 
 
-class BuiltTest(unittest.TestCase):
+class BuiltTest(RoomTest):
     """Whether the archive is up to date."""
 
     def setUp(self) -> None:
-        folder = tempfile.TemporaryDirectory()
-        self.addCleanup(folder.cleanup)
-        self.made = Path(folder.name)
-        (self.made / "low/src").mkdir(parents=True)
-        (self.made / "ffi/out").mkdir(parents=True)
-        self.source = self.made / "low/src/lib.rt"
+        super().setUp()
+        (self.room / "low/src").mkdir(parents=True)
+        (self.room / "ffi/out").mkdir(parents=True)
+        self.source = self.room / "low/src/lib.rt"
         self.source.write_text("")
-        placed = mock.patch.object(build_archive, "CRATE", self.made / "ffi")
+        placed = mock.patch.object(build_archive, "CRATE", self.room / "ffi")
         placed.start()
         self.addCleanup(placed.stop)
-        self.archive = self.made / "ffi" / build_archive.ARCHIVE
+        self.archive = self.room / "ffi" / build_archive.ARCHIVE
 
     def is_built(self, kit: str = "kit") -> bool:
-        return bool(build_archive.is_built([SimpleNamespace(folder=self.made / "low")], kit))
+        return bool(build_archive.is_built([SimpleNamespace(folder=self.room / "low")], kit))
 
     def test_an_archive_is_up_to_date_until_something_below_it_changes(self) -> None:
         self.assertFalse(self.is_built())
@@ -60,10 +53,6 @@ class BuiltTest(unittest.TestCase):
 
     def test_an_archive_is_of_one_toolchain(self) -> None:
         self.archive.write_text("")
-        (self.made / "ffi" / build_archive.BUILT_BY).write_text("kit")
+        (self.room / "ffi" / build_archive.BUILT_BY).write_text("kit")
         self.assertTrue(self.is_built())
         self.assertFalse(self.is_built("another"))
-
-
-if __name__ == "__main__":
-    unittest.main()

@@ -2,9 +2,9 @@
 
 import subprocess
 import unittest
-from pathlib import Path
 
-TOOL = Path(__file__).resolve().parent.parent / "gate-times"
+from shared import TOOLS
+
 LOG = """\
     60.0 rt: md_name proved
     72.0 rt: lists is kept: an earlier run on this machine proved the same files over the same libraries
@@ -17,7 +17,7 @@ LOG = """\
 
 class Times(unittest.TestCase):
     def run_tool(self, text: str) -> str:
-        return subprocess.run([TOOL], input=text, capture_output=True, text=True, check=True).stdout
+        return subprocess.run([TOOLS / "gate-times"], input=text, capture_output=True, text=True, check=True).stdout
 
     def test_a_part_takes_what_it_took_since_its_libraries_were_proved(self) -> None:
         said = "gate-times:    1.0 md_name\ngate-times:    1.8 md_dirs\ngate-times:    1.9 md_dirs, its tests\n"
@@ -25,7 +25,3 @@ class Times(unittest.TestCase):
 
     def test_lines_that_come_are_stamped(self) -> None:
         self.assertEqual(self.run_tool("rt: md_name proved\n"), "     0.0 rt: md_name proved\ngate-times:    0.0 md_name\n")
-
-
-if __name__ == "__main__":
-    unittest.main()

@@ -2,7 +2,7 @@
 
 import unittest
 
-import judge_support  # noqa: F401
+import shared  # noqa: F401
 
 from judge_lib.grades import GRADES, at_least, grade_of
 from judge_lib.judge_run import Finding
@@ -28,7 +28,3 @@ class Grades(unittest.TestCase):
                  "1 p write box/tmp/arrived.1 fault", "1 p rename box/tmp/arrived.1 box/cur/u:2, ok"]
         self.assertEqual(grade("SeenBeforeWhole", *comes), "misled", "it is cut")
         self.assertEqual(grade("SeenBeforeWhole", *comes, "1 p write box/cur/u:2, ok"), "misled", "it is written to once it has come")
-
-
-if __name__ == "__main__":
-    unittest.main()

@@ -8,7 +8,8 @@ import tempfile
 import unittest
 from pathlib import Path
 
-TOP = Path(__file__).resolve().parents[2]
+from shared import TOP
+
 FOLDERS = ("tools", "launcher", "bench/*", ".ci")
 MOST_SECONDS = 20
 
@@ -34,7 +35,3 @@ class HelpTest(unittest.TestCase):
             self.assertEqual((0, ""), (ran.returncode, ran.stderr))
             self.assertGreater(len(ran.stdout.splitlines()), 1)
             self.assertEqual([], os.listdir(folder))
-
-
-if __name__ == "__main__":
-    unittest.main()

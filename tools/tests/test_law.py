@@ -3,32 +3,27 @@
 import contextlib
 import io
 import re
-import sys
-import tempfile
 import unittest
 from pathlib import Path
 
-sys.dont_write_bytecode = True
+from shared import TOP, RoomTest
 
-TOOLS = Path(__file__).resolve().parent.parent
-sys.path.insert(0, str(TOOLS))
+from judge_lib.refused import Refused
+from judge_lib.results import Results
+from judge_lib.scene import read_scenes
+from judge_lib.staging import Outcome
+from law_lib import monitor
+from law_lib.clauses import LAW
+from law_lib.logs import findings
+from law_lib.owed import OWED
+from law_lib.owed_command import broken_in, main
 
-from judge_lib.refused import Refused  # noqa: E402
-from judge_lib.results import Results  # noqa: E402
-from judge_lib.scene import read_scenes  # noqa: E402
-from judge_lib.staging import Outcome  # noqa: E402
-from law_lib import monitor  # noqa: E402
-from law_lib.clauses import LAW  # noqa: E402
-from law_lib.logs import findings  # noqa: E402
-from law_lib.owed import OWED  # noqa: E402
-from law_lib.owed_command import broken_in, main  # noqa: E402
-
-PAGE = TOOLS.parent / "docs/LAW.md"
+PAGE = TOP / "docs/LAW.md"
 EXAMPLE = re.compile(r"^\*\*`(\w+)`\.\*\* [^\n]*\n\n((?:    [^\n]*\n)+)", re.MULTILINE)
-JUDGE_PAGE = TOOLS.parent / "docs/JUDGE.md"
+JUDGE_PAGE = TOP / "docs/JUDGE.md"
 # A row of the table of clauses: the clause, and the lines of its example in the last cell.
 ROW = re.compile(r"^\| (\w+) \| .* \| (`[^|]*`) \|$", re.MULTILINE)
-LOGS = sorted((TOOLS.parent / "crates/judge_examples/data").glob("*.log"))
+LOGS = sorted((TOP / "crates/judge_examples/data").glob("*.log"))
 MOST_LINES = 60
 
 
@@ -69,7 +64,7 @@ class Monitor(unittest.TestCase):
                     self.assertEqual(findings(log.read_bytes(), by_monitor), findings(log.read_bytes(), by_definition))
 
 
-class Owed(unittest.TestCase):
+class Owed(RoomTest):
     def test_each_example_of_the_page_breaks_its_clause_alone(self) -> None:
         examples = EXAMPLE.findall(PAGE.read_text(encoding="utf-8"))
         self.assertEqual([clause for clause, _ in examples], list(OWED))
@@ -89,32 +84,26 @@ class Owed(unittest.TestCase):
             broken_in(linked + created)
 
     def test_the_command_says_who_breaks_what(self) -> None:
-        with tempfile.TemporaryDirectory() as room:
-            log = Path(room, "log")
-            for text, said, status in [
-                ("10 p create a/cur/u:2, ok\n10 p write a/cur/u:2, ok\n10 p write a/cur/u:2, ok\n", "Rewritten by p (2, 3)", 1),
-                ("10 p create a/tmp/u ok\n", "nothing", 0),
-                ("10 p unlink a/tmp/u ok\n", "NotADirectory by p (1)", 1),
-            ]:
-                log.write_text(text)
-                with contextlib.redirect_stdout(io.StringIO()) as printed:
-                    self.assertEqual(main([str(log)]), status)
-                self.assertEqual(printed.getvalue(), f"{log}: {said}\n")
-            log.write_text("file a/tmp/u x\n")
-            with contextlib.redirect_stderr(io.StringIO()):
-                self.assertEqual(main([str(log)]), 2)
+        log = self.room / "log"
+        for text, said, status in [
+            ("10 p create a/cur/u:2, ok\n10 p write a/cur/u:2, ok\n10 p write a/cur/u:2, ok\n", "Rewritten by p (2, 3)", 1),
+            ("10 p create a/tmp/u ok\n", "nothing", 0),
+            ("10 p unlink a/tmp/u ok\n", "NotADirectory by p (1)", 1),
+        ]:
+            log.write_text(text)
+            with contextlib.redirect_stdout(io.StringIO()) as printed:
+                self.assertEqual(main([str(log)]), status)
+            self.assertEqual(printed.getvalue(), f"{log}: {said}\n")
+        log.write_text("file a/tmp/u x\n")
+        with contextlib.redirect_stderr(io.StringIO()):
+            self.assertEqual(main([str(log)]), 2)
 
     def test_the_table_has_a_row_for_each_program(self) -> None:
         linked = b"file box/cur/u:2,S 1\n10 s-nail link box/cur/u:2,S box/cur/u:2,FS ok\n"
         logs = {"s-nail-flag": linked, "s-nail-move": b"", "mlist-beside-mv": b""}
-        with tempfile.TemporaryDirectory() as room:
-            for scene in read_scenes(list(logs)):
-                Results(room).keep(Outcome(scene, "1", 1, True, [], logs[scene.name]))
-            with contextlib.redirect_stdout(io.StringIO()) as printed:
-                self.assertEqual(main(["--scenes", room]), 0)
+        for scene in read_scenes(list(logs)):
+            Results(str(self.room)).keep(Outcome(scene, "1", 1, True, [], logs[scene.name]))
+        with contextlib.redirect_stdout(io.StringIO()) as printed:
+            self.assertEqual(main(["--scenes", str(self.room)]), 0)
         rows = printed.getvalue().splitlines()[4:]
         self.assertEqual(rows, ["| `s-nail`, s-nail 1 | 2 | `TwoNames` (flags one message, deletes another) |"])
-
-
-if __name__ == "__main__":
-    unittest.main()

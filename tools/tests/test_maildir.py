@@ -5,7 +5,6 @@ from __future__ import annotations
 import mailbox
 import os
 import random
-import unittest
 
 from support import Limits, TreeTest, files_of, maildirs_of, read
 
@@ -42,8 +41,7 @@ class RoundTrips(TreeTest):
         self.assertEqual(run.status, 0, run.err)
         back = self.path(name)
         words = [self.write(b"%d" % at, text) for at, text in enumerate(scripts)]
-        run = self.call("export", *words, back)
-        self.assertEqual(run.status, 0, run.err)
+        self.assert_ended(self.call("export", *words, back), 0)
         self.assertEqual(files_of(back), files_of(self.tree))
         self.assertEqual(maildirs_of(back), maildirs_of(self.tree))
         return scripts
@@ -111,9 +109,9 @@ class RoundTrips(TreeTest):
         self.make()
         path = self.put(b"new/1")
         os.utime(path, ns=(0, 1_700_000_000_999_999_999))
-        run, scripts = self.import_into()
-        self.assertEqual(run.status, 0)
-        self.assertIn(b"\nfile INBOX new 1 1700000000 \n", scripts[0])
+        run, (script,) = self.import_into()
+        self.assert_ended(run, 0)
+        self.assertIn(b"\nfile INBOX new 1 1700000000 \n", script)
 
     def test_random_trees(self) -> None:
         for seed in range(25):
@@ -247,7 +245,3 @@ def contents(box: mailbox.Maildir) -> dict[str, tuple[bytes, str, str, float]]:
         key: (message.as_bytes(), message.get_flags(), message.get_subdir(), message.get_date())
         for key, message in box.iteritems()
     }
-
-
-if __name__ == "__main__":
-    unittest.main()

@@ -10,11 +10,10 @@ import signal
 import stat
 import subprocess
 import sys
-import unittest
 from unittest import mock
 
 from support import TOOL, EachMoment, Limits, Run, TreeTest
-from support import before_call, become_nobody, everything_in, files_of, in_child, maildirs_of, read
+from support import before_call, become_nobody, everything_in, files_of, maildirs_of, read
 
 from maildir_lib.language import BadEscape, escape, unescape
 
@@ -111,39 +110,28 @@ class Refusals(TreeTest):
     def test_scripts_that_cannot_be_read(self) -> None:
         good = self.write(b"good", b"folder i\n")
         for script in (self.path(b"none"), self.scratch):
-            run = self.call("export", good, script, self.tree)
-            self.assertEqual(run.status, 2)
-            self.assertIn("can't be read", run.err)
+            self.assert_ended(self.call("export", good, script, self.tree), 2, "can't be read")
         self.assertFalse(os.path.exists(self.tree))
 
     def test_a_script_over_the_limit(self) -> None:
         text = b"folder i\nfile i new u 0 x\n"
         script = self.write(b"script", text)
-        limits = Limits(len(text) - 1, 64)
-        run = self.call("export", script, self.tree, limits=limits)
-        self.assertEqual(run.status, 2)
-        self.assertIn("script too long", run.err)
-        self.assertEqual(self.call("export", script, self.tree, limits=Limits(len(text))).status, 0)
-        large = b"#" + b"x" * 67_108_864
-        run = self.run_tool("export", "-", self.path(b"other"), given=large)
-        self.assertEqual(run.status, 2)
-        self.assertIn("maildir: -: script too long", run.err)
-        run = self.run_tool("export", "-", self.path(b"other"), given=large[:-1])
-        self.assertEqual(run.status, 0)
+        self.assert_ended(self.call("export", script, self.tree, limits=Limits(len(text) - 1, 64)), 2, "script too long")
+        self.assert_ended(self.call("export", script, self.tree, limits=Limits(len(text))), 0)
+        large, other = b"#" + b"x" * 67_108_864, self.path(b"other")
+        self.assert_ended(self.run_tool("export", "-", other, given=large), 2, "maildir: -: script too long")
+        self.assert_ended(self.run_tool("export", "-", other, given=large[:-1]), 0)
 
     def test_trees_that_cannot_be_made(self) -> None:
         script = self.write(b"script", b"folder i\n")
         for tree in (self.path(b"no", b"such"), script):
-            run = self.call("export", script, tree)
-            self.assertEqual(run.status, 2)
-            self.assertIn("can't be ", run.err)
+            self.assert_ended(self.call("export", script, tree), 2, "can't be ")
 
 
 class Lines(TreeTest):
     def export(self, text: bytes) -> dict[bytes, bytes]:
         """Exports a script. The bodies of the files, by their paths."""
-        run = self.call("export", self.write(b"script", text), self.tree)
-        self.assertEqual(run.status, 0, run.err)
+        self.assert_ended(self.call("export", self.write(b"script", text), self.tree), 0)
         return {path: kept.body for path, kept in files_of(self.tree).items()}
 
     def test_forms_of_lines(self) -> None:
@@ -179,9 +167,7 @@ class Lines(TreeTest):
     def test_several_scripts_of_one_folder(self) -> None:
         one = self.write(b"1", b"folder i\nfile i new u 0 1\n")
         two = self.write(b"2", b"folder i\nfile i cur u:2,S 0 2\n")
-        run = self.call("export", one, two, self.tree)
-        self.assertEqual(run.status, 0)
-        self.assertIn("wrote 2 files of 2 bytes to 1 folder, 1 of them new", run.err)
+        self.assert_ended(self.call("export", one, two, self.tree), 0, "wrote 2 files of 2 bytes to 1 folder, 1 of them new")
         self.assertEqual(set(files_of(self.tree)), {b".i/new/u", b".i/cur/u:2,S"})
 
     def test_modes(self) -> None:
@@ -253,10 +239,8 @@ class Existing(TreeTest):
     def test_a_second_export_changes_nothing(self) -> None:
         self.assertEqual(self.call("export", self.script, self.tree).status, 0)
         before = everything_in(self.tree)
-        run = self.call("export", self.script, self.tree)
-        self.assertEqual(run.status, 1)
-        self.assertIn("wrote 0 files of 0 bytes to 1 folder, 0 of them new", run.err)
-        self.assertIn("left out 3: 3 since it is there already", run.err)
+        said = "wrote 0 files of 0 bytes to 1 folder, 0 of them new", "left out 3: 3 since it is there already"
+        self.assert_ended(self.call("export", self.script, self.tree), 1, *said)
         self.assertEqual(everything_in(self.tree), before)
 
     def test_what_is_at_a_place_stays(self) -> None:
@@ -265,11 +249,8 @@ class Existing(TreeTest):
         os.symlink("/nowhere", os.path.join(self.tree, b"cur/2:2,S"))
         os.mkdir(os.path.join(self.tree, b"tmp/3"))
         before = everything_in(self.tree)
-        run = self.call("export", self.script, self.tree)
-        self.assertEqual(run.status, 1)
-        self.assertIn("left out 3: 3 since it is there already", run.err)
-        for path in (b"new/1", b"cur/2:2,S", b"tmp/3"):
-            self.assertIn(f"/{path.decode()}: it is there already", run.err)
+        said = [f"/{path}: it is there already" for path in ("new/1", "cur/2:2,S", "tmp/3")]
+        self.assert_ended(self.call("export", self.script, self.tree), 1, "left out 3: 3 since it is there already", *said)
         self.assertEqual(everything_in(self.tree), before)
 
     def test_a_file_that_comes_at_the_last_moment_stays(self) -> None:
@@ -309,11 +290,9 @@ class Existing(TreeTest):
             b"folder linked\nfolder :plain:x\nfolder half\nfolder file\nfile linked new 1 0 x\n"
             b"file :plain:x new 2 0 x\nfile half new 3 0 x\nfile file new 4 0 x\n",
         )
-        run = self.call("export", script, self.tree)
-        self.assertEqual(run.status, 1)
-        self.assertIn("left out 8: 8 since its folder can't be opened or made", run.err)
+        self.assert_ended(self.call("export", script, self.tree), 1, "left out 8: 8 since its folder can't be opened or made")
         self.assertEqual(everything_in(outside), before)
-        self.assertEqual(self.run_tool("export", "--dry-run", script, self.tree).status, 1)
+        self.assert_ended(self.run_tool("export", "--dry-run", script, self.tree), 1)
 
     def test_a_dry_run_changes_nothing(self) -> None:
         run = self.run_tool("export", "--dry-run", self.script, self.tree)
@@ -332,30 +311,19 @@ class Existing(TreeTest):
 
     def test_a_time_that_the_file_system_cannot_keep_is_reported(self) -> None:
         script = self.write(b"script", b"folder i\nfile i new u 18446744073709551615 x\n")
-        run = self.call("export", script, self.tree)
-        self.assertEqual(run.status, 1)
-        self.assertIn("changed 1: 1 since the file system keeps another time for it", run.err)
+        self.assert_ended(self.call("export", script, self.tree), 1, "changed 1: 1 since the file system keeps another time for it")
         self.assertEqual(files_of(self.tree)[b".i/new/u"].body, b"x")
 
     def test_directories_that_may_not_be_written(self) -> None:
         self.make()
         for place in (b"new", b"tmp"):
             os.chmod(os.path.join(self.tree, place), 0o555)
-        os.chmod(os.path.join(self.tree, b"cur"), 0o000)
         os.chmod(self.scratch, 0o777)
-
-        def task() -> Run:
-            become_nobody()
-            return self.call("export", self.script, self.tree)
-
-        run = in_child(task)
-        os.chmod(os.path.join(self.tree, b"cur"), 0o755)
-        self.assertEqual(run.status, 1)
-        self.assertIn("its folder can't be opened or made: Permission denied", run.err)
-        os.chmod(os.path.join(self.tree, b"cur"), 0o555)
-        run = in_child(task)
-        self.assertEqual(run.status, 1)
-        self.assertIn("left out 3: 3 since it can't be written", run.err)
+        for mode, said in ((0o000, "its folder can't be opened or made: Permission denied"), (0o555, "left out 3: 3 since it can't be written")):
+            os.chmod(os.path.join(self.tree, b"cur"), mode)
+            run = self.call_in_child(become_nobody, "export", self.script, self.tree)
+            os.chmod(os.path.join(self.tree, b"cur"), 0o755)
+            self.assert_ended(run, 1, said)
         self.assertEqual(files_of(self.tree), {})
 
 
@@ -418,8 +386,7 @@ class NothingHalfDone(EachMoment, TreeTest):
             with mock.patch.object(os, "write", short):
                 run, _ = self.run_again(-1, str)
             with self.subTest(room=room):
-                self.assertEqual(run.status, 1)
-                self.assertIn("maildir: stopped: No space left on device; ", run.err)
+                self.assert_ended(run, 1, "maildir: stopped: No space left on device; ")
                 self.assertEqual(run.err.count("it can't be written"), 2)
                 for path, kept in files_of(self.tree).items():
                     self.assertEqual(kept, (self.files[path], 77))
@@ -427,34 +394,18 @@ class NothingHalfDone(EachMoment, TreeTest):
     def test_files_over_a_limit(self) -> None:
         text = b"folder i\nfile i new 1 0 xx\nfile i new 2 0 %b\nfile i new 3 0 yy\n" % (b"z" * 5000)
         script = self.write(b"script", text)
-
-        def task() -> Run:
-            resource.setrlimit(resource.RLIMIT_FSIZE, (1000, 1000))
-            return self.call("export", script, self.tree)
-
-        run = in_child(task)
-        self.assertEqual(run.status, 1)
-        self.assertIn("/.i/new/2: it can't be written: File too large", run.err)
+        run = self.call_in_child(lambda: resource.setrlimit(resource.RLIMIT_FSIZE, (1000, 1000)), "export", script, self.tree)
+        self.assert_ended(run, 1, "/.i/new/2: it can't be written: File too large")
         self.assertEqual(set(files_of(self.tree)), {b".i/new/1", b".i/new/3"})
 
     def test_a_file_system_without_second_names(self) -> None:
-        def refuse(*words: object, **more: object) -> None:
-            raise OSError(errno.EPERM, os.strerror(errno.EPERM))
-
-        with mock.patch.object(os, "link", refuse):
+        with mock.patch.object(os, "link", side_effect=OSError(errno.EPERM, os.strerror(errno.EPERM))):
             self.assertEqual(self.call("export", self.script, self.tree).status, 0)
             self.assertEqual({p: k.body for p, k in files_of(self.tree).items()}, self.files)
             shutil.rmtree(self.tree)
             self.make()
-            present = mock.patch("maildir_lib.open_maildir.OpenMaildir.has", lambda *_: False)
             self.put(b"new/0-INBOX", b"mine")
-            with present:
-                run = self.call("export", self.script, self.tree)
-        self.assertEqual(run.status, 1)
-        self.assertIn("/new/0-INBOX: it is there already", run.err)
+            with mock.patch("maildir_lib.open_maildir.OpenMaildir.has", lambda *_: False):
+                self.assert_ended(self.call("export", self.script, self.tree), 1, "/new/0-INBOX: it is there already")
         self.assertEqual(read(os.path.join(self.tree, b"new/0-INBOX")), b"mine")
         self.assertEqual(os.listdir(os.path.join(self.tree, b"tmp")), [b"2-INBOX"])
-
-
-if __name__ == "__main__":
-    unittest.main()

@@ -12,12 +12,11 @@ import stat
 import subprocess
 import sys
 import time
-import unittest
 from typing import Callable
 from unittest import mock
 
 from support import TOOL, EachMoment, Limits, Run, TreeTest
-from support import before_call, become_nobody, everything_in, fail, files_of, in_child, read, read_terminal
+from support import before_call, become_nobody, everything_in, fail, files_of, read, read_terminal
 
 from maildir_lib import message, tree
 from maildir_lib.report import Reason
@@ -36,10 +35,8 @@ class LeftOut(TreeTest):
     def check(self, path: bytes, reason: str) -> None:
         """Imports, and asks for that one path to be left out, and for what is kept."""
         run, scripts = self.import_into()
-        self.assertEqual(run.status, 1)
         shown = os.fsdecode(os.path.join(self.tree, path)).replace("\n", "\\n").replace("\r", "\\r")
-        self.assertIn(f"maildir: left out: {shown}: {reason}", run.err)
-        self.assertIn(f"maildir: left out 1: 1 since {reason}", run.err)
+        self.assert_ended(run, 1, f"maildir: left out: {shown}: {reason}", f"maildir: left out 1: 1 since {reason}")
         self.assertEqual(scripts[0].split(b"\n")[2:], [b"file INBOX cur kept:2,S 1000 kept", b""])
 
     def test_names(self) -> None:
@@ -107,22 +104,19 @@ class LeftOut(TreeTest):
         self.check(b".half", "it lacks one of tmp, new and cur")
 
     def test_a_body_larger_than_a_script(self) -> None:
-        limits = Limits(400, 64)
         self.put(b"cur/large", b"x" * 400)
         self.put(b"cur/lines", b"\n" * 200)
-        run, scripts = self.import_into(limits)
-        self.assertEqual((run.status, len(scripts)), (1, 1))
-        self.assertIn("left out 2: 2 since it is larger than a script may be", run.err)
-        self.assertEqual(scripts[0].split(b"\n")[2:], [b"file INBOX cur kept:2,S 1000 kept", b""])
+        run, (script,) = self.import_into(Limits(400, 64))
+        self.assert_ended(run, 1, "left out 2: 2 since it is larger than a script may be")
+        self.assertEqual(script.split(b"\n")[2:], [b"file INBOX cur kept:2,S 1000 kept", b""])
 
     def test_a_time_before_1970_is_given_as_0_and_reported(self) -> None:
         path = self.put(b"new/old")
         for nanoseconds in (-1, -5_000_000_000):
             os.utime(path, ns=(0, nanoseconds))
-            run, scripts = self.import_into()
-            self.assertEqual(run.status, 1)
-            self.assertIn("changed 1: 1 since its time is before 1970", run.err)
-            self.assertIn(b"\nfile INBOX new old 0 \n", scripts[0])
+            run, (script,) = self.import_into()
+            self.assert_ended(run, 1, "changed 1: 1 since its time is before 1970")
+            self.assertIn(b"\nfile INBOX new old 0 \n", script)
 
     def test_control_characters_of_a_name_reach_no_terminal(self) -> None:
         self.put(b"cur/\x1b[31m \xff\\")
@@ -140,6 +134,13 @@ class ChangesMeanwhile(TreeTest):
         self.victim = self.put(b"cur/2", b"x" * 100)
         self.put(b"cur/3", b"three")
 
+    def import_without_victim(self) -> Run:
+        """Imports all but the second message."""
+        run, (script,) = self.import_into()
+        self.assertEqual(script.split(b"\n")[2:], [b"file INBOX cur 1 1000 one", b"file INBOX cur 3 1000 three", b""])
+        self.assertEqual(run.status, 1)
+        return run
+
     def import_after(self, change: Callable[[], object]) -> Run:
         """Imports, with a change made right before the second message is opened."""
         opened = message.opened
@@ -150,11 +151,7 @@ class ChangesMeanwhile(TreeTest):
             return opened(path)
 
         with mock.patch("maildir_lib.parts.opened", changed):
-            run, scripts = self.import_into()
-        lines = scripts[0].split(b"\n")[2:]
-        self.assertEqual(lines, [b"file INBOX cur 1 1000 one", b"file INBOX cur 3 1000 three", b""])
-        self.assertEqual(run.status, 1)
-        return run
+            return self.import_without_victim()
 
     def test_a_file_that_went(self) -> None:
         run = self.import_after(lambda: os.unlink(self.victim))
@@ -188,9 +185,9 @@ class ChangesMeanwhile(TreeTest):
                     os.rename(new, os.path.join(self.tree, b"cur/u:2,S"))
 
         with mock.patch("maildir_lib.import_tree.list_files", moved):
-            run, scripts = self.import_into()
-        self.assertEqual((run.status, len(scripts)), (1, 1))
-        self.assertEqual(scripts[0].split(b"\n")[2:], [b"file INBOX cur u:2,S 1000 moving", b""])
+            run, (script,) = self.import_into()
+        self.assert_ended(run, 1)
+        self.assertEqual(script.split(b"\n")[2:], [b"file INBOX cur u:2,S 1000 moving", b""])
 
     def test_a_read_that_fails_midway_leaves_no_half_line(self) -> None:
         whole = os.read
@@ -205,9 +202,7 @@ class ChangesMeanwhile(TreeTest):
 
         # The first message takes two reads: its bytes, and its end.
         with mock.patch.object(message, "_PIECE_BYTES", 10), mock.patch.object(os, "read", failing):
-            run, scripts = self.import_into()
-        lines = scripts[0].split(b"\n")[2:]
-        self.assertEqual(lines, [b"file INBOX cur 1 1000 one", b"file INBOX cur 3 1000 three", b""])
+            run = self.import_without_victim()
         self.assertIn("/cur/2: it can't be read: Input/output error", run.err)
 
     def test_a_file_that_grows_is_taken_up_to_its_end(self) -> None:
@@ -221,10 +216,10 @@ class ChangesMeanwhile(TreeTest):
             return context
 
         with mock.patch("maildir_lib.parts.opened", grown):
-            run, scripts = self.import_into()
-        self.assertEqual(run.status, 0)
-        self.assertIn(b"\nfile INBOX cur 2 ", scripts[0])
-        self.assertIn(b"x" * 100 + b"y" * 100 + b"\n", scripts[0])
+            run, (script,) = self.import_into()
+        self.assert_ended(run, 0)
+        self.assertIn(b"\nfile INBOX cur 2 ", script)
+        self.assertIn(b"x" * 100 + b"y" * 100 + b"\n", script)
 
 
 class Unreadable(TreeTest):
@@ -238,17 +233,11 @@ class Unreadable(TreeTest):
         os.chmod(self.scratch, 0o777)
 
     def import_as_nobody(self) -> Run:
-        def task() -> Run:
-            become_nobody()
-            return self.call("import", "-o", self.path(b"script"), self.tree)
-
-        return in_child(task)
+        return self.call_in_child(become_nobody, "import", "-o", self.path(b"script"), self.tree)
 
     def test_a_file(self) -> None:
         os.chmod(self.put(b"cur/2", b"secret"), 0)
-        run = self.import_as_nobody()
-        self.assertEqual(run.status, 1)
-        self.assertIn("/cur/2: it can't be read: Permission denied", run.err)
+        self.assert_ended(self.import_as_nobody(), 1, "/cur/2: it can't be read: Permission denied")
         self.assertIn(b"file INBOX cur 1 1000 one", read(self.path(b"script")))
 
     def test_directories(self) -> None:
@@ -257,9 +246,7 @@ class Unreadable(TreeTest):
                 os.chmod(os.path.join(self.tree, path), 0)
                 run = self.import_as_nobody()
                 os.chmod(os.path.join(self.tree, path), 0o755)
-                self.assertEqual(run.status, 1)
-                self.assertIn("left out", run.err)
-                self.assertIn("it can't be read: Permission denied", run.err)
+                self.assert_ended(run, 1, "left out", "it can't be read: Permission denied")
 
     def test_the_tree(self) -> None:
         os.chmod(self.tree, 0)
@@ -354,9 +341,8 @@ class Splits(TreeTest):
         self.assertEqual(len(script), whole)
         self.assertEqual(len(self.parts(Limits(whole - 1, 64))), 2)
         self.assertEqual(len(self.parts(Limits(whole - line, 64))), 2)
-        run, scripts = self.import_into(Limits(whole - line - 1, 64))
-        self.assertEqual((run.status, len(scripts)), (1, 1))
-        self.assertIn("left out 2: 2 since it is larger than a script may be", run.err)
+        run, (_,) = self.import_into(Limits(whole - line - 1, 64))
+        self.assert_ended(run, 1, "left out 2: 2 since it is larger than a script may be")
 
     def test_many_parts_by_bytes(self) -> None:
         self.make()
@@ -418,8 +404,7 @@ class Splits(TreeTest):
             (Limits(10_000, 1), "a script has at most 1 folders"),
         ):
             run = self.call("import", "-o", script, self.tree, limits=limits)
-            self.assertEqual(run.status, 2)
-            self.assertIn(f"one script can't hold this tree: {why}; --into DIR", run.err)
+            self.assert_ended(run, 2, f"one script can't hold this tree: {why}; --into DIR")
         os.rename(os.path.join(self.tree, b".Sent/cur/v"), os.path.join(self.tree, b".Sent/cur/u"))
         run = self.run_tool("import", self.tree)
         self.assertEqual((run.status, run.out), (2, b""))
@@ -451,17 +436,14 @@ class Outputs(TreeTest):
 
     def test_what_is_no_file_is_not_replaced(self) -> None:
         for path in (b"/dev/null", self.tree, self.path(b"no", b"such")):
-            run = self.call("import", "-o", path, self.tree)
-            self.assertEqual(run.status, 2, path)
+            self.assert_ended(self.call("import", "-o", path, self.tree), 2)
         self.assertFalse(os.path.isfile("/dev/null"))
 
     def test_a_directory_with_scripts_is_refused(self) -> None:
         directory = self.path(b"into")
         self.assertEqual(self.call("import", "--into", directory, self.tree).status, 0)
         before = everything_in(directory)
-        run = self.call("import", "--into", directory, self.tree)
-        self.assertEqual(run.status, 2)
-        self.assertIn("has 001.script already", run.err)
+        self.assert_ended(self.call("import", "--into", directory, self.tree), 2, "has 001.script already")
         self.assertEqual(everything_in(directory), before)
 
     def test_other_refusals(self) -> None:
@@ -585,21 +567,16 @@ class NothingHalfDone(EachMoment, TreeTest):
         size = max(map(len, self.whole.values()))
         for limit in (0, 1, HEAD, 500, size - 1):
             for words in (("--into", self.made), ("-o", self.path(b"script"))):
-
-                def task() -> Run:
-                    resource.setrlimit(resource.RLIMIT_FSIZE, (limit, limit))
-                    return self.call("import", *words, self.tree, limits=limits)
-
                 limits = self.limits if words[0] == "--into" else Limits(10_000, 64)
                 if words[0] == "-o":
                     self.write(b"script", b"old")
                     os.rename(os.path.join(self.tree, b".Sent"), self.path(b"Sent"))
                 shutil.rmtree(self.made)
                 os.mkdir(self.made)
-                run = in_child(task)
+                run = self.call_in_child(lambda: resource.setrlimit(resource.RLIMIT_FSIZE, (limit, limit)),
+                                         "import", *words, self.tree, limits=limits)
                 with self.subTest(limit=limit, words=words):
-                    self.assertEqual(run.status, 2)
-                    self.assertIn("can't be written: File too large", run.err)
+                    self.assert_ended(run, 2, "can't be written: File too large")
                     self.assertEqual(os.listdir(self.made), [])
                 if words[0] == "-o":
                     self.assertEqual(read(self.path(b"script")), b"old")
@@ -669,7 +646,3 @@ class ProgressLine(TreeTest):
             shown = read_terminal(ours)
         self.assertEqual(process.returncode, 0)
         return shown
-
-
-if __name__ == "__main__":
-    unittest.main()

@@ -5,7 +5,7 @@ from __future__ import annotations
 import random
 import unittest
 
-import support  # noqa: F401
+import shared  # noqa: F401
 from maildir_lib.folder_names import NoDirectory, directory_of, folder_name
 
 # A directory, by its steps from the tree, and the name of its folder.
@@ -93,7 +93,3 @@ def random_steps(chance: random.Random) -> tuple[bytes, ...]:
         step = step.replace(b"/", b"x")
         steps.append(b"x" + step if step in (b".", b"..") else step)
     return tuple(steps)
-
-
-if __name__ == "__main__":
-    unittest.main()

@@ -241,7 +241,3 @@ class Readers(TreeTest):
         self.assertEqual(len(lines), 15)
         self.assertTrue(any("2001-09-09" in line and "\\Answered" in line for line in lines))
         return sorted(lines)
-
-
-if __name__ == "__main__":
-    unittest.main()

@@ -3,16 +3,15 @@
 import re
 import subprocess
 import unittest
-from pathlib import Path
 
-TOP = Path(__file__).resolve().parent.parent.parent
-TOOL = TOP / "tools/needed-definitions"
+from shared import TOOLS, TOP
+
 THEOREM = "crates/md_core/specs/Interleaving.antt"
 
 
 class NeededDefinitions(unittest.TestCase):
     def run_tool(self, *words: str) -> subprocess.CompletedProcess[str]:
-        return subprocess.run([TOOL, *words], cwd=TOP, capture_output=True, text=True)
+        return subprocess.run([TOOLS / "needed-definitions", *words], cwd=TOP, capture_output=True, text=True)
 
     def test_the_page_of_the_theorem_says_how_much_there_is_to_read(self) -> None:
         *files, sums = self.run_tool(THEOREM).stdout.splitlines()
@@ -25,7 +24,3 @@ class NeededDefinitions(unittest.TestCase):
 
     def test_a_file_that_is_not_there_is_a_usage_error(self) -> None:
         self.assertEqual(self.run_tool("no-file").returncode, 64)
-
-
-if __name__ == "__main__":
-    unittest.main()

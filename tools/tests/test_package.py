@@ -2,28 +2,23 @@
 
 from __future__ import annotations
 
-import sys
-import tempfile
 import unittest
-from pathlib import Path
 from unittest import mock
 
-sys.path.insert(0, str(Path(__file__).resolve().parent.parent))
+from shared import RoomTest
 
+from judge_lib.refused import Refused
 from package_lib import contents, debian, tree
 from package_lib.contents import Entry
-from judge_lib.refused import Refused
 
 
-class TreeTest(unittest.TestCase):
+class TreeTest(RoomTest):
     def setUp(self) -> None:
-        folder = tempfile.TemporaryDirectory()
-        self.addCleanup(folder.cleanup)
-        self.top = Path(folder.name)
-        (self.top / "crates/out").mkdir(parents=True)
+        super().setUp()
+        (self.room / "crates/out").mkdir(parents=True)
         for name in ("a", "crates/b c", "crates/out/made"):
-            (self.top / name).write_text(name)
-        for name, value in {"TOP": self.top, "PASSED": self.top / "out/passed-tree", "BUILT": ("crates/out/made",),
+            (self.room / name).write_text(name)
+        for name, value in {"TOP": self.room, "PASSED": self.room / "out/passed-tree", "BUILT": ("crates/out/made",),
                             "prover": lambda: "kit 1"}.items():
             put = mock.patch.object(tree, name, value)
             put.start()
@@ -43,24 +38,24 @@ class TreeTest(unittest.TestCase):
         self.passes()
         prover, first = tree.passed()
         self.assertEqual("kit 1", prover)
-        (self.top / "crates/out/other").write_text("anew")
+        (self.room / "crates/out/other").write_text("anew")
         self.assertEqual(("kit 1", first), tree.passed())
 
     def test_programs_that_the_gate_has_not_built(self) -> None:
         self.passes()
-        (self.top / "crates/out/made").write_text("anew")
+        (self.room / "crates/out/made").write_text("anew")
         self.assert_refused("the programs are not those that the gate has built")
 
     def test_a_tree_that_has_changed_since(self) -> None:
         self.passes()
-        (self.top / "crates/b c").write_text("else")
+        (self.room / "crates/b c").write_text("else")
         self.assert_refused("crates/b c has changed since the gate passed")
-        (self.top / "crates/b c").unlink()
+        (self.room / "crates/b c").unlink()
         self.assert_refused("crates/b c is gone since")
-        (self.top / "crates/b c").write_text("crates/b c")
-        (self.top / "new").write_text("")
+        (self.room / "crates/b c").write_text("crates/b c")
+        (self.room / "new").write_text("")
         self.assert_refused("new is new since")
-        (self.top / "new").unlink()
+        (self.room / "new").unlink()
         tree.passed()
 
 
@@ -93,7 +88,3 @@ class ContentsTest(unittest.TestCase):
     def test_what_is_not_built_is_said(self) -> None:
         with self.assertRaisesRegex(Refused, "crates/x/out/x is not there: run .ci/run"):
             contents._read(contents.TOP / "crates/x/out/x")
-
-
-if __name__ == "__main__":
-    unittest.main()

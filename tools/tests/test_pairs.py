@@ -5,27 +5,17 @@ programs that it plays by must be built."""
 
 from __future__ import annotations
 
-import os
-import sys
 import unittest
 from itertools import product
-from pathlib import Path
 from typing import Dict, FrozenSet, Iterator, List, NamedTuple, Optional, Tuple
 
-sys.dont_write_bytecode = True
+from shared import BUILT, CLI, DEOLMUTT
 
-TOOLS = Path(__file__).resolve().parent.parent
-sys.path.insert(0, str(TOOLS))
+from races_lib.play import Played, Programs, Row, Step, play_whole
+from races_lib.scene import Scene, read_line
+from races_lib.tree import actors_of, interleavings
 
-from races_lib.command import options  # noqa: E402
-from races_lib.play import Played, Programs, Row, Step, play_whole  # noqa: E402
-from races_lib.scene import Scene, read_line  # noqa: E402
-from races_lib.tree import actors_of, interleavings  # noqa: E402
-
-CHOSEN = options().parse_args([])
-PROGRAMS = Programs(Path(os.environ.get("DEOLMUTT", CHOSEN.deolmutt)), Path(os.environ.get("MAILDIR_CLI", CHOSEN.cli)))
-BUILT = all(os.access(program, os.X_OK) for program in (PROGRAMS.deolmutt, PROGRAMS.cli))
-
+PROGRAMS = Programs(DEOLMUTT, CLI)
 UNIQUE = "u"
 # The fresh names, of the copy of each job.
 FRESH = ("v", "w")
@@ -77,10 +67,10 @@ def alone(kind: str, mailbox: Mailbox, fresh: str) -> Tuple[str, Mailbox]:
         return "otherinfo", mailbox
     if kind == "copy":
         return "copied", {**mailbox, fresh: message._replace(folder="j")}
-    return flagged(kind, mailbox, message, flags)
+    return flagged(kind, mailbox, flags)
 
 
-def flagged(kind: str, mailbox: Mailbox, message: Message, flags: FrozenSet[str]) -> Tuple[str, Mailbox]:
+def flagged(kind: str, mailbox: Mailbox, flags: FrozenSet[str]) -> Tuple[str, Mailbox]:
     """The same of a Seen or a Flag. A Flag that changes no flag leaves the name as it is."""
     wanted = flags | {"F"} if kind == "seen" else (flags | {"R"}) - {"F", "S"}
     letters = "".join(sorted(wanted))
@@ -177,8 +167,8 @@ class Watching(unittest.TestCase):
     BEFORE = ((b"i", b"cur", b"u:2,S", b"0", b"0"),)
     AFTER = ((b"i", b"cur", b"u:2,R", b"0", b"0"),)
 
-    def wrong(self, steps: List[Step], tries: int = 2) -> List[str]:
-        return list(wrongs(("flag", "expunge"), tries, Played(self.BEFORE, steps)))
+    def wrong(self, steps: List[Step]) -> List[str]:
+        return list(wrongs(("flag", "expunge"), 2, Played(self.BEFORE, steps)))
 
     def test_a_lawful_order_passes(self) -> None:
         flag = Step(0, "rename", "ok", effect="rename", answer="flags R", rows=self.AFTER)
@@ -198,7 +188,3 @@ class Watching(unittest.TestCase):
 
     def test_a_job_without_an_answer_is_told(self) -> None:
         self.assertEqual(self.wrong([]), ["a job has no answer"])
-
-
-if __name__ == "__main__":
-    unittest.main()

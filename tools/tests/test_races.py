@@ -8,29 +8,22 @@ import os
 import re
 import shutil
 import subprocess
-import sys
 import tempfile
 import unittest
 from pathlib import Path
 
-TOOLS = Path(__file__).resolve().parent.parent
-sys.path.insert(0, str(TOOLS))
+from shared import BUILT, CLI, DEOLMUTT, TOOLS, RoomTest
 
-from judge_lib.judge_run import judge, deolmutt  # noqa: E402
-from judge_lib.refused import Refused  # noqa: E402
-from races_lib import command, kept, losses, page, record, scene, side, words  # noqa: E402
-from races_lib.count import count  # noqa: E402
-from races_lib.marks import marks_of  # noqa: E402
-from races_lib.races import RACES  # noqa: E402
-from races_lib.play import Played, Programs, Step, play, play_whole, run  # noqa: E402
-from races_lib.tree import actors_of, interleavings  # noqa: E402
+from judge_lib.judge_run import judge, deolmutt
+from judge_lib.refused import Refused
+from races_lib import command, kept, losses, page, record, scene, side, words
+from races_lib.count import count
+from races_lib.marks import marks_of
+from races_lib.races import RACES
+from races_lib.play import Played, Programs, Step, play, play_whole, run
+from races_lib.tree import actors_of, interleavings
 
-CHOSEN = command.options().parse_args([])
-DEOLMUTT = Path(os.environ.get("DEOLMUTT", CHOSEN.deolmutt))
-CLI = Path(os.environ.get("MAILDIR_CLI", CHOSEN.cli))
 PROGRAMS = Programs(DEOLMUTT, CLI)
-BUILT = all(os.access(program, os.X_OK) for program in (DEOLMUTT, CLI))
-
 TWO_CLEANS = b"folder i\njob clean i\njob clean i\nfinish 1 1\nfinish 2 1\n"
 EXAMPLES = [file for file in sorted(command.EXAMPLES.glob("*.script")) if 1 < len(re.findall("^(?:job|first) ", file.read_text(), re.M)) <= 3]
 # Three that look for one message: the copy looks in two places.
@@ -39,17 +32,12 @@ THREE += b"finish 1 1\nfinish 2 1\nfinish 3 1\n"
 TWO_FLAGS = b"folder i\nfile i cur u 0 x\njob flag i u S - 2\njob flag i u F - 2\nfinish 1 1\nfinish 2 1\n"
 
 
-class ScratchTest(unittest.TestCase):
-    """A test with a scratch folder."""
-
-    def setUp(self) -> None:
-        scratch = tempfile.TemporaryDirectory()
-        self.addCleanup(scratch.cleanup)
-        self.folder = Path(scratch.name)
+class ScriptTest(RoomTest):
+    """A test with scripts in its folder."""
 
     def script(self, text: bytes) -> Path:
         """A script of this text."""
-        file = self.folder / "race.script"
+        file = self.room / "race.script"
         file.write_bytes(text)
         return file
 
@@ -59,7 +47,7 @@ class ScratchTest(unittest.TestCase):
         return subprocess.run([str(word) for word in line], capture_output=True, text=True, check=False)
 
 
-class Scenes(ScratchTest):
+class Scenes(ScriptTest):
     """What a script says by itself."""
 
     def refusal(self, text: bytes) -> str:
@@ -91,7 +79,7 @@ class Scenes(ScratchTest):
 
     def test_a_file_that_is_not_there_is_refused(self) -> None:
         with self.assertRaises(Refused):
-            scene.read_scene(self.folder / "none")
+            scene.read_scene(self.room / "none")
 
 
 def has_judge() -> bool:
@@ -103,11 +91,11 @@ def has_judge() -> bool:
 
 
 @unittest.skipUnless(has_judge() and shutil.which("strace"), "deolmutt is not built, or strace is not there")
-class Explored(ScratchTest):
+class Explored(ScriptTest):
     """A page of two commands of any programs."""
 
     def test_two_commands_make_a_page(self) -> None:
-        setup, out = "mkdir -p box/tmp box/new box/cur; echo > 'box/new/<b>'", self.folder / "out.html"
+        setup, out = "mkdir -p box/tmp box/new box/cur; echo > 'box/new/<b>'", self.room / "out.html"
         move = "mv 'box/new/<b>' 'box/cur/<b>:2,%s'"
         done = self.races("--explore", setup, move % "F", move % "R", "--claims", "A: flags box <b> +F", "-o", out)
         self.assertEqual(done.returncode, 0, done.stderr)
@@ -118,7 +106,7 @@ class Explored(ScratchTest):
         self.assertIn("ended with status 1", shown["orders"][0][2])
 
     def test_what_cannot_be_run_is_refused(self) -> None:
-        done = self.races("--explore", "mkdir -p box/tmp box/new box/cur", "no-such-program", "true", "-o", self.folder / "out.html")
+        done = self.races("--explore", "mkdir -p box/tmp box/new box/cur", "no-such-program", "true", "-o", self.room / "out.html")
         self.assertEqual(done.returncode, 1)
         self.assertIn("races: ", done.stderr)
 
@@ -291,7 +279,7 @@ file box/tmp/1795880646.M1P2Q3.vm 1795880646
             command.check({command.PAGE: "another"})
 
 
-class Marks(ScratchTest):
+class Marks(ScriptTest):
     """What a step is to the theorem.."""
 
     SCRIPT = b"folder i\njob deliver i u 9 x\njob clean i\njob flag i v S - 2\nfinish 1 1\nfinish 2 1\nfinish 3 1\n"
@@ -324,12 +312,12 @@ class Marks(ScratchTest):
 
 
 @unittest.skipUnless(BUILT, "deolmutt and maildir_cli are not built")
-class Pages(ScratchTest):
+class Pages(ScriptTest):
     """What the tool makes of scripts, by the programs."""
 
     def data(self, text: bytes, *words: str) -> tuple[str, dict]:
         """The page of a script, and the scene that it holds."""
-        out = self.folder / "out.html"
+        out = self.room / "out.html"
         done = self.races(self.script(text), "-o", out, *words)
         self.assertEqual(done.returncode, 0, done.stderr)
         page = out.read_text(encoding="utf-8")
@@ -357,7 +345,7 @@ class Pages(ScratchTest):
         self.assertEqual(steps, [f"{words[0]} {words[1]} {words[-1]}" for words in told if words[1] in ("list", "rename")])
 
     def test_more_than_the_bound_is_said(self) -> None:
-        out = self.folder / "out.html"
+        out = self.room / "out.html"
         done = self.races(self.script(TWO_FLAGS), "-o", out, "--most", "3")
         self.assertEqual(done.returncode, 0)
         self.assertIn("took 3 interleavings of 6", done.stderr)
@@ -392,19 +380,14 @@ class Pages(ScratchTest):
         found, has_more = self.all_of(text, 1)
         self.assertEqual((has_more, count(PROGRAMS, race, found)), (True, (math.comb(18, 9), True)))
 
-    def test_a_refused_line_is_named(self) -> None:
-        done = self.races(self.script(TWO_FLAGS + b"list j\n"), "-o", self.folder / "out.html")
-        self.assertEqual((done.returncode, done.stdout), (1, ""))
-        self.assertIn("line 7: unknown folder", done.stderr)
-
-    def test_a_line_without_its_words_is_named(self) -> None:
-        done = self.races(self.script(b"folder i\nstep\n"), "-o", self.folder / "out.html")
-        self.assertIn("line 2: bad command", done.stderr)
-
-    def test_one_job_is_no_race(self) -> None:
-        done = self.races(self.script(b"folder i\njob clean i\nfinish 1 1\n"), "-o", self.folder / "out.html")
-        self.assertEqual(done.returncode, 1)
-        self.assertIn("the script has 1", done.stderr)
+    def test_refused_scripts(self) -> None:
+        rows = {TWO_FLAGS + b"list j\n": "line 7: unknown folder", b"folder i\nstep\n": "line 2: bad command",
+                b"folder i\njob clean i\nfinish 1 1\n": "the script has 1"}
+        for text, why in rows.items():
+            with self.subTest(why):
+                done = self.races(self.script(text), "-o", self.room / "out.html")
+                self.assertEqual((done.returncode, done.stdout), (1, ""))
+                self.assertIn(why, done.stderr)
 
     def test_markup_in_names_is_text(self) -> None:
         name = b"<script>alert(1)<\\script>"
@@ -427,16 +410,16 @@ class Pages(ScratchTest):
         self.assertEqual(len(re.findall("<script", page)), 2)
         self.assertEqual(shown["actors"][0], ["A", "delivers u"])
         for named, why in ((b" u ", "bad unique"), (b"folder i", "bad folder")):
-            done = self.races(self.script(text.replace(named, named.replace(named.strip().split(b" ")[-1], element))), "-o", self.folder / "no.html")
-            self.assertEqual((done.returncode, done.stderr), (1, f"races: {self.folder}/race.script: line {1 + (named == b' u ')}: {why}\n"))
-            self.assertFalse((self.folder / "no.html").exists())
+            done = self.races(self.script(text.replace(named, named.replace(named.strip().split(b" ")[-1], element))), "-o", self.room / "no.html")
+            self.assertEqual((done.returncode, done.stderr), (1, f"races: {self.room}/race.script: line {1 + (named == b' u ')}: {why}\n"))
+            self.assertFalse((self.room / "no.html").exists())
 
     def test_a_files_name_is_text(self) -> None:
-        file = Path(os.fsdecode(bytes(self.folder) + b"/<b>\xff&.script"))
+        file = Path(os.fsdecode(bytes(self.room) + b"/<b>\xff&.script"))
         file.write_bytes(TWO_FLAGS)
-        done = self.races(file, "-o", self.folder / "out.html")
+        done = self.races(file, "-o", self.room / "out.html")
         self.assertEqual(done.returncode, 0, done.stderr)
-        page = (self.folder / "out.html").read_text(encoding="utf-8")
+        page = (self.room / "out.html").read_text(encoding="utf-8")
         self.assertNotIn("<b>", page)
         self.assertIn("<h2>&lt;b&gt;\\xff&amp;</h2>", page)
 
@@ -445,12 +428,6 @@ class Pages(ScratchTest):
         self.assertIn("\\xff\\xc3", json.dumps(shown, ensure_ascii=False).replace("\\\\", "\\"))
 
     def test_the_last_state_is_compared(self) -> None:
-        other = self.folder / "other"
-        other.write_text(f'#!/bin/sh\n"{CLI}" "$@" | sed "s/^cur u/cur v/"\n', encoding="utf-8")
-        other.chmod(0o755)
+        other = self.program("other", f'#!/bin/sh\n"{CLI}" "$@" | sed "s/^cur u/cur v/"\n')
         with self.assertRaisesRegex(Refused, "not what `maildir_cli play` lists"):
             play_whole(Programs(DEOLMUTT, other), scene.read_scene(self.script(TWO_FLAGS)))
-
-
-if __name__ == "__main__":
-    unittest.main()

@@ -13,16 +13,11 @@ import unittest
 from pathlib import Path
 from typing import Any
 
-sys.path.insert(0, str(Path(__file__).resolve().parent))
-sys.path.insert(0, str(Path(__file__).resolve().parent.parent))
+import browser
+from shared import BUILT, CLI, DEOLMUTT, TOP
 
-import browser  # noqa: E402
-
-TOP = Path(__file__).resolve().parents[2]
 PAGE = TOP / "docs/races.html"
 PICTURES = (TOP / "docs/delivery.svg", TOP / "docs/listing.svg")
-DEOLMUTT = Path(os.environ.get("DEOLMUTT", TOP / "crates/deolmutt/out/deolmutt"))
-CLI = Path(os.environ.get("MAILDIR_CLI", TOP / "crates/maildir_cli/out/maildir_cli"))
 ELEMENT = b"<script>alert(1)</script>"
 HOSTILE = b"# %s\nfolder <b>i\nfolder j\njob deliver <b>i <script>alert(1)<script> 99 %s\njob clean <b>i\nfinish 1 1\nfinish 2 1\n" % (ELEMENT, ELEMENT)
 LEFT, UP, RIGHT, DOWN, HOME, END, TAB, SPACE = "\ue012", "\ue013", "\ue014", "\ue015", "\ue011", "\ue010", "\ue004", " "
@@ -365,7 +360,7 @@ class Page(BrowserTest):
         asked = [one["params"]["request"]["url"] for one in sent if one["method"] == "Network.requestWillBeSent"]
         self.assertEqual([url.split("#")[0] for url in asked if not url.startswith("data:")], [PAGE.resolve().as_uri()])
 
-    @unittest.skipUnless(os.access(DEOLMUTT, os.X_OK) and os.access(CLI, os.X_OK), "deolmutt and maildir_cli are not built")
+    @unittest.skipUnless(BUILT, "deolmutt and maildir_cli are not built")
     def test_markup_in_a_script_does_nothing(self) -> None:
         with tempfile.TemporaryDirectory() as folder:
             script, page = Path(folder) / "<i>.script", Path(folder) / "out.html"
@@ -470,7 +465,3 @@ class Reach(unittest.TestCase):
             done = subprocess.run([sys.executable, "-c", tests], capture_output=True, text=True, check=False, **how)
         self.assertEqual(done.returncode, 0, done.stderr)
         self.assertIn(f"skipped '{browser.PACKAGES} are not there'", done.stderr)
-
-
-if __name__ == "__main__":
-    unittest.main()

@@ -3,12 +3,12 @@
 import re
 import unittest
 
-from judge_support import TOOLS
+from shared import TOP
 
 from judge_lib.grades import GRADES
 from judge_lib.scene import read_scenes
 
-DOCS = TOOLS.parent / "docs"
+DOCS = TOP / "docs"
 PAGES = {path.stem: path.read_text(encoding="utf-8") for path in sorted((DOCS / "reports").glob("*.md"))}
 INDEX = PAGES.pop("README")
 HEADS = [r"\*\*What was run\.\*\*", r"\*\*What the logs? shows?\.\*\*", r"\*\*The rule\.\*\*", r"\*\*What it costs a user\.\*\*",
@@ -40,7 +40,3 @@ class Reports(unittest.TestCase):
         table = (DOCS / "JUDGED.md").read_text(encoding="utf-8").partition("<!-- begin: ")[2].partition("<!-- end: ")[0]
         rows = "".join(part for part in table.split("### ") if part.startswith(("Lost", "Misled")))
         self.assertEqual(scenes_of(rows) - scenes_of(INDEX).union(*map(scenes_of, PAGES.values())), set())
-
-
-if __name__ == "__main__":
-    unittest.main()

@@ -4,9 +4,9 @@ from __future__ import annotations
 
 import re
 import unittest
-from pathlib import Path
 
-TOP = Path(__file__).resolve().parents[2]
+from shared import TOP
+
 MANIFESTS = ("plain/Cargo.toml", "rust/deolmutt/Cargo.toml", "rust/deolmutt-sys/Cargo.toml")
 # A comment and what it is the comment of, with attributes between.
 ITEM = re.compile(r"(?:^ *///[^\n]*\n)*(?:^ *#\[[^\n]*\n)*^ *pub (?:fn|struct|enum|trait|type) (?P<name>\w+)", re.MULTILINE)
@@ -26,7 +26,3 @@ class RustTest(unittest.TestCase):
             self.assertIn(dependencies[:1], ([], ["deolmutt-sys"]))
         for lock in ("plain/Cargo.lock", "rust/Cargo.lock"):
             self.assertNotIn("source =", (TOP / lock).read_text())
-
-
-if __name__ == "__main__":
-    unittest.main()

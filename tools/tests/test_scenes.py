@@ -5,12 +5,9 @@ import io
 import os
 import subprocess
 import sys
-import tempfile
-import unittest
-from pathlib import Path
 from unittest import mock
 
-from judge_support import TOOLS
+from shared import TOOLS, RoomTest
 
 from judge_lib import outcomes, results, scene, scenes_command, staging
 from judge_lib.claims import read_claim
@@ -48,12 +45,7 @@ status   B: 0 1
 """
 
 
-class Scenes(unittest.TestCase):
-    def setUp(self):
-        room = tempfile.TemporaryDirectory()
-        self.addCleanup(room.cleanup)
-        self.room = Path(room.name)
-
+class Scenes(RoomTest):
     def read(self, text):
         path = self.room / "one.scene"
         path.write_text(text)
@@ -171,9 +163,7 @@ class Scenes(unittest.TestCase):
 
     def test_judge(self):
         """The program is one that prints an object of JSON for each finding, and whose status is 0, 1 or 2."""
-        program = self.room / "judge"
-        program.write_text("#!/bin/sh\n[ \"$*\" = 'judge --json' ] || exit 9\nread first\n[ \"$first\" = log ] || { echo bad >&2; exit 2; }\necho '{\"line\":3,\"clause\":\"Gone\",\"grade\":\"owed\"}'\nexit 1\n")
-        program.chmod(0o755)
+        program = self.program("judge", "#!/bin/sh\n[ \"$*\" = 'judge --json' ] || exit 9\nread first\n[ \"$first\" = log ] || { echo bad >&2; exit 2; }\necho '{\"line\":3,\"clause\":\"Gone\",\"grade\":\"owed\"}'\nexit 1\n")
         with mock.patch.dict(os.environ, {"DEOLMUTT": str(program)}):
             self.assertEqual(judge(b"log\n"), [(3, "Gone", "owed")])
             with self.assertRaisesRegex(Refused, "status 2: bad"):
@@ -208,7 +198,3 @@ class Scenes(unittest.TestCase):
         self.assertEqual((run.returncode, run.stdout), (0, "mdeliver                   mdeliver delivers a message\n"))
         run = subprocess.run([sys.executable, TOOLS / "scenes", "--list", "none"], capture_output=True, text=True, check=False)
         self.assertEqual((run.returncode, run.stderr), (2, "scenes: there is no scene none; --list names them\n"))
-
-
-if __name__ == "__main__":
-    unittest.main()

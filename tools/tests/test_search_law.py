@@ -5,30 +5,23 @@ import io
 import os
 import re
 import subprocess
-import sys
-import tempfile
 import unittest
-from pathlib import Path as File
 
-sys.dont_write_bytecode = True
+from shared import DEOLMUTT, TOP, RoomTest
 
-TOOLS = File(__file__).resolve().parent.parent
-sys.path.insert(0, str(TOOLS))
+from judge_lib.names import Path
+from law_lib.histories import Between, List
+from law_lib.monitor import OWED
+from law_lib.owed_command import broken_in
+from search_lib import random_runs
+from search_lib.calls import Answer, Call
+from search_lib.command import main
+from search_lib.exhaustive import Bounds, search
+from search_lib.machines import After, Machines
+from search_lib.scenes import SCENES
+from search_lib.stories import Later, Own, Rules, Taken, new_story, take
+from search_lib.worlds import world_of
 
-from judge_lib.names import Path  # noqa: E402
-from law_lib.histories import Between, List  # noqa: E402
-from law_lib.monitor import OWED  # noqa: E402
-from law_lib.owed_command import broken_in  # noqa: E402
-from search_lib import random_runs  # noqa: E402
-from search_lib.calls import Answer, Call  # noqa: E402
-from search_lib.command import main  # noqa: E402
-from search_lib.exhaustive import Bounds, search  # noqa: E402
-from search_lib.machines import After, Machines  # noqa: E402
-from search_lib.scenes import SCENES  # noqa: E402
-from search_lib.stories import Later, Own, Rules, Taken, new_story, take  # noqa: E402
-from search_lib.worlds import world_of  # noqa: E402
-
-DEOLMUTT = File(os.environ.get("DEOLMUTT", TOOLS.parent / "crates/deolmutt/out/deolmutt"))
 LARGE = "deliverclean"
 ALONE = "its effect is not that of the call alone"
 BYTES = "a message that was delivered has other bytes than the body"
@@ -149,7 +142,7 @@ class CountsAll(Machines):
 
 class Played(unittest.TestCase):
     def test_the_machines_step_as_the_program_does(self) -> None:
-        scripts = sorted((TOOLS.parent / "crates/examples/data").glob("*.script"))
+        scripts = sorted((TOP / "crates/examples/data").glob("*.script"))
         self.assertGreater(len(scripts), 20)
         for script in scripts:
             lines = [line for line in script.with_suffix(".out").read_text().splitlines() if line[:1].isdigit()]
@@ -210,7 +203,7 @@ class Randomly(unittest.TestCase):
         self.assertLessEqual(len(lines), 5, ran.found[BYTES].decode())
 
 
-class Command(unittest.TestCase):
+class Command(RoomTest):
     def said(self, *words: str) -> tuple[int, str]:
         with contextlib.redirect_stdout(io.StringIO()) as printed:
             return main(words), printed.getvalue()
@@ -220,21 +213,20 @@ class Command(unittest.TestCase):
         self.assertEqual((status, said.splitlines()[1]), (0, "copymove: 30 states, 0 steps of others: nothing"))
 
     def test_it_prints_and_writes_the_smallest_log(self) -> None:
-        with tempfile.TemporaryDirectory() as room:
-            log = File(room, "log")
-            status, said = self.said("--without", "TwoNames", "--log", str(log), "expunge")
-            self.assertEqual((status, said[said.index("maildir_log") :]), (1, log.read_text()))
-            self.assertIn(f"# beside others that keep what they owe, but for TwoNames: {ALONE}\n", said)
-            with contextlib.redirect_stderr(io.StringIO()):
-                self.assertEqual(self.said("--without", "TwoNames", "--log", room, "expunge")[0], 2)
-                with self.assertRaises(SystemExit):
-                    main(["nowhere"])
+        log = self.room / "log"
+        status, said = self.said("--without", "TwoNames", "--log", str(log), "expunge")
+        self.assertEqual((status, said[said.index("maildir_log") :]), (1, log.read_text()))
+        self.assertIn(f"# beside others that keep what they owe, but for TwoNames: {ALONE}\n", said)
+        with contextlib.redirect_stderr(io.StringIO()):
+            self.assertEqual(self.said("--without", "TwoNames", "--log", str(self.room), "expunge")[0], 2)
+            with self.assertRaises(SystemExit):
+                main(["nowhere"])
 
     @unittest.skipUnless(os.access(DEOLMUTT, os.X_OK), "deolmutt is not built")
     def test_the_judge_reads_what_is_printed(self) -> None:
+        log = self.room / "log"
         for clause, scene in [("TwoNames", "expunge"), ("MovedBack", "movecur"), ("MadeAgain", "clean")]:
-            with self.subTest(clause), tempfile.TemporaryDirectory() as room:
-                log = File(room, "log")
+            with self.subTest(clause):
                 self.said("--without", clause, "--log", str(log), scene)
                 judged = subprocess.run([DEOLMUTT, "judge", log], capture_output=True, text=True, check=False)
                 self.assertEqual((judged.returncode, judged.stderr), (1, ""))
@@ -244,7 +236,3 @@ class Command(unittest.TestCase):
         status, said = self.said("--random", "--seconds", "0.5")
         self.assertEqual(status, 0, said)
         self.assertIn("beside others that keep what they owe: nothing\nanswers: ", said)
-
-
-if __name__ == "__main__":
-    unittest.main()

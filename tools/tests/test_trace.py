@@ -3,11 +3,11 @@
 import os
 import subprocess
 import sys
-import tempfile
 import unittest
 from unittest import mock
 
-from judge_support import BOX, TOOLS, beginning, log_of, opened, quoted, recorded, steps_of, trace
+from judge_support import BOX, beginning, log_of, opened, quoted, recorded, steps_of, trace
+from shared import TOOLS, RoomTest
 
 from judge_lib.claims import check_claims, read_claim, read_claims
 from judge_lib.folders import Folders, check_made, files_of, found_folders, named_folders
@@ -269,8 +269,8 @@ class FromOutside(unittest.TestCase):
 class WhatAStatusClaims(unittest.TestCase):
     """The answers."""
 
-    def answers(self, claim, status, *calls, files=((("cur"), b"u:2,S"),)):
-        log = log_of(trace(*calls, f"1 +++ exited with {status} +++"), files, [claim])
+    def answers(self, claim, status, *calls):
+        log = log_of(trace(*calls, f"1 +++ exited with {status} +++"), [("cur", b"u:2,S")], [claim])
         return [line for line in steps_of(log) if " answer " in line]
 
     def test_flags(self):
@@ -449,16 +449,14 @@ class Cost(unittest.TestCase):
         self.assertLess(len(counts) / len(lines), self.MOST_CALLS_A_LINE)
 
 
-class Tree(unittest.TestCase):
+class Tree(RoomTest):
     """What is there at the beginning, and how the program ends."""
 
     def setUp(self):
-        room = tempfile.TemporaryDirectory()
-        self.addCleanup(room.cleanup)
-        self.base = os.fsencode(os.path.realpath(room.name))
-        for place in (b"tmp", b"new", b"cur"):
-            os.makedirs(os.path.join(self.base, b"box", place))
-            os.makedirs(os.path.join(self.base, b"deep/box", place))
+        super().setUp()
+        self.base = os.fsencode(self.room)
+        self.make_maildir("box")
+        self.make_maildir("deep/box")
 
     def test_files(self):
         new = os.path.join(self.base, b"box/new/u v")
@@ -493,20 +491,11 @@ class Tree(unittest.TestCase):
 
     def test_the_zone_that_strace_is_given(self):
         """strace has a zone, so that it looks for no file of one at each call. The command has what it had."""
-        programs = os.path.join(os.fsdecode(self.base), "programs")
-        os.mkdir(programs)
-        with open(os.path.join(programs, "strace"), "w", encoding="utf-8") as file:
-            file.write('#!/bin/sh\n[ "$1" = --version ] || echo "${TZ-none}" "$@" >called\n')
-        os.chmod(os.path.join(programs, "strace"), 0o755)
+        programs = str(self.program("programs/strace", '#!/bin/sh\n[ "$1" = --version ] || echo "${TZ-none}" "$@" >called\n').parent)
         for zone, wanted in ((None, ("UTC0", True)), ("Asia/Tokyo", ("Asia/Tokyo", False))):
             with mock.patch.dict(os.environ, {} if zone is None else {"TZ": zone}):
                 if zone is None:
                     os.environ.pop("TZ", None)
                 self.assertIn("strace ran nothing", self.run_tool("--folder", "box", "true", path=programs).stderr)
-            with open(os.path.join(self.base, b"called"), encoding="utf-8") as file:
-                words = file.read().split()
+            words = (self.room / "called").read_text(encoding="utf-8").split()
             self.assertEqual((words[0], " -E TZ " in " ".join(words)), wanted)
-
-
-if __name__ == "__main__":
-    unittest.main()

@@ -97,7 +97,3 @@ class Table(unittest.TestCase):
 
     def test_json_is_as_its_schema_says(self):
         check_schema(json.loads(json.dumps(as_json(self.TRIED))), "trials")
-
-
-if __name__ == "__main__":
-    unittest.main()
