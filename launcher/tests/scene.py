@@ -65,6 +65,7 @@ class Scene(unittest.TestCase):
         self.addCleanup(self.remove_room)
         os.chmod(self.room, 0o755)
         self.top = self.path('a tree')
+        self.launcher = os.path.join(self.top, 'deolmutt')
         self.scene = self.path('scene')
         self.bin = self.path('kit', 'bin')
         self.temporary = self.path('temporary')
@@ -137,15 +138,14 @@ class Scene(unittest.TestCase):
     def script(self, name='a script', text=SCRIPT):
         return self.write(self.path(name), text)
 
-    def run_launcher(self, *words, launcher=None, **how):
+    def run_launcher(self, *words, launcher=None, before=(), **how):
         how = {'env': self.environment, 'cwd': self.room, 'input': '', **how}
-        return subprocess.run([launcher or os.path.join(self.top, 'deolmutt'), *words], capture_output=True, text=True, timeout=60, **how)
+        return subprocess.run([*before, launcher or self.launcher, *words], capture_output=True, text=True, timeout=60, **how)
 
     def run_into_full(self, *words):
         """A run whose standard output is a full disk."""
-        command = [os.path.join(self.top, 'deolmutt'), *words]
         with open('/dev/full', 'w', encoding='utf-8') as full:
-            return subprocess.run(command, stdout=full, stderr=subprocess.PIPE, env=self.environment, text=True, check=False)
+            return subprocess.run([self.launcher, *words], stdout=full, stderr=subprocess.PIPE, env=self.environment, text=True, check=False)
 
     def refused(self, status, text, *words, **how):
         """One line on standard error, with the status, and nothing on standard output."""
@@ -171,7 +171,7 @@ class Watch:
         self.changed = threading.Condition()
         ours, theirs = os.pipe()
         how = {'cwd': scene.room, 'env': scene.environment, 'stdin': stdin, 'start_new_session': True, 'preexec_fn': take_signals}
-        self.process = subprocess.Popen([os.path.join(scene.top, 'deolmutt'), *words], stdout=subprocess.PIPE, stderr=theirs, **how)
+        self.process = subprocess.Popen([scene.launcher, *words], stdout=subprocess.PIPE, stderr=theirs, **how)
         os.close(theirs)
         self.reader = threading.Thread(target=self.read_all, args=(ours,))
         self.reader.start()

@@ -4,7 +4,6 @@ import os
 import signal
 import subprocess
 import time
-import unittest
 
 from scene import MADE_OF, PLAYED, PROGRAM, TOOLCHAIN, TOP, Scene, Watch
 
@@ -125,13 +124,6 @@ class Build(Scene):
 
     def test_a_reader_that_goes_away_ends_it(self):
         self.tell('seconds', '3')
-        ran = subprocess.run(
-            ['sh', '-c', '"$0" build 2>&1 | head -n 1', os.path.join(self.top, 'deolmutt')],
-            capture_output=True, text=True, env=self.environment, timeout=20, check=False,
-        )
+        ran = self.run_launcher('-c', '"$0" build 2>&1 | head -n 1', self.launcher, launcher='/bin/sh')
         self.assertEqual(ran.stdout.count('\n'), 1)
         self.assertEqual(os.listdir(self.temporary), [])
-
-
-if __name__ == '__main__':
-    unittest.main()

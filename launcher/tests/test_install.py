@@ -5,7 +5,6 @@ import os
 import shutil
 import stat
 import subprocess
-import unittest
 
 from scene import PLAYED, PROGRAM, SCRIPT, Scene, without_rights
 
@@ -32,14 +31,14 @@ class Prefixed(Scene):
     def below(self, *words):
         return os.path.join(self.prefix, *words)
 
-    def tree(self, top=None):
+    def tree(self):
         """Each path below the prefix, with the text of files, where links are not followed."""
         found = {}
-        for folder, folders, files in os.walk(top or self.prefix):
+        for folder, folders, files in os.walk(self.prefix):
             for name in files + folders:
                 path = os.path.join(folder, name)
                 is_file = os.path.isfile(path) and not os.path.islink(path)
-                found[os.path.relpath(path, top or self.prefix)] = self.read(path) if is_file else None
+                found[os.path.relpath(path, self.prefix)] = self.read(path) if is_file else None
         return found
 
     def run_well(self, *words, **how):
@@ -49,6 +48,11 @@ class Prefixed(Scene):
 
     def install(self, *words, **how):
         return self.run_well('install', '--prefix', self.prefix, *words, **how)
+
+    def install_into_folder(self):
+        """Installs below a prefix that is there, and so stays."""
+        os.mkdir(self.prefix)
+        return self.install()
 
     def uninstall(self, **how):
         return self.run_well('uninstall', '--prefix', self.prefix, **how)
@@ -77,12 +81,10 @@ class Install(Prefixed):
         self.build()
 
     def test_an_empty_prefix_gets_all_and_gives_all_back(self):
-        os.mkdir(self.prefix)
-        said = self.install().stdout.splitlines()
+        said = self.install_into_folder().stdout.splitlines()
         self.assert_installed()
         self.assertEqual(said, [f'installed {self.below(path)}' for path in (*INSTALLED, MANIFEST)])
-        ran = subprocess.run([self.below('bin', 'deolmutt'), 'play'], input=SCRIPT, capture_output=True, text=True, env=self.environment, check=True)
-        self.assertEqual(ran.stdout, PLAYED)
+        self.assertEqual(self.run_well('play', launcher=self.below('bin', 'deolmutt'), input=SCRIPT).stdout, PLAYED)
         said = self.uninstall().stdout.splitlines()
         self.assertEqual(said, [f'removed {self.below(path)}' for path in (*INSTALLED, MANIFEST)])
         self.assertEqual(self.tree(), {})
@@ -125,8 +127,7 @@ class Install(Prefixed):
         os.mkdir(self.path(name))
         self.prefix = self.path(name)
         for command in ('install', 'install', 'uninstall'):
-            words = [os.path.join(self.top, 'deolmutt'), command, '--prefix', name]
-            subprocess.run(words, check=True, env=self.environment, cwd=self.room, capture_output=True)
+            subprocess.run([self.launcher, command, '--prefix', name], check=True, env=self.environment, cwd=self.room, capture_output=True)
             if command == 'install':
                 self.assert_installed()
         self.assertEqual(self.tree(), {})
@@ -142,8 +143,7 @@ class Install(Prefixed):
         self.assertEqual(self.tree(), {**before, 'share/fish': None, 'share/fish/mine': 'mine\n'})
 
     def test_a_second_install_takes_the_place_of_the_first(self):
-        os.mkdir(self.prefix)
-        self.install()
+        self.install_into_folder()
         self.install()
         self.assert_installed()
         page = os.path.join(self.top, 'docs', 'deolmutt.1')
@@ -154,8 +154,7 @@ class Install(Prefixed):
         self.assertEqual(self.tree(), {})
 
     def test_what_a_second_install_no_longer_brings_goes(self):
-        os.mkdir(self.prefix)
-        self.install()
+        self.install_into_folder()
         table = os.path.join(self.top, 'launcher', 'files.txt')
         self.write(table, ''.join(line for line in self.read(table).splitlines(True) if 'fish' not in line))
         self.install()
@@ -164,8 +163,7 @@ class Install(Prefixed):
         self.assertEqual(self.tree(), {})
 
     def test_a_changed_file_is_left(self):
-        os.mkdir(self.prefix)
-        self.install()
+        self.install_into_folder()
         changed = 'share/zsh/site-functions/_deolmutt'
         self.write(self.below(changed), 'mine\n')
         self.assert_refused(73, f'{self.below(changed)}: is not from an install, or was changed since', 'install')
@@ -175,15 +173,13 @@ class Install(Prefixed):
         self.assertEqual(self.tree(), {**folders, changed: 'mine\n'})
 
     def test_a_file_that_is_gone_is_said(self):
-        os.mkdir(self.prefix)
-        self.install()
+        self.install_into_folder()
         os.remove(self.below('bin', 'deolmutt'))
         self.assertIn('bin/deolmutt: is gone already', self.uninstall().stderr)
         self.assertEqual(self.tree(), {})
 
     def test_a_link_in_the_place_of_a_file_is_left(self):
-        os.mkdir(self.prefix)
-        self.install()
+        self.install_into_folder()
         shutil.move(self.below('bin', 'deolmutt'), self.path('moved'))
         os.symlink(self.path('moved'), self.below('bin', 'deolmutt'))
         self.assertIn('bin/deolmutt: was changed since, and is left', self.uninstall().stderr)
@@ -220,16 +216,10 @@ class Install(Prefixed):
         self.assert_refused_without_rights(f"{self.below('share', 'zsh', 'site-functions')}: can't be made", 'install')
 
     def assert_refused_without_rights(self, text, command):
-        before = self.tree()
-        words = [*without_rights(), os.path.join(self.top, 'deolmutt'), command, '--prefix', self.prefix]
-        ran = subprocess.run(words, capture_output=True, text=True, env=self.environment, cwd='/', check=False)
-        self.assertEqual((ran.returncode, ran.stdout), (73, ''), ran.stderr)
-        self.assertIn(text, ran.stderr.splitlines()[-1])
-        self.assertEqual(self.tree(), before)
+        self.assert_refused(73, text, command, before=without_rights(), cwd='/')
 
     def test_a_second_install_that_fails_leaves_the_first(self):
-        os.mkdir(self.prefix)
-        self.install()
+        self.install_into_folder()
         self.write(os.path.join(self.top, 'docs', 'deolmutt.1'), 'newer\n')
         self.replace_third_move('exit 1')
         self.assert_refused(73, "share/bash-completion/completions/deolmutt: can't be written", 'install')
@@ -250,8 +240,7 @@ class Install(Prefixed):
         os.chmod(path, 0o755)
 
     def test_a_file_that_cannot_be_taken_away_is_named(self):
-        os.mkdir(self.prefix)
-        self.install()
+        self.install_into_folder()
         os.chmod(self.below('bin'), 0o555)
         self.assert_refused_without_rights("bin/deolmutt: can't be taken away", 'uninstall')
 
@@ -271,8 +260,7 @@ class Install(Prefixed):
         victim = self.write(self.path('victim'), 'mine\n')
         with open(victim, 'rb') as file:
             total = hashlib.sha256(file.read()).hexdigest()
-        os.mkdir(self.prefix)
-        self.install()
+        self.install_into_folder()
         good = self.read(self.below(MANIFEST))
         for line in (
             f'file {total} {victim}',
@@ -296,8 +284,7 @@ class Install(Prefixed):
     def test_folders_and_files_are_readable_whatever_the_mask(self):
         os.mkdir(self.prefix)
         script = 'umask 077; exec "$0" install --prefix "$1"'
-        words = ['sh', '-c', script, os.path.join(self.top, 'deolmutt'), self.prefix]
-        subprocess.run(words, check=True, env=self.environment, capture_output=True)
+        self.run_well('-c', script, self.launcher, self.prefix, launcher='/bin/sh')
         self.assert_installed()
         self.assertEqual(stat.S_IMODE(os.stat(self.below('share')).st_mode), 0o755)
 
@@ -305,7 +292,6 @@ class Install(Prefixed):
         self.assertIn('is not on the path', self.install().stderr)
         environment = {**self.environment, 'PATH': f"{self.below('bin')}:{self.environment['PATH']}"}
         self.assertNotIn('is not on the path', self.install(env=environment).stderr)
-
 
     def test_a_build_that_is_too_old_is_refused(self):
         self.change('md_disk')
@@ -320,9 +306,5 @@ class Install(Prefixed):
 
     def test_a_link_to_the_launcher_is_never_overwritten(self):
         os.makedirs(self.below('bin'))
-        os.symlink(os.path.join(self.top, 'deolmutt'), self.below('bin', 'deolmutt'))
+        os.symlink(self.launcher, self.below('bin', 'deolmutt'))
         self.assert_refused(73, f"{self.below('bin', 'deolmutt')}: is not from an install", 'install')
-
-
-if __name__ == '__main__':
-    unittest.main()

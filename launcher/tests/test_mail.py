@@ -19,8 +19,7 @@ class Unbuilt(Scene):
 
     def test_what_it_is_given_to_read_is_not_read(self):
         with open(self.script('a message'), encoding='utf-8') as message:
-            words = [os.path.join(self.top, 'deolmutt'), 'deliver', 'Mail']
-            ran = subprocess.run(words, stdin=message, env=self.environment, capture_output=True, check=False)
+            ran = subprocess.run([self.launcher, 'deliver', 'Mail'], stdin=message, env=self.environment, capture_output=True, check=False)
             self.assertEqual((ran.returncode, ran.stdout), (75, b''))
             self.assertEqual(message.read(), SCRIPT)
 
@@ -61,8 +60,7 @@ class Built(Scene):
 
     def test_a_message_may_have_any_bytes(self):
         message = bytes(range(256)) * 1000
-        words = [os.path.join(self.top, 'deolmutt'), 'deliver', 'Mail']
-        ran = subprocess.run(words, input=message, env=self.environment, capture_output=True, check=False)
+        ran = subprocess.run([self.launcher, 'deliver', 'Mail'], input=message, env=self.environment, capture_output=True, check=False)
         self.assertEqual((ran.returncode, ran.stdout), (0, b'[deliver][Mail]\n' + message))
 
     def test_the_status_is_that_of_the_program(self):
@@ -96,7 +94,7 @@ class Built(Scene):
     def test_any_posix_shell_will_do(self):
         for shell, flags in posix_shells():
             with self.subTest(shell=shell):
-                ran = self.run_launcher(*flags, os.path.join(self.top, 'deolmutt'), 'list', 'a b', launcher=shell)
+                ran = self.run_launcher(*flags, self.launcher, 'list', 'a b', launcher=shell)
                 self.assertEqual((ran.returncode, ran.stdout, ran.stderr), (0, '[list][a b]\n', ''))
 
 
@@ -109,7 +107,3 @@ class Table(unittest.TestCase):
         self.assertEqual([row[1] for row in rows if row[0] == 'mail'], [*COMMANDS])
         taken = [*words, 'help', 'build', 'install', 'uninstall']
         self.assertEqual(len(taken), len({*taken}))
-
-
-if __name__ == '__main__':
-    unittest.main()

@@ -323,7 +323,3 @@ class Zsh(unittest.TestCase):
         self.type('\x15\n', 'READY> ')
         said = self.type('deolmutt threads \t', '16')
         self.assertEqual(re.findall(r'\b\d+\b', said.partition('threads')[2]), [str(number) for number in range(1, 17)])
-
-
-if __name__ == '__main__':
-    unittest.main()

@@ -3,9 +3,7 @@
 import os
 import shutil
 import signal
-import subprocess
 import time
-import unittest
 
 from scene import PLAYED, PROGRAM, SCRIPT, TOP, Scene, Watch, posix_shells, without_rights
 
@@ -79,12 +77,9 @@ class Unproved(Scene):
         os.chmod(self.scene, 0o777)
         for folder, _, _ in os.walk(self.top):
             os.chmod(folder, 0o555)
-        words = [*without_rights(), os.path.join(self.top, 'deolmutt'), self.script()]
-        ran = subprocess.run(words, capture_output=True, text=True, env=self.environment, cwd='/', check=False)
-        self.assertEqual((ran.returncode, ran.stdout, ran.stderr.count('\n')), (0, PLAYED, 1), ran.stderr)
-        how = {'capture_output': True, 'input': SCRIPT, 'text': True, 'env': self.environment, 'cwd': '/'}
-        ran = subprocess.run([*words[:-1], 'play'], check=False, **how)
-        self.assertEqual((ran.returncode, ran.stdout, ran.stderr.count('\n')), (0, PLAYED, 1), ran.stderr)
+        for word, given in ((self.script(), ''), ('play', SCRIPT)):
+            ran = self.run_launcher(word, before=without_rights(), input=given, cwd='/')
+            self.assertEqual((ran.returncode, ran.stdout, ran.stderr.count('\n')), (0, PLAYED, 1), ran.stderr)
         self.assertEqual((self.kept(), os.listdir(self.temporary)), ([], []))
 
     def test_a_missing_temporary_folder_is_named(self):
@@ -207,7 +202,7 @@ class Built(Scene):
     def test_any_posix_shell_will_do(self):
         for shell, flags in posix_shells():
             with self.subTest(shell=shell):
-                words = (*flags, os.path.join(self.top, 'deolmutt'))
+                words = (*flags, self.launcher)
                 os.remove(self.program)
                 for command in ('build', 'install', 'uninstall', '--help'):
                     ran = self.run_launcher(*words, command, launcher=shell)
@@ -248,7 +243,3 @@ class Built(Scene):
 
     def test_output_that_cannot_be_written_is_the_program_s_to_tell(self):
         self.assertNotEqual(self.run_into_full(self.script()).returncode, 0)
-
-
-if __name__ == '__main__':
-    unittest.main()

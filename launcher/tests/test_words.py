@@ -2,8 +2,6 @@
 
 import os
 import re
-import subprocess
-import unittest
 
 from scene import TOP, Scene, without_rights
 
@@ -32,8 +30,7 @@ class Words(Scene):
 
     def test_a_file_without_the_right_to_read_it_is_refused(self):
         os.chmod(self.script(), 0)
-        words = [*without_rights(), os.path.join(self.top, 'deolmutt'), self.path('a script')]
-        ran = subprocess.run(words, capture_output=True, text=True, env=self.environment, cwd='/', check=False)
+        ran = self.run_launcher(self.path('a script'), before=without_rights(), cwd='/')
         self.assertEqual((ran.returncode, ran.stdout), (66, ''))
         self.assertEqual(ran.stderr, f"deolmutt: {self.path('a script')}: can't be read\n")
 
@@ -83,7 +80,3 @@ class Words(Scene):
             name, version = self.run_launcher(word).stdout.split()
             self.assertEqual(name, 'deolmutt')
             self.assertIn(f'"{version}"', source)
-
-
-if __name__ == '__main__':
-    unittest.main()
