@@ -30,25 +30,9 @@ def fish_options(options, is_first):
         yield f'complete -c {PROGRAM} {when}-s {short} -l {long} -d {fish_quoted(row.text)}'
 
 
-def arguments(row):
-    """What stands after a command, by its names."""
-    return row.argument.replace('...', '').split()
-
-
-def takes_keys(row):
-    return 'KEY' in arguments(row)
-
-
-def takes_box(row):
-    return 'BOX' in arguments(row)
-
-
-def takes_two_boxes(row):
-    return 'TO' in arguments(row)
-
-
-def takes_file(row):
-    return '[FILE]' in arguments(row)
+def takes(row, argument):
+    """Whether an argument, by its name, stands after a command."""
+    return argument in row.argument.replace('...', '').split()
 
 
 def option_of(row):
@@ -78,9 +62,9 @@ def bash_options(table, helps):
 def bash_completions(table):
     """Words are completed by their place: folders where a maildir stands, and files where keys do and after a redirection."""
     with_values = ' | '.join(option_of(row) for row in table.all_options if row.argument)
-    folders = ' | '.join([*(f'2/{row.word}' for row in table.all if takes_keys(row)),
-                          *(f'3/{row.word}' for row in table.all if takes_two_boxes(row)),
-                          *(f'*/{row.word}' for row in table.all if takes_box(row) and not takes_keys(row))])
+    folders = ' | '.join([*(f'2/{row.word}' for row in table.all if takes(row, 'KEY')),
+                          *(f'3/{row.word}' for row in table.all if takes(row, 'TO')),
+                          *(f'*/{row.word}' for row in table.all if takes(row, 'BOX') and not takes(row, 'KEY'))])
     numbers = [f'            2/{row.word}) choices="$(echo {{{row.range}}})" ;;' for row in table.all if row.range]
     return [
         f'# Completions for bash {MADE}.',
@@ -120,19 +104,16 @@ def zsh_option(row):
     return quoted(f'{option_of(row)}={explained}:{row.argument}: ' if row.argument else f'{option_of(row)}{explained}')
 
 
+# What completes an argument.
+ZSH_PLACES = {'BOX': "'1:BOX:_directories'", 'TO': "'2:TO:_directories'", 'KEY': "'*:KEY:_files'", '[FILE]': "'1:FILE:_files'"}
+
+
 def zsh_command(table, row):
     words = ['$helps', *map(zsh_option, options_of(table, row))]
-    if takes_box(row):
-        words.append("'1:BOX:_directories'")
     if row.range:
         first, last = map(int, row.range.split('..'))
         words.append(f"'1:{row.argument}:({' '.join(map(str, range(first, last + 1)))})'")
-    if takes_two_boxes(row):
-        words.append("'2:TO:_directories'")
-    if takes_keys(row):
-        words.append("'*:KEY:_files'")
-    if takes_file(row):
-        words.append("'1:FILE:_files'")
+    words += [what for argument, what in ZSH_PLACES.items() if takes(row, argument)]
     return f"        {row.word}) _arguments {' '.join(words)} ;;"
 
 
@@ -189,18 +170,18 @@ def fish_after(*commands):
 
 def fish_paths(table):
     """Folders where a maildir stands, and files where keys do."""
-    two = [row.word for row in table.all if takes_two_boxes(row)]
-    keys = [row.word for row in table.all if takes_keys(row) and row.word not in two]
-    others = [row.word for row in table.all if takes_box(row) and not takes_keys(row)]
+    two = [row.word for row in table.all if takes(row, 'TO')]
+    keys = [row.word for row in table.all if takes(row, 'KEY') and row.word not in two]
+    others = [row.word for row in table.all if takes(row, 'BOX') and not takes(row, 'KEY')]
     folders = "-a '(__fish_complete_directories (commandline -ct))'"
-    every = [row.word for row in table.all if takes_box(row)]
+    every = [row.word for row in table.all if takes(row, 'BOX')]
     places = (
         ('-eq 2', every, folders),
         ('-ge 3', others, folders),
         ('-eq 3', two, folders),
         ('-ge 3', keys, '-F'),
         ('-ge 4', two, '-F'),
-        ('-ge 2', [row.word for row in table.all if takes_file(row)], '-F'),
+        ('-ge 2', [row.word for row in table.all if takes(row, '[FILE]')], '-F'),
     )
     for compared, commands, what in places:
         yield f"complete -c {PROGRAM} -n '{fish_place(compared)}; and {fish_after(*commands)}' {what}"
