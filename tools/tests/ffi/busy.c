@@ -1,6 +1,6 @@
 /* Calls on a world or a driven job that another call is in: they are refused, and change nothing. First from within the call itself, when
    it takes memory, so that each is met for certain; then by threads. It is linked with malloc, calloc and realloc wrapped. */
-#include "checks.h"
+#include "refused.h"
 
 #include <pthread.h>
 
@@ -40,49 +40,9 @@ void *__wrap_realloc(void *at, size_t size) {
 static deolmutt_world *busy_world;
 static deolmutt_driven *busy_job;
 
-static void calls_of_a_busy_world(void) {
-    deolmutt_world *world = busy_world;
-    deolmutt_answer answer;
-    deolmutt_step_out step;
-    uint8_t out[16] = ".";
-    uint64_t job;
-    uint32_t folder;
-    deolmutt_row row;
-    size_t length;
-    CHECK(deolmutt_free(world) == DEOLMUTT_BUSY);
-    CHECK(deolmutt_submit(world, DEOLMUTT_CLEAN, 0, NO_BYTES, 0, NO_BYTES, NO_BYTES, 0, &job) == DEOLMUTT_BUSY);
-    CHECK(deolmutt_step(world, 1, 1, NULL, &step) == DEOLMUTT_BUSY);
-    CHECK(done(world, DEOLMUTT_CLEAN, 0, "", 0, "", "", 0, 1, &answer) == DEOLMUTT_BUSY);
-    CHECK(deolmutt_job_answer(world, 1, &answer) == DEOLMUTT_BUSY);
-    CHECK(deolmutt_settle(world, &job) == DEOLMUTT_BUSY);
-    CHECK(deolmutt_list(world, 0, out, sizeof out, &length) == DEOLMUTT_BUSY);
-    CHECK(deolmutt_read(world, TEXT("u"), out, sizeof out, &length) == DEOLMUTT_BUSY);
-    CHECK(deolmutt_names(world, 0, DEOLMUTT_NEW, 0, out, sizeof out, &length) == DEOLMUTT_BUSY);
-    CHECK(deolmutt_calls(world, NO_BYTES, 1, &answer, 1, &length) == DEOLMUTT_BUSY);
-    CHECK(deolmutt_first(world, 0, out, sizeof out, &length) == DEOLMUTT_BUSY);
-    CHECK(deolmutt_second(world, 0, NO_BYTES, out, sizeof out, &length) == DEOLMUTT_BUSY);
-    CHECK(deolmutt_row_at(world, 0, DEOLMUTT_NEW, 0, &row, out, sizeof out, &length) == DEOLMUTT_BUSY);
-    CHECK(deolmutt_read_file(world, 0, DEOLMUTT_NEW, "u", 1, out, sizeof out, &length) == DEOLMUTT_BUSY);
-    CHECK(deolmutt_folders(world, &folder) == DEOLMUTT_BUSY);
-    CHECK(deolmutt_folder(world, "a", 1, &folder) == DEOLMUTT_BUSY);
-    CHECK(deolmutt_folder_name(world, 0, out, sizeof out, &length) == DEOLMUTT_BUSY);
-    CHECK(out[0] == '.');
-}
+static void calls_of_a_busy_world(void) { refused_by_world(busy_world, DEOLMUTT_BUSY); }
 
-static void calls_of_a_busy_job(void) {
-    deolmutt_driven *job = busy_job;
-    deolmutt_request asked;
-    deolmutt_step_out step;
-    deolmutt_answer answer;
-    uint8_t out[16];
-    size_t length;
-    CHECK(deolmutt_driven_free(job) == DEOLMUTT_BUSY);
-    CHECK(deolmutt_driven_ask(job, 1) == DEOLMUTT_BUSY);
-    CHECK(deolmutt_driven_request(job, &asked, out, sizeof out, &length) == DEOLMUTT_BUSY);
-    CHECK(deolmutt_driven_row(job, TEXT("u"), 1, 1) == DEOLMUTT_BUSY);
-    CHECK(deolmutt_driven_take(job, DEOLMUTT_DONE, &step) == DEOLMUTT_BUSY);
-    CHECK(deolmutt_driven_answer(job, &answer) == DEOLMUTT_BUSY);
-}
+static void calls_of_a_busy_job(void) { refused_by_job(busy_job, DEOLMUTT_BUSY); }
 
 static void test_within(void) {
     deolmutt_answer answer;

@@ -22,7 +22,7 @@ static unsigned long checked;
 #define TEXT(s) (const uint8_t *)(s), strlen(s)
 #define NO_BYTES NULL, 0
 
-static deolmutt_world *loaded(const char *lines) {
+static inline deolmutt_world *loaded(const char *lines) {
     deolmutt_world *world = NULL;
     uint64_t line = 7;
     CHECK(deolmutt_load(TEXT(lines), &world, &line) == DEOLMUTT_OK);
@@ -30,8 +30,8 @@ static deolmutt_world *loaded(const char *lines) {
     return world;
 }
 
-static uint32_t done(deolmutt_world *world, uint32_t kind, uint32_t folder, const char *unique, uint32_t to, const char *first,
-                     const char *second, uint64_t number, uint64_t now, deolmutt_answer *answer) {
+static inline uint32_t done(deolmutt_world *world, uint32_t kind, uint32_t folder, const char *unique, uint32_t to, const char *first,
+                            const char *second, uint64_t number, uint64_t now, deolmutt_answer *answer) {
     uint64_t job = 99;
     return deolmutt_call(world, kind, folder, TEXT(unique), to, TEXT(first), TEXT(second), number, now, NULL, &job, answer);
 }

@@ -1,28 +1,15 @@
 /* A number of calls, the first argument: of worlds, 1,000 in a world of their own, which is freed, and 1,000 in one world that is kept to
    the end and settles now and then, in turn; or, where the second argument is driven, jobs that are driven. Prints the peak of the memory
    in KiB, which is to be the same for any number of calls. */
-#include "deolmutt.h"
+#include "checks.h"
 
-#include <stdio.h>
-#include <stdlib.h>
-#include <string.h>
 #include <sys/resource.h>
 
 #define EACH 1000
 
-static void must(int is_so, const char *what) {
-    if (!is_so) {
-        fprintf(stderr, "leaks: %s\n", what);
-        exit(1);
-    }
-}
-
-static void call(deolmutt_world *world, uint32_t kind, const char *unique, const char *text, size_t length, uint64_t wanted) {
+static void call(deolmutt_world *world, uint32_t kind, const char *unique, const char *text, uint64_t wanted) {
     deolmutt_answer answer;
-    uint64_t job = 0;
-    must(deolmutt_call(world, kind, 0, (const uint8_t *)unique, strlen(unique), 0, (const uint8_t *)text, length, NULL, 0, 7, 9, NULL, &job,
-                       &answer) == DEOLMUTT_OK, unique);
-    must(answer.kind == wanted, unique);
+    CHECK(done(world, kind, 0, unique, 0, text, "", 7, 9, &answer) == DEOLMUTT_OK && answer.kind == wanted);
 }
 
 /* Messages that come and go, four calls each, beside one that stays. */
@@ -32,46 +19,42 @@ static void calls_of_the_kept_world(deolmutt_world *world, long from) {
     long at;
     for (at = from; at < from + EACH / 4; at++) {
         sprintf(unique, "kept%ld", at);
-        call(world, DEOLMUTT_DELIVER, unique, "Subject: x\n", 11, DEOLMUTT_DELIVERED);
+        call(world, DEOLMUTT_DELIVER, unique, "Subject: x\n", DEOLMUTT_DELIVERED);
         if (at == 0)
             continue;
-        call(world, DEOLMUTT_SEEN, unique, "S", 1, DEOLMUTT_FLAGS);
-        call(world, DEOLMUTT_FLAG, unique, "T", 1, DEOLMUTT_FLAGS);
-        call(world, DEOLMUTT_EXPUNGE, unique, NULL, 0, DEOLMUTT_EXPUNGED);
+        call(world, DEOLMUTT_SEEN, unique, "S", DEOLMUTT_FLAGS);
+        call(world, DEOLMUTT_FLAG, unique, "T", DEOLMUTT_FLAGS);
+        call(world, DEOLMUTT_EXPUNGE, unique, "", DEOLMUTT_EXPUNGED);
     }
-    must(deolmutt_settle(world, &job) == DEOLMUTT_OK && job == 0, "settle");
+    CHECK(deolmutt_settle(world, &job) == DEOLMUTT_OK && job == 0);
 }
 
 static void calls_of_a_world(void) {
     static const char lines[] = "folder a\nfolder b\n";
     static const char indexed[] = "folder a\nfile a new u 0 Subject: x\\nFrom: y\\n\n";
     static uint8_t out[1 << 17];
-    deolmutt_world *world = NULL;
+    deolmutt_world *world = loaded(lines), *none = NULL;
     deolmutt_answer answer;
     uint64_t line = 0, job = 0;
     size_t length = 0;
     char unique[16];
     int at;
-    must(deolmutt_load((const uint8_t *)lines, sizeof lines - 1, &world, &line) == DEOLMUTT_OK, "load");
     for (at = 0; at < EACH / 2; at++) {
-        size_t name = (size_t)sprintf(unique, "u%d", at);
-        must(deolmutt_call(world, DEOLMUTT_DELIVER, 0, (const uint8_t *)unique, name, 0, (const uint8_t *)lines, sizeof lines, NULL, 0, 7, 9,
-                           NULL, &job, &answer) == DEOLMUTT_OK, "deliver");
-        must(deolmutt_call(world, DEOLMUTT_SEEN, 0, (const uint8_t *)unique, name, 0, (const uint8_t *)"S", 1, NULL, 0, 1, 9, NULL, &job,
-                           &answer) == DEOLMUTT_OK, "seen");
-        must(deolmutt_call(world, DEOLMUTT_DELIVER, 0, (const uint8_t *)unique, name, 0, NULL, 0, NULL, 0, 7, 9, NULL, &job, &answer) ==
-                 DEOLMUTT_NAME_USED, "used");
-        must(deolmutt_read(world, (const uint8_t *)unique, name, out, sizeof out, &length) == DEOLMUTT_OK, "read");
+        sprintf(unique, "u%d", at);
+        CHECK(done(world, DEOLMUTT_DELIVER, 0, unique, 0, lines, "", 7, 9, &answer) == DEOLMUTT_OK);
+        CHECK(done(world, DEOLMUTT_SEEN, 0, unique, 0, "S", "", 1, 9, &answer) == DEOLMUTT_OK);
+        CHECK(done(world, DEOLMUTT_DELIVER, 0, unique, 0, "", "", 7, 9, &answer) == DEOLMUTT_NAME_USED);
+        CHECK(deolmutt_read(world, TEXT(unique), out, sizeof out, &length) == DEOLMUTT_OK);
         if (at % 100 == 99)
-            must(deolmutt_settle(world, &job) == DEOLMUTT_OK && job == 0, "settle");
+            CHECK(deolmutt_settle(world, &job) == DEOLMUTT_OK && job == 0);
     }
-    must(deolmutt_list(world, 0, out, sizeof out, &length) == DEOLMUTT_OK, "list");
-    must(deolmutt_free(world) == DEOLMUTT_OK, "free");
-    must(deolmutt_load((const uint8_t *)"none", 4, &world, &line) == DEOLMUTT_BAD_COMMAND, "refused load");
-    must(deolmutt_summary((const uint8_t *)"Subject: x\n", 11, out, sizeof out, &length) == DEOLMUTT_OK, "summary");
-    must(deolmutt_transcript((const uint8_t *)lines, sizeof lines - 1, out, sizeof out, &length, &line) == DEOLMUTT_OK, "transcript");
-    must(deolmutt_index((const uint8_t *)indexed, sizeof indexed - 1, out, sizeof out, &length, &line) == DEOLMUTT_OK && length == 25, "index");
-    must(deolmutt_index((const uint8_t *)"folder a\nlist a\n", 16, out, sizeof out, &length, &line) == DEOLMUTT_NOT_IN_THIS_RUN, "refused index");
+    CHECK(deolmutt_list(world, 0, out, sizeof out, &length) == DEOLMUTT_OK);
+    CHECK(deolmutt_free(world) == DEOLMUTT_OK);
+    CHECK(deolmutt_load(TEXT("none"), &none, &line) == DEOLMUTT_BAD_COMMAND);
+    CHECK(deolmutt_summary(TEXT("Subject: x\n"), out, sizeof out, &length) == DEOLMUTT_OK);
+    CHECK(deolmutt_transcript(TEXT(lines), out, sizeof out, &length, &line) == DEOLMUTT_OK);
+    CHECK(deolmutt_index(TEXT(indexed), out, sizeof out, &length, &line) == DEOLMUTT_OK && length == 25);
+    CHECK(deolmutt_index(TEXT("folder a\nlist a\n"), out, sizeof out, &length, &line) == DEOLMUTT_NOT_IN_THIS_RUN);
 }
 
 /* A driven job that is let go amid its steps, and one that waits for a reply. */
@@ -80,26 +63,24 @@ static void driven_jobs(void) {
     deolmutt_step_out step;
     int at;
     for (at = 0; at < EACH; at++) {
-        must(deolmutt_drive(DEOLMUTT_FLAG, 0, (const uint8_t *)"u", 1, 0, (const uint8_t *)"F", 1, NULL, 0, 1, &job) == DEOLMUTT_OK, "drive");
-        must(deolmutt_driven_ask(job, 1) == DEOLMUTT_OK, "ask");
-        must(deolmutt_driven_row(job, (const uint8_t *)"u:2,S", 5, 0, 0) == DEOLMUTT_OK, "row");
+        CHECK(deolmutt_drive(DEOLMUTT_FLAG, 0, TEXT("u"), 0, TEXT("F"), NO_BYTES, 1, &job) == DEOLMUTT_OK);
+        CHECK(deolmutt_driven_ask(job, 1) == DEOLMUTT_OK);
+        CHECK(deolmutt_driven_row(job, TEXT("u:2,S"), 0, 0) == DEOLMUTT_OK);
         if (at % 2 == 0)
-            must(deolmutt_driven_take(job, DEOLMUTT_DONE, &step) == DEOLMUTT_OK, "take");
-        must(deolmutt_driven_free(job) == DEOLMUTT_OK, "free");
+            CHECK(deolmutt_driven_take(job, DEOLMUTT_DONE, &step) == DEOLMUTT_OK);
+        CHECK(deolmutt_driven_free(job) == DEOLMUTT_OK);
     }
 }
 
 static void calls_of_worlds(long left) {
-    deolmutt_world *kept = NULL;
-    uint64_t line = 0;
+    deolmutt_world *kept = loaded("folder a\n");
     long from;
-    must(deolmutt_load((const uint8_t *)"folder a\n", 9, &kept, &line) == DEOLMUTT_OK, "load");
     for (from = 0; left > 0; from += EACH / 4) {
         calls_of_a_world();
         calls_of_the_kept_world(kept, from);
         left -= 2 * EACH;
     }
-    must(deolmutt_free(kept) == DEOLMUTT_OK, "free");
+    CHECK(deolmutt_free(kept) == DEOLMUTT_OK);
 }
 
 int main(int count, char **words) {

@@ -1,10 +1,6 @@
 /* Each allocation of each call, refused in turn: the call says so or goes on, its world is still of use, and nothing is lost. It is linked
    with malloc, calloc and realloc wrapped. */
-#include "deolmutt.h"
-
-#include <stdio.h>
-#include <stdlib.h>
-#include <string.h>
+#include "checks.h"
 
 void *__real_malloc(size_t size);
 void *__real_calloc(size_t count, size_t size);
@@ -36,13 +32,6 @@ static const char lines[] = "folder a\nfile a cur old:2,S 5 body\n";
 
 /* A log with one finding. */
 static const char moved_back[] = "maildir_log 1\nfolder i\nfile i/cur/u:2,S 5\n9 a list i cur ok u:2,S\n9 a rename i/cur/u:2,S i/new/u ok\n";
-
-static deolmutt_world *loaded(void) {
-    deolmutt_world *world = NULL;
-    uint64_t line = 0;
-    must(deolmutt_load((const uint8_t *)lines, sizeof lines - 1, &world, &line) == DEOLMUTT_OK, "load");
-    return world;
-}
 
 /* A call with its allocation `at` refused, if it makes so many: it is done, or says so. */
 #define WITHOUT(call)                                                           \
@@ -81,8 +70,7 @@ static seen see(deolmutt_world *world) {
 /* How many files of tmp a clean takes at a moment. */
 static uint64_t cleaned(deolmutt_world *world, uint64_t now) {
     deolmutt_answer answer;
-    uint64_t job = 0;
-    must(deolmutt_call(world, DEOLMUTT_CLEAN, 0, NULL, 0, 0, NULL, 0, NULL, 0, 0, now, NULL, &job, &answer) == DEOLMUTT_OK, "a clean");
+    must(done(world, DEOLMUTT_CLEAN, 0, "", 0, "", "", 0, now, &answer) == DEOLMUTT_OK, "a clean");
     must(answer.kind == DEOLMUTT_CLEANED, "cleans");
     return answer.value;
 }
@@ -92,14 +80,12 @@ static uint64_t cleaned(deolmutt_world *world, uint64_t now) {
 static int steps_without(long at) {
     static const uint32_t calls[] = {DEOLMUTT_CREATE, DEOLMUTT_APPEND, DEOLMUTT_APPEND, DEOLMUTT_LINK, DEOLMUTT_UNLINK};
     static const uint64_t values[] = {0, 4, 2, 0, 0};
-    deolmutt_world *world = NULL;
+    deolmutt_world *world = loaded("folder a\n");
     deolmutt_step_out step, nothing;
-    uint64_t job = 0, line = 0, clock = 1000, late;
+    uint64_t job = 0, clock = 1000, late;
     uint32_t status;
     int was_met = 0;
-    must(deolmutt_load((const uint8_t *)"folder a\n", 9, &world, &line) == DEOLMUTT_OK, "load");
-    must(deolmutt_submit(world, DEOLMUTT_DELIVER, 0, (const uint8_t *)"u", 1, 0, (const uint8_t *)"hello\n", 6, NULL, 0, 4, &job) ==
-             DEOLMUTT_OK && job == 1, "submit");
+    must(deolmutt_submit(world, DEOLMUTT_DELIVER, 0, TEXT("u"), 0, TEXT("hello\n"), NO_BYTES, 4, &job) == DEOLMUTT_OK && job == 1, "submit");
     memset(&nothing, 0, sizeof nothing);
     for (late = 2000; late < 2005; late++) {
         seen before = see(world), after;
@@ -117,8 +103,7 @@ static int steps_without(long at) {
         must(step.effect == (late == 2003), "the link is the effect");
         must(step.answer.kind == (late == 2004 ? DEOLMUTT_DELIVERED : DEOLMUTT_NO_ANSWER) && step.answer.value == 0, "the last step answers");
     }
-    must(deolmutt_submit(world, DEOLMUTT_DELIVER, 0, (const uint8_t *)"next", 4, 0, NULL, 0, NULL, 0, 1, &job) == DEOLMUTT_OK && job == 2,
-         "a job more");
+    must(deolmutt_submit(world, DEOLMUTT_DELIVER, 0, TEXT("next"), 0, NO_BYTES, NO_BYTES, 1, &job) == DEOLMUTT_OK && job == 2, "a job more");
     must(deolmutt_step(world, job, 0, NULL, &step) == DEOLMUTT_OK && step.call == DEOLMUTT_CREATE, "the next file");
     must(cleaned(world, clock + 36 * 3600 - 1) == 0, "no file is 36 hours old");
     must(cleaned(world, clock + 36 * 3600) == 1, "the next file has the clock for its stamp");
@@ -132,7 +117,7 @@ static int call_without(long at) {
     static const deolmutt_file file = {0, DEOLMUTT_CUR, "old one:2,S", 11, 5, "body", 4};
     static uint8_t out[4096], text[64];
     deolmutt_row row;
-    deolmutt_world *world = loaded(), *other = NULL;
+    deolmutt_world *world = loaded(lines), *other = NULL;
     deolmutt_answer answer;
     deolmutt_step_out step;
     uint64_t job = 0, line = 9;
@@ -140,12 +125,11 @@ static int call_without(long at) {
     uint32_t status;
     int was_met = 0;
     must(deolmutt_list(world, 0, out, sizeof out, &before) == DEOLMUTT_OK, "list before");
-    WITHOUT(deolmutt_call(world, DEOLMUTT_DELIVER, 0, (const uint8_t *)"u", 1, 0, (const uint8_t *)"mail", 4, NULL, 0, 2, 9, NULL, &job,
-                          &answer));
+    WITHOUT(deolmutt_call(world, DEOLMUTT_DELIVER, 0, TEXT("u"), 0, TEXT("mail"), NO_BYTES, 2, 9, NULL, &job, &answer));
     if (status == DEOLMUTT_NO_MEMORY && job == 0) {
         must(deolmutt_list(world, 0, out, sizeof out, &after) == DEOLMUTT_OK && after == before, "a refused call changes nothing");
-        must(deolmutt_call(world, DEOLMUTT_DELIVER, 0, (const uint8_t *)"u", 1, 0, (const uint8_t *)"mail", 4, NULL, 0, 2, 9, NULL, &job,
-                           &answer) == DEOLMUTT_OK && answer.kind == DEOLMUTT_DELIVERED, "a refused call may come again");
+        must(deolmutt_call(world, DEOLMUTT_DELIVER, 0, TEXT("u"), 0, TEXT("mail"), NO_BYTES, 2, 9, NULL, &job, &answer) == DEOLMUTT_OK &&
+                 answer.kind == DEOLMUTT_DELIVERED, "a refused call may come again");
     } else if (status == DEOLMUTT_NO_MEMORY) {
         do
             must(deolmutt_step(world, job, 9, NULL, &step) == DEOLMUTT_OK, "a job that is there goes on");
@@ -171,10 +155,10 @@ static int call_without(long at) {
     }
     must(deolmutt_settle(world, &job) == DEOLMUTT_OK, "and then each has its answer");
     job = 99;
-    WITHOUT(deolmutt_submit(world, DEOLMUTT_SEEN, 0, (const uint8_t *)"u", 1, 0, (const uint8_t *)"S", 1, NULL, 0, 1, &job));
+    WITHOUT(deolmutt_submit(world, DEOLMUTT_SEEN, 0, TEXT("u"), 0, TEXT("S"), NO_BYTES, 1, &job));
     if (status == DEOLMUTT_NO_MEMORY) {
         must(job == 0 && deolmutt_job_answer(world, 1, &answer) == DEOLMUTT_NO_JOB, "a refused submit is no job");
-        must(deolmutt_submit(world, DEOLMUTT_SEEN, 0, (const uint8_t *)"u", 1, 0, (const uint8_t *)"S", 1, NULL, 0, 1, &job) == DEOLMUTT_OK,
+        must(deolmutt_submit(world, DEOLMUTT_SEEN, 0, TEXT("u"), 0, TEXT("S"), NO_BYTES, 1, &job) == DEOLMUTT_OK,
              "a refused submit may come again");
     }
     must(job == 1, "a job");

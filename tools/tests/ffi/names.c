@@ -1,10 +1,6 @@
 /* Names by "Using maildir format" (https://cr.yp.to/proto/maildir.html) and maildir(5), and names that broke other programs: how they are split
    and made, which letters are flags, and which names a delivery may have. Ends with a count. */
-#include "deolmutt.h"
-
-#include <stdio.h>
-#include <stdlib.h>
-#include <string.h>
+#include "checks.h"
 
 #define LETTERS "ABCDEFGHIJKLMNOPQRSTUVWXYZabcdefghijklmnopqrstuvwxyz"
 
@@ -17,8 +13,6 @@ struct bytes {
 };
 #define BYTES(text) {text, sizeof(text) - 1}
 #define COUNT(rows) (sizeof(rows) / sizeof *(rows))
-
-static unsigned long checked;
 
 static void must(int is_so, const char *what, const char *row) {
     checked++;
@@ -89,13 +83,6 @@ static void test_split(void) {
         must(deolmutt_split(of(name), strlen(name), &length, &info, &flags) == DEOLMUTT_NO_MESSAGE_NAME, "no message's name", name);
     }
     must(length == 0 && info == 0 && flags == 0, "what is refused says nothing", "");
-}
-
-static deolmutt_world *loaded(const char *lines) {
-    deolmutt_world *world = NULL;
-    uint64_t line = 9;
-    must(deolmutt_load(of(lines), strlen(lines), &world, &line) == DEOLMUTT_OK, "a store", lines);
-    return world;
 }
 
 static uint32_t called(deolmutt_world *world, uint32_t kind, struct bytes unique, const char *first, const char *second,
