@@ -20,7 +20,7 @@ def table(explored: Explored, expected: Expected) -> List[str]:
     if explored.without_call():
         lines.append(f"no call         {' '.join(explored.without_call())}: never called in a maildir")
     for clause, broken in sorted(explored.broken.items(), key=lambda item: -item[1].count):
-        lines.append(f"{clause:<15} {broken.count}, first in {broken.order}: {SENTENCES[clause]}")
+        lines.append(f"{clause:<15} {broken.count}, first in {broken.order or 'none'}: {SENTENCES[clause]}")
     return lines
 
 

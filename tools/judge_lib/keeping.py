@@ -12,7 +12,7 @@ from .making import Log
 from .refused import Refused
 from .statuses import shown
 
-_OWN = re.compile(r"([ABC]+|[a-z0-9]+\.\d+)\.log")
+_OWN = re.compile(r"([ABC]+|none|[a-z0-9]+\.\d+)\.log")
 
 
 class Keeper:
@@ -33,11 +33,12 @@ class Keeper:
                     os.unlink(os.path.join(folder, name))
 
     def keep(self, order: str, log: Log, judged: Order) -> None:
-        """Keeps what one interleaving showed."""
+        """Keeps what one interleaving showed. One without a call is kept as `none`."""
+        order = order or "none"
         for clause in judged.clauses:
             _write(os.path.join(self._findings, clause), f"{order}.log", log.encoded())
         if self._whole is not None:
-            folder = os.path.join(self._whole, order or "none")
+            folder = os.path.join(self._whole, order)
             statuses = "".join(f"{side} ended with {shown(status)}\n" for side, status in judged.statuses.items())
             _write(folder, "log", log.encoded())
             _write(folder, "statuses", statuses.encode())

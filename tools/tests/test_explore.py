@@ -122,6 +122,12 @@ class Kept(RoomTest):
         Keeper(findings, None)
         self.assertEqual(self.there(), of_whole)
 
+    def test_an_order_without_a_call(self):
+        Keeper(str(self.room), None).keep("", Log([b"maildir_log 1"], [], {}, {}), Order({"A": 0, "B": 0}, ["AnsweredFalsely"]))
+        self.assertEqual(self.there(), ["AnsweredFalsely/none.log"])
+        Keeper(str(self.room), None)
+        self.assertEqual(self.there(), [])
+
 
 class Table(unittest.TestCase):
     BROKEN = {"Gone": Broken("AB", b"", Finding(5, "Gone"), 1, frozenset("A")), "Mixed": Broken("BA", b"", Finding(4, "Mixed"), 2)}
@@ -137,6 +143,11 @@ class Table(unittest.TestCase):
     def test_a_command_without_a_call_is_told(self):
         explored = Explored({"AA": Order({"A": 0, "B": 0}, [])}, 0, True, {})
         self.assertIn("no call         B: never called in a maildir", table(explored, {}))
+
+    def test_an_order_without_a_call_is_named(self):
+        explored = Explored({"": Order({"A": 0, "B": 0}, ["Gone"])}, 0, True, {"Gone": Broken("", b"", Finding(1, "Gone"), 1)})
+        self.assertEqual([line.split(": ")[0] for line in table(explored, {}) if "first in" in line],
+                         ["ends A 0 B 0    in 1, first in none", "Gone            1, first in none"])
 
     def test_json_is_as_its_schema_says(self):
         told = json.loads(json.dumps(as_json(self.EXPLORED, {})))
