@@ -144,6 +144,9 @@ def check(made: dict[str, str]) -> None:
 
 def keep(names: list[str]) -> None:
     """Runs the scenes of these names, or all of the page, and keeps what they did."""
+    for name in names:
+        if name not in [race.kept for race in RACES if race.kept]:
+            raise Refused(f"{name}: no race of the page has this scene")
     for race in RACES:
         if race.kept and (not names or race.kept in names):
             one = record(read_scenes([race.kept])[0], race.allowed, tell)

@@ -274,6 +274,10 @@ file box/tmp/1795880646.M1P2Q3.vm 1795880646
         with self.assertRaisesRegex(Refused, "tools/races --record none"):
             kept.read_kept("none")
 
+    def test_a_scene_of_no_race_is_refused(self) -> None:
+        with self.assertRaisesRegex(Refused, "none: no race of the page has this scene"):
+            command.keep(["none"])
+
     def test_a_page_that_is_not_what_is_made_is_refused(self) -> None:
         with self.assertRaisesRegex(Refused, "docs/races.html is not what"):
             command.check({command.PAGE: "another"})
