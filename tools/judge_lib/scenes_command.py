@@ -101,6 +101,7 @@ def _own_home() -> Iterator[None]:
         try:
             yield
         finally:
+            del os.environ["HOME"]
             if former is not None:
                 os.environ["HOME"] = former
 

@@ -186,12 +186,13 @@ class Scenes(RoomTest):
         self.assertEqual(status(None), (1, "scenes: safecat: left out: not installed: safecat\nscenes: no scene was run\n"))
 
     def test_programs_have_a_home_of_their_own(self):
-        before, seen = os.environ.get("HOME"), []
-        with scenes_command._own_home():
-            seen.append(os.environ["HOME"])
-            self.assertEqual(os.listdir(seen[0]), [])
-        self.assertEqual(os.environ.get("HOME"), before)
-        self.assertFalse(os.path.exists(seen[0]))
+        for before in ({}, {"HOME": "/home"}):
+            with self.subTest(before), mock.patch.dict(os.environ, before, clear=True):
+                with scenes_command._own_home():
+                    own = os.environ["HOME"]
+                    self.assertEqual(os.listdir(own), [])
+                self.assertEqual(dict(os.environ), before)
+                self.assertFalse(os.path.exists(own))
 
     def test_program(self):
         run = subprocess.run([sys.executable, TOOLS / "scenes", "--list", "mdeliver"], capture_output=True, text=True, check=False)
