@@ -94,12 +94,12 @@ def is_maildir(directory: bytes) -> bool:
 
 
 def named_folders(words: List[bytes], base: bytes) -> List[Folder]:
-    """The folders of words `DIR` or `NAME=DIR`. Without a name a folder has the last step of its directory's path. Where nothing is there
-    yet, the command has to make it."""
+    """The folders of words `DIR` or `NAME=DIR`. Without a name a folder has the last step of its directory's path; a name has no slash. Where
+    nothing is there yet, the command has to make it."""
     folders = []
     for word in words:
         name, is_named, directory = word.rpartition(b"=")
-        if is_named and os.path.isdir(os.path.join(base, word)):
+        if b"/" in name or is_named and os.path.isdir(os.path.join(base, word)):
             name, directory = b"", word
         directory = os.path.join(base, directory)
         is_to_be_made = not os.path.lexists(directory)

@@ -470,6 +470,7 @@ class Tree(RoomTest):
     def test_folders(self):
         self.assertEqual([folder.name for folder in named_folders([b"box", b"far=deep/box"], self.base)], [b"box", b"far"])
         self.assertTrue(named_folders([b"none"], self.base)[0].is_to_be_made)
+        self.assertEqual(named_folders([b"deep/a=box"], self.base), [(b"a=box", os.path.join(self.base, b"deep/a=box"), True)])
         for words in [[b"deep"], [b"box", b"deep/box"]]:
             with self.assertRaises(Refused):
                 named_folders(words, self.base)
