@@ -82,4 +82,5 @@ def _found(allowed: Iterable[str], **given: Any) -> List[Dict[str, Any]]:
     run = subprocess.run([deolmutt(), "judge", "--json", *words], capture_output=True, check=False, **given)
     if run.returncode not in (0, 1):
         raise Refused(f"the judge ended with status {run.returncode}: {run.stderr.decode('utf-8', 'replace').strip()}")
-    return [json.loads(line) for line in run.stdout.decode().splitlines()]
+    # A name may have characters at which lines of text end too, as U+2028.
+    return [json.loads(line) for line in run.stdout.splitlines()]

@@ -121,14 +121,14 @@ def kept_of(runs: list[Run], allowed: tuple[str, ...]) -> dict[str, Any]:
             "lines": [lines.setdefault(fixed(step, names), len(lines)) for _, step in steps],
             "printed": {side: fixed(text, names) for side, text in run.printed.items() if text},
         })
-    head = [re.sub(r" \d+$", " 1000", line) for line in runs[0].log.splitlines() if re.match("(?:folder|file|also) ", line)]
+    head = [re.sub(r" \d+$", " 1000", line) for line in runs[0].log.split("\n") if re.match("(?:folder|file|also) ", line)]
     return {"head": head, "lines": list(lines), "orders": orders}
 
 
 def steps_of(log: str) -> Iterator[tuple[int, str]]:
     """The numbers of the lines that are steps, and what they say: calls, looks, answers and ends. A part of a reading that shows nothing
     and ends nothing is none."""
-    for number, line in enumerate(log.splitlines(), 1):
+    for number, line in enumerate(log.split("\n"), 1):
         found = re.match(r"(?:\d+ (?=[AB] )|# (?=[AB] (?:looks at|ends with) ))(.*)", line)
         if found and not re.fullmatch(r". list \S+ \S+ more", found[1]):
             yield number, found[1]

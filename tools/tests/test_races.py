@@ -197,6 +197,7 @@ file box/tmp/1795880646.M1P2Q3.vm 1795880646
     def test_names_and_moments_are_fixed(self) -> None:
         found = [line for _, line in record.steps_of(self.LOG)]
         self.assertEqual(found[0], "A list box new ok")
+        self.assertEqual(list(record.steps_of("folder box\u2028\n1 A list box\u2028 new ok\n")), [(2, "A list box\u2028 new ok")])
         names: dict[str, str] = {}
         fixed = [record.fixed(line, names) for line in found]
         made = "1000.M1P7.host"

@@ -2,6 +2,7 @@
 
 import contextlib
 import io
+import json
 import os
 import subprocess
 import sys
@@ -13,7 +14,7 @@ from judge_lib import outcomes, results, scene, scenes_command, staging
 from judge_lib.claims import read_claim
 from judge_lib.exploring import Bounds
 from judge_lib.grades import GRADES
-from judge_lib.judge_run import Finding, judge, deolmutt
+from judge_lib.judge_run import Finding, judge, judge_file, deolmutt
 from judge_lib.refused import Refused
 from judge_lib.results import Results
 from judge_lib.scene import FOLDER, read_scene, read_scenes
@@ -170,6 +171,12 @@ class Scenes(RoomTest):
                 judge(b"no log\n")
         with mock.patch.dict(os.environ, {"DEOLMUTT": "/nowhere"}), self.assertRaisesRegex(Refused, "/nowhere: is no program"):
             deolmutt()
+
+    def test_a_name_at_whose_characters_lines_of_text_end(self):
+        found = {"line": 3, "clause": "Gone", "actor": "a", "call": "unlink box/cur/\u2028 ok", "why": "it goes", "before": None}
+        program = self.program("judge", f"#!/bin/sh\ncat <<'END'\n{json.dumps(found, ensure_ascii=False)}\nEND\nexit 1\n")
+        with mock.patch.dict(os.environ, {"DEOLMUTT": str(program)}):
+            self.assertEqual([told.call for told in judge_file(os.devnull, ())], [found["call"]])
 
     def test_a_scene_that_can_not_be_run_is_no_good_run(self):
         """Nor is a run of no scene at all."""
