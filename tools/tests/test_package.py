@@ -71,6 +71,11 @@ class ContentsTest(unittest.TestCase):
             if word.startswith("bin/deolmutt-"):
                 self.assertIn(f"share/deolmutt/tools/{word.partition('-')[2]}", tools)
 
+    def test_no_tool_leaves_bytecode_where_it_is_installed(self) -> None:
+        tools = [source for _, mode, source, _ in contents._rows(contents.OTHERS) if mode == "755" and source.startswith("tools/")]
+        for source in set(tools) - {"tools/package_lib/tool.sh"}:
+            self.assertIn("\nsys.dont_write_bytecode = True\n", (contents.TOP / source).read_text(encoding="utf-8"), source)
+
     def test_each_program_has_a_manual_page(self) -> None:
         words = [*contents.OTHERS.read_text(encoding="utf-8").split(), *contents.PROGRAMS.read_text(encoding="utf-8").split()]
         programs = [word.partition("/")[2] for word in words if word.startswith("bin/")]
