@@ -1,16 +1,19 @@
-"""What the tests of the tools share: the tools on the path, a folder for each test, tools that are loaded as modules, and the programs that
-they play by, which must be built."""
+"""What the tests of the tools share: the tools on the path, a folder for each test, tools that are loaded as modules or run in this process, and
+the programs that they play by, which must be built."""
 
 from __future__ import annotations
 
+import contextlib
 import importlib.machinery
 import importlib.util
+import io
 import os
 import sys
 import tempfile
 import unittest
 from pathlib import Path
 from types import ModuleType
+from typing import Callable
 
 sys.dont_write_bytecode = True
 
@@ -29,6 +32,13 @@ def loaded(tool: str) -> ModuleType:
     module = importlib.util.module_from_spec(importlib.util.spec_from_loader(loader.name, loader))
     loader.exec_module(module)
     return module
+
+
+def ran(main: Callable[..., int], *given: object) -> tuple[int, str, str]:
+    """How a tool ends in this process, what it prints, and what it says on standard error."""
+    with contextlib.redirect_stdout(io.StringIO()) as printed, contextlib.redirect_stderr(io.StringIO()) as said:
+        status = main(*given)
+    return status, printed.getvalue(), said.getvalue()
 
 
 class RoomTest(unittest.TestCase):

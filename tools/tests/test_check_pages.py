@@ -1,10 +1,8 @@
 """Tests of tools/check_pages: what pages quote, where their links lead, and the words of those with a budget."""
 
-import contextlib
-import io
 from unittest import mock
 
-from shared import TOP, RoomTest, loaded
+from shared import TOP, RoomTest, loaded, ran
 
 check_pages = loaded("check_pages")
 
@@ -90,16 +88,13 @@ class Pages(RoomTest):
     def test_the_status_and_what_is_printed(self):
         for text, status in (("amid", 1), ("during", 0)):
             self.write("a.md", text)
-            tree = mock.patch.multiple(check_pages, TOP=self.room, BUDGETS={"a.md": 1}, QUOTING=[])
-            with tree, contextlib.redirect_stdout(io.StringIO()) as printed:
-                self.assertEqual(check_pages.main([]), status)
-            self.assertEqual(len(printed.getvalue().splitlines()), status)
+            with mock.patch.multiple(check_pages, TOP=self.room, BUDGETS={"a.md": 1}, QUOTING=[]):
+                ended, printed, _ = ran(check_pages.main, [])
+            self.assertEqual((ended, len(printed.splitlines())), (status, status))
 
     def test_its_help(self):
         for arguments, status in ((["--help"], 0), (["page"], 64)):
-            with contextlib.redirect_stdout(io.StringIO()) as printed:
-                self.assertEqual(check_pages.main(arguments), status)
-            self.assertEqual(printed.getvalue(), check_pages.__doc__)
+            self.assertEqual(ran(check_pages.main, arguments)[:2], (status, check_pages.__doc__))
 
     def test_the_list_of_the_repository_is_read(self):
         dropped = check_pages.words.dropped_by((TOP / "CONTRIBUTING.md").read_text(encoding="utf-8"))

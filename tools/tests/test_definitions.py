@@ -1,9 +1,6 @@
 """Tests of tools/make-definitions: what has a row, and that a page which isn't as it is made, or lacks what it has to say, is told."""
 
-import contextlib
-import io
-
-from shared import RoomTest, loaded
+from shared import RoomTest, loaded, ran
 
 make_definitions = loaded("make-definitions")
 
@@ -184,14 +181,11 @@ class Definitions(RoomTest):
             make_definitions.Page(self.room)
 
     def test_wrong_words_are_refused(self):
-        said = io.StringIO()
-        with contextlib.redirect_stderr(said):
-            self.assertEqual(make_definitions.main(["--chek"], self.room), 64)
-        self.assertIn("make-definitions [--check]", said.getvalue())
+        status, _, said = ran(make_definitions.main, ["--chek"], self.room)
+        self.assertEqual(status, 64)
+        self.assertIn("make-definitions [--check]", said)
 
     def test_a_refusal_ends_with_status_1(self):
         self.put("tools/definitions.txt", "@row Pair\n")
-        said = io.StringIO()
-        with contextlib.redirect_stdout(said):
-            self.assertEqual(make_definitions.main(["--check"], self.room), 1)
-        self.assertEqual(said.getvalue(), "tools/definitions.txt: no table stands before @row Pair\n")
+        said = "tools/definitions.txt: no table stands before @row Pair\n"
+        self.assertEqual(ran(make_definitions.main, ["--check"], self.room)[:2], (1, said))

@@ -1,12 +1,10 @@
 """The law over histories, evaluated by its definitions: it finds in the logs of judge_examples what the proved judge has to find."""
 
-import contextlib
-import io
 import re
 import unittest
 from pathlib import Path
 
-from shared import TOP, RoomTest
+from shared import TOP, RoomTest, ran
 
 from judge_lib.refused import Refused
 from judge_lib.results import Results
@@ -91,19 +89,14 @@ class Owed(RoomTest):
             ("10 p unlink a/tmp/u ok\n", "NotADirectory by p (1)", 1),
         ]:
             log.write_text(text)
-            with contextlib.redirect_stdout(io.StringIO()) as printed:
-                self.assertEqual(main([str(log)]), status)
-            self.assertEqual(printed.getvalue(), f"{log}: {said}\n")
+            self.assertEqual(ran(main, [str(log)])[:2], (status, f"{log}: {said}\n"))
         log.write_text("file a/tmp/u x\n")
-        with contextlib.redirect_stderr(io.StringIO()):
-            self.assertEqual(main([str(log)]), 2)
+        self.assertEqual(ran(main, [str(log)])[0], 2)
 
     def test_the_table_has_a_row_for_each_program(self) -> None:
         linked = b"file box/cur/u:2,S 1\n10 s-nail link box/cur/u:2,S box/cur/u:2,FS ok\n"
         logs = {"s-nail-flag": linked, "s-nail-move": b"", "mlist-beside-mv": b""}
         for scene in read_scenes(list(logs)):
             Results(str(self.room)).keep(Outcome(scene, "1", 1, True, [], logs[scene.name]))
-        with contextlib.redirect_stdout(io.StringIO()) as printed:
-            self.assertEqual(main(["--scenes", str(self.room)]), 0)
-        rows = printed.getvalue().splitlines()[4:]
-        self.assertEqual(rows, ["| `s-nail`, s-nail 1 | 2 | `TwoNames` (flags one message, deletes another) |"])
+        status, printed, _ = ran(main, ["--scenes", str(self.room)])
+        self.assertEqual((status, printed.splitlines()[4:]), (0, ["| `s-nail`, s-nail 1 | 2 | `TwoNames` (flags one message, deletes another) |"]))

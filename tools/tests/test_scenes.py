@@ -1,14 +1,12 @@
 """Tests of tools/scenes: the files of scenes, and the table of what they showed."""
 
-import contextlib
-import io
 import json
 import os
 import subprocess
 import sys
 from unittest import mock
 
-from shared import TOOLS, RoomTest
+from shared import TOOLS, RoomTest, ran
 
 from judge_lib import outcomes, results, scene, scenes_command, staging
 from judge_lib.claims import read_claim
@@ -185,9 +183,8 @@ class Scenes(RoomTest):
             with mock.patch.object(scenes_command, "strace"), mock.patch.object(scenes_command, "deolmutt"), \
                     mock.patch.object(scenes_command, "version_of", return_value=version), \
                     mock.patch.object(scene, "version_of", return_value=version), \
-                    mock.patch.object(scenes_command, "stage", side_effect=stages or shown), \
-                    contextlib.redirect_stdout(io.StringIO()), contextlib.redirect_stderr(io.StringIO()) as said:
-                return scenes_command.main(["safecat"]), said.getvalue()
+                    mock.patch.object(scenes_command, "stage", side_effect=stages or shown):
+                return ran(scenes_command.main, ["safecat"])[::2]
         self.assertEqual(status("1"), (0, ""))
         self.assertEqual(status("1", Refused("safecat: sh ended with status 1:\nit said")), (1, "scenes: safecat: sh ended with status 1:\nit said\n"))
         self.assertEqual(status(None), (1, "scenes: safecat: left out: not installed: safecat\nscenes: no scene was run\n"))

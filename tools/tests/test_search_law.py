@@ -1,13 +1,11 @@
 """The search for a job of ours that breaks its promise: it finds none, and it finds what is planted."""
 
-import contextlib
-import io
 import os
 import re
 import subprocess
 import unittest
 
-from shared import DEOLMUTT, TOP, RoomTest
+from shared import DEOLMUTT, TOP, RoomTest, ran
 
 from judge_lib.names import Path
 from law_lib.histories import Between, List
@@ -205,8 +203,7 @@ class Randomly(unittest.TestCase):
 
 class Command(RoomTest):
     def said(self, *words: str) -> tuple[int, str]:
-        with contextlib.redirect_stdout(io.StringIO()) as printed:
-            return main(words), printed.getvalue()
+        return ran(main, words)[:2]
 
     def test_it_says_what_it_did(self) -> None:
         status, said = self.said("--foreign", "1", "expunge", "copymove")
@@ -217,10 +214,9 @@ class Command(RoomTest):
         status, said = self.said("--without", "TwoNames", "--log", str(log), "expunge")
         self.assertEqual((status, said[said.index("maildir_log") :]), (1, log.read_text()))
         self.assertIn(f"# beside others that keep what they owe, but for TwoNames: {ALONE}\n", said)
-        with contextlib.redirect_stderr(io.StringIO()):
-            self.assertEqual(self.said("--without", "TwoNames", "--log", str(self.room), "expunge")[0], 2)
-            with self.assertRaises(SystemExit):
-                main(["nowhere"])
+        self.assertEqual(self.said("--without", "TwoNames", "--log", str(self.room), "expunge")[0], 2)
+        with self.assertRaises(SystemExit):
+            self.said("nowhere")
 
     @unittest.skipUnless(os.access(DEOLMUTT, os.X_OK), "deolmutt is not built")
     def test_the_judge_reads_what_is_printed(self) -> None:
