@@ -8,11 +8,13 @@ import email.message
 import io
 import mailbox
 import warnings
+from functools import partial
 from typing import Any, Callable, NamedTuple
 
 from support import MESSAGE, maildir_message, outcome
 
 OTHER = b"Subject: two\n\nBye.\n"
+EIGHT_BIT = b"Content-Type: text/plain; charset=utf-8\nContent-Transfer-Encoding: 8bit\n\n\xc3\xa4\n"
 MARK = object()
 
 
@@ -29,19 +31,28 @@ class Row(NamedTuple):
 ROWS: list[Row] = []
 
 
-def row(sentence: str, expected: Any, is_of_flags: bool = False) -> Callable[[Any], Any]:
+def is_so(sentence: str, expected: Any, tried: Callable[[Any], Any], is_of_flags: bool = False) -> None:
+    """Adds a row."""
+    ROWS.append(Row(sentence, expected, tried, is_of_flags))
+
+
+# The same for a row of flags and info by key.
+is_so_of_flags = partial(is_so, is_of_flags=True)
+
+
+def row(sentence: str, expected: Any, is_of_flags: bool = False) -> Callable[[Callable[[Any], Any]], Any]:
     """Makes a function a row."""
-
-    def keep(tried: Callable[[Any], Any]) -> Callable[[Any], Any]:
-        ROWS.append(Row(sentence, expected, tried, is_of_flags))
-        return tried
-
-    return keep
+    return lambda tried: is_so(sentence, expected, tried, is_of_flags)
 
 
-def flags_row(sentence: str, expected: Any) -> Callable[[Any], Any]:
-    """Makes a function a row of flags and info by key."""
-    return row(sentence, expected, is_of_flags=True)
+flags_row = partial(row, is_of_flags=True)
+
+
+def filled(box: Any, *messages: Any) -> Any:
+    """A mailbox to which messages are added."""
+    for message in messages:
+        box.add(message)
+    return box
 
 
 def shown(message: Any) -> tuple[str, str, str, float]:
@@ -51,10 +62,7 @@ def shown(message: Any) -> tuple[str, str, str, float]:
 
 # The interface: class Mailbox.
 
-
-@row("It is a Mailbox", True)
-def _(box: Any) -> Any:
-    return isinstance(box, mailbox.Mailbox)
+is_so("It is a Mailbox", True, lambda box: isinstance(box, mailbox.Mailbox))
 
 
 @row("A key identifies a message also after another was put in its place", (True, OTHER, 1))
@@ -86,19 +94,14 @@ def _(box: Any) -> Any:
     return box[key].get_payload()
 
 
-@row("The iterator goes over messages, not keys", ["MaildirMessage", "MaildirMessage"])
-def _(box: Any) -> Any:
-    box.add(MESSAGE)
-    box.add(OTHER)
-    return [type(message).__name__ for message in box]
+is_so("The iterator goes over messages, not keys", ["MaildirMessage", "MaildirMessage"],
+      lambda box: [type(message).__name__ for message in filled(box, MESSAGE, OTHER)])
 
 
 @row("An iterator does not see messages that are added after its first", 2)
 def _(box: Any) -> Any:
-    box.add(MESSAGE)
-    box.add(OTHER)
     seen = 0
-    for _ in box.iterkeys():
+    for _ in filled(box, MESSAGE, OTHER).iterkeys():
         box.add(MESSAGE)
         seen += 1
     return seen
@@ -118,8 +121,7 @@ def _(box: Any) -> Any:
 
 @row("A key of an iterator may raise KeyError once its message is removed", KeyError)
 def _(box: Any) -> Any:
-    box.add(MESSAGE)
-    key = next(box.iterkeys())
+    key = next(filled(box, MESSAGE).iterkeys())
     box.remove(key)
     return outcome(box.__getitem__, key)
 
@@ -127,18 +129,18 @@ def _(box: Any) -> Any:
 # add.
 
 
-# What is said of an added message, how it is made, and the bytes that it then has.
-ADDED: tuple[tuple[str, Callable[[], Any], bytes], ...] = (
-    ("add takes a string", lambda: MESSAGE.decode("ascii"), MESSAGE),
-    ("add takes a byte string", lambda: MESSAGE, MESSAGE),
-    ("add takes a file that is open for reading bytes", lambda: io.BytesIO(MESSAGE), MESSAGE),
-    ("The lines of a file end as on this system", lambda: io.BytesIO(b"a\r\nb\nc"), b"a\nb\nc"),
-    ("The line ends of a byte string stay", lambda: b"a\r\nb\nc\rd", b"a\r\nb\nc\rd"),
-    ("add takes an email.message.Message", lambda: email.message_from_bytes(MESSAGE), MESSAGE),
-    ("add takes a mailbox.Message", lambda: mailbox.Message(MESSAGE), MESSAGE),
-)
-for sentence, made, added in ADDED:
-    row(sentence, added)(lambda box, made=made: box.get_bytes(box.add(made())))
+def added(box: Any, message: Any) -> Any:
+    """The bytes of a message that is added."""
+    return box.get_bytes(box.add(message))
+
+
+is_so("add takes a string", MESSAGE, lambda box: added(box, MESSAGE.decode("ascii")))
+is_so("add takes a byte string", MESSAGE, lambda box: added(box, MESSAGE))
+is_so("add takes a file that is open for reading bytes", MESSAGE, lambda box: added(box, io.BytesIO(MESSAGE)))
+is_so("The lines of a file end as on this system", b"a\nb\nc", lambda box: added(box, io.BytesIO(b"a\r\nb\nc")))
+is_so("The line ends of a byte string stay", b"a\r\nb\nc\rd", lambda box: added(box, b"a\r\nb\nc\rd"))
+is_so("add takes an email.message.Message", MESSAGE, lambda box: added(box, email.message_from_bytes(MESSAGE)))
+is_so("add takes a mailbox.Message", MESSAGE, lambda box: added(box, mailbox.Message(MESSAGE)))
 
 
 @row("add takes a text file, with a warning", (MESSAGE, DeprecationWarning))
@@ -149,24 +151,14 @@ def _(box: Any) -> Any:
     return box.get_bytes(key), met[0].category
 
 
-@row("add refuses a string that is not ASCII", (ValueError, 0))
-def _(box: Any) -> Any:
-    return outcome(box.add, "Subject: \u00e4\n\n"), len(box)
-
-
-@row("add refuses what is no message", ([TypeError] * 3, 0))
-def _(box: Any) -> Any:
-    return [outcome(box.add, wrong) for wrong in (None, 1, ["a"])], len(box)
-
-
-@row("The information of a MaildirMessage is used", ("Hello.\n", "cur", "FRS", 1e9))
-def _(box: Any) -> Any:
-    return shown(box[box.add(maildir_message("SFR", "cur"))])
-
-
-@row("The date of a MaildirMessage in new is used", ("Hello.\n", "new", "", 1e9))
-def _(box: Any) -> Any:
-    return shown(box[box.add(maildir_message())])
+is_so("add refuses a string that is not ASCII", (ValueError, 0),
+      lambda box: (outcome(box.add, "Subject: \u00e4\n\n"), len(box)))
+is_so("add refuses what is no message", ([TypeError] * 3, 0),
+      lambda box: ([outcome(box.add, wrong) for wrong in (None, 1, ["a"])], len(box)))
+is_so("The information of a MaildirMessage is used", ("Hello.\n", "cur", "FRS", 1e9),
+      lambda box: shown(box[box.add(maildir_message("SFR", "cur"))]))
+is_so("The date of a MaildirMessage in new is used", ("Hello.\n", "new", "", 1e9),
+      lambda box: shown(box[box.add(maildir_message())]))
 
 
 @row("The information of an mboxMessage is used by way of a MaildirMessage", ("cur", "FS"))
@@ -201,30 +193,17 @@ def _(box: Any) -> Any:
     return len(box)
 
 
-@row("discard deletes a message", 0)
-def _(box: Any) -> Any:
-    box.discard(box.add(MESSAGE))
-    return len(box)
-
-
-@row("remove and del raise KeyError where there is no such message, and discard nothing",
-     (KeyError, KeyError, None))
-def _(box: Any) -> Any:
-    return outcome(box.remove, "a"), outcome(box.__delitem__, "a"), outcome(box.discard, "a")
-
-
-@row("A message of cur with flags is deleted as well", 0)
-def _(box: Any) -> Any:
-    box.remove(box.add(maildir_message("FT", "cur")))
-    return len(box)
+is_so("discard deletes a message", (None, 0), lambda box: (box.discard(box.add(MESSAGE)), len(box)))
+is_so("remove and del raise KeyError where there is no such message, and discard nothing", (KeyError, KeyError, None),
+      lambda box: (outcome(box.remove, "a"), outcome(box.__delitem__, "a"), outcome(box.discard, "a")))
+is_so("A message of cur with flags is deleted as well", (None, 0),
+      lambda box: (box.remove(box.add(maildir_message("FT", "cur"))), len(box)))
 
 
 # Assignment.
 
-
-@row("An assignment raises KeyError where there is no such message, and adds none", (KeyError, 0))
-def _(box: Any) -> Any:
-    return outcome(box.__setitem__, "a", MESSAGE), len(box)
+is_so("An assignment raises KeyError where there is no such message, and adds none", (KeyError, 0),
+      lambda box: (outcome(box.__setitem__, "a", MESSAGE), len(box)))
 
 
 @row("An assignment takes all that add takes", [OTHER] * 5)
@@ -288,9 +267,7 @@ def _(box: Any) -> Any:
 
 @row("itervalues is an iterator over messages, and values a list of them", (True, ["Bye.\n", "Hello.\n"], list))
 def _(box: Any) -> Any:
-    box.add(MESSAGE)
-    box.add(OTHER)
-    iterator = box.itervalues()
+    iterator = filled(box, MESSAGE, OTHER).itervalues()
     payloads = sorted(message.get_payload() for message in iterator)
     return iter(iterator) is iterator, payloads, type(box.values())
 
@@ -303,14 +280,9 @@ def _(box: Any) -> Any:
     return iter(iterator) is iterator, found == bodies, type(box.items())
 
 
-@row("An empty mailbox has none of them", ([], [], [], 0, []))
-def _(box: Any) -> Any:
-    return box.keys(), box.values(), box.items(), len(box), list(box)
-
-
-@row("in says whether a key is of a message", (True, False))
-def _(box: Any) -> Any:
-    return box.add(MESSAGE) in box, "a" in box
+is_so("An empty mailbox has none of them", ([], [], [], 0, []),
+      lambda box: (box.keys(), box.values(), box.items(), len(box), list(box)))
+is_so("in says whether a key is of a message", (True, False), lambda box: (box.add(MESSAGE) in box, "a" in box))
 
 
 @row("len counts the messages", [0, 1, 2])
@@ -331,20 +303,12 @@ def _(box: Any) -> Any:
     return type(box[key]), type(box.get(key))
 
 
-@row("get answers its default where there is no message, and [] raises KeyError", (None, True, KeyError))
-def _(box: Any) -> Any:
-    return box.get("a"), box.get("a", MARK) is MARK, outcome(box.__getitem__, "a")
-
-
-@row("get_message, get_bytes, get_string and get_file raise KeyError where there is none", [KeyError] * 4)
-def _(box: Any) -> Any:
-    forms = box.get_message, box.get_bytes, box.get_string, box.get_file
-    return [outcome(form, "a") for form in forms]
-
-
-@row("get_message answers a MaildirMessage", ("Hello.\n", "cur", "RS", 1e9))
-def _(box: Any) -> Any:
-    return shown(box.get_message(box.add(maildir_message("SR", "cur"))))
+is_so("get answers its default where there is no message, and [] raises KeyError", (None, True, KeyError),
+      lambda box: (box.get("a"), box.get("a", MARK) is MARK, outcome(box.__getitem__, "a")))
+is_so("get_message, get_bytes, get_string and get_file raise KeyError where there is none", [KeyError] * 4,
+      lambda box: [outcome(form, "a") for form in (box.get_message, box.get_bytes, box.get_string, box.get_file)])
+is_so("get_message answers a MaildirMessage", ("Hello.\n", "cur", "RS", 1e9),
+      lambda box: shown(box.get_message(box.add(maildir_message("SR", "cur")))))
 
 
 @row("get_bytes answers bytes", (bytes, MESSAGE))
@@ -353,15 +317,8 @@ def _(box: Any) -> Any:
     return type(found), found
 
 
-@row("get_string answers a string", MESSAGE.decode("ascii"))
-def _(box: Any) -> Any:
-    return box.get_string(box.add(MESSAGE))
-
-
-@row("get_string is 7bit clean", True)
-def _(box: Any) -> Any:
-    body = b"Content-Type: text/plain; charset=utf-8\nContent-Transfer-Encoding: 8bit\n\n\xc3\xa4\n"
-    return box.get_string(box.add(body)).isascii()
+is_so("get_string answers a string", MESSAGE.decode("ascii"), lambda box: box.get_string(box.add(MESSAGE)))
+is_so("get_string is 7bit clean", True, lambda box: box.get_string(box.add(EIGHT_BIT)).isascii())
 
 
 @row("get_file answers a file of bytes", (MESSAGE, b"Subject: one\n", 4, [b"Hello.\n"]))
@@ -386,23 +343,12 @@ def _(box: Any) -> Any:
 
 # clear, pop, popitem, update.
 
-
-@row("clear deletes all messages", 0)
-def _(box: Any) -> Any:
-    for message in (MESSAGE, OTHER, maildir_message("S", "cur")):
-        box.add(message)
-    box.clear()
-    return len(box)
-
-
-@row("pop answers a message and deletes it", ("Hello.\n", 0))
-def _(box: Any) -> Any:
-    return box.pop(box.add(MESSAGE)).get_payload(), len(box)
-
-
-@row("pop answers its default where there is none", (None, True))
-def _(box: Any) -> Any:
-    return box.pop("a"), box.pop("a", MARK) is MARK
+is_so("clear deletes all messages", (None, 0),
+      lambda box: (filled(box, MESSAGE, OTHER, maildir_message("S", "cur")).clear(), len(box)))
+is_so("pop answers a message and deletes it", ("Hello.\n", 0),
+      lambda box: (box.pop(box.add(MESSAGE)).get_payload(), len(box)))
+is_so("pop answers its default where there is none", (None, True),
+      lambda box: (box.pop("a"), box.pop("a", MARK) is MARK))
 
 
 @row("popitem answers a key with its message, and deletes it", (True, "Hello.\n", 0))
@@ -412,9 +358,7 @@ def _(box: Any) -> Any:
     return key == added, message.get_payload(), len(box)
 
 
-@row("popitem raises KeyError where the mailbox is empty", KeyError)
-def _(box: Any) -> Any:
-    return outcome(box.popitem)
+is_so("popitem raises KeyError where the mailbox is empty", KeyError, lambda box: outcome(box.popitem))
 
 
 @row("update takes a mapping of keys to messages", [OTHER, b"x"])
@@ -437,36 +381,21 @@ def _(box: Any) -> Any:
     return outcome(box.update, [("a", OTHER), (key, OTHER)]), box.get_bytes(key), len(box)
 
 
-@row("update takes no keywords", TypeError)
-def _(box: Any) -> Any:
-    return outcome(lambda: box.update(a=MESSAGE))
+is_so("update takes no keywords", TypeError, lambda box: outcome(lambda: box.update(a=MESSAGE)))
 
 
 # flush, lock, unlock, close.
 
-
-@row("Changes are there at once, and flush does nothing", (None, 1))
-def _(box: Any) -> Any:
-    box.add(MESSAGE)
-    return box.flush(), len(box)
-
-
-@row("lock and unlock do nothing, however often", [None] * 4)
-def _(box: Any) -> Any:
-    return [box.lock(), box.lock(), box.unlock(), box.unlock()]
-
-
-@row("close answers nothing", None)
-def _(box: Any) -> Any:
-    return box.close()
+is_so("Changes are there at once, and flush does nothing", (None, 1),
+      lambda box: (filled(box, MESSAGE).flush(), len(box)))
+is_so("lock and unlock do nothing, however often", [None] * 4,
+      lambda box: [box.lock(), box.lock(), box.unlock(), box.unlock()])
+is_so("close answers nothing", None, lambda box: box.close())
 
 
 # class Maildir: folders.
 
-
-@row("A new mailbox has no folders", [])
-def _(box: Any) -> Any:
-    return box.list_folders()
+is_so("A new mailbox has no folders", [], lambda box: box.list_folders())
 
 
 @row("list_folders answers the names of all folders, without their dots", ["Sent", "a.b"])
@@ -494,9 +423,8 @@ def _(box: Any) -> Any:
     return box.get_folder("Sent").get_bytes(key), len(box)
 
 
-@row("get_folder raises NoSuchMailboxError where there is none", mailbox.NoSuchMailboxError)
-def _(box: Any) -> Any:
-    return outcome(box.get_folder, "Sent")
+is_so("get_folder raises NoSuchMailboxError where there is none", mailbox.NoSuchMailboxError,
+      lambda box: outcome(box.get_folder, "Sent"))
 
 
 @row("A folder may hold folders", (["in"], [], ["out"]))
@@ -525,12 +453,8 @@ def _(box: Any) -> Any:
     return outcome(box.remove_folder, "out")
 
 
-@row("remove_folder of none raises what a missing directory does", True)
-def _(box: Any) -> Any:
-    try:
-        box.remove_folder("Sent")
-    except FileNotFoundError:
-        return True
+is_so("remove_folder of none raises what a missing directory does", FileNotFoundError,
+      lambda box: outcome(box.remove_folder, "Sent"))
 
 
 @row("A folder that was emptied and removed may be made again, empty", 0)
@@ -541,23 +465,14 @@ def _(box: Any) -> Any:
     return len(box.add_folder("Sent"))
 
 
-@row("clean leaves messages where they are", (None, 1))
-def _(box: Any) -> Any:
-    box.add(MESSAGE)
-    return box.clean(), len(box)
-
-
-@row("colon is what stands before info", ":")
-def _(box: Any) -> Any:
-    return box.colon
+is_so("clean leaves messages where they are", (None, 1), lambda box: (filled(box, MESSAGE).clean(), len(box)))
+is_so("colon is what stands before info", ":", lambda box: box.colon)
 
 
 # Flags and info by key: since Python 3.13.
 
-
-@flags_row("get_flags answers the flags of a message", ("FS", ""))
-def _(box: Any) -> Any:
-    return [box.get_flags(box.add(message)) for message in (maildir_message("SF", "cur"), MESSAGE)]
+is_so_of_flags("get_flags answers the flags of a message", ("FS", ""),
+               lambda box: [box.get_flags(box.add(message)) for message in (maildir_message("SF", "cur"), MESSAGE)])
 
 
 @flags_row("get_flags does not see what is changed in a message", "S")
@@ -567,14 +482,22 @@ def _(box: Any) -> Any:
     return box.get_flags(key)
 
 
-@flags_row("set_flags sets flags and unsets all others", ["RT", "", "P"])
-def _(box: Any) -> Any:
-    key = box.add(maildir_message("FS", "cur"))
+def changed(box: Any, change: Callable[[str, str], None], before: str, *given: str) -> list[str]:
+    """The flags of a message after each change of them."""
+    key = box.add(maildir_message(before, "cur"))
     found = []
-    for flags in ("TR", "", "PP"):
-        box.set_flags(key, flags)
+    for flags in given:
+        change(key, flags)
         found.append(box.get_flags(key))
     return found
+
+
+is_so_of_flags("set_flags sets flags and unsets all others", ["RT", "", "P"],
+               lambda box: changed(box, box.set_flags, "FS", "TR", "", "PP"))
+is_so_of_flags("add_flag adds a flag, or some, and leaves the others", ["FS", "FPRS", "FPRS"],
+               lambda box: changed(box, box.add_flag, "S", "F", "RP", ""))
+is_so_of_flags("remove_flag takes a flag, or some, away, and leaves the others", ["PRS", "S", "S"],
+               lambda box: changed(box, box.remove_flag, "FPRS", "F", "RP", "T"))
 
 
 @flags_row("set_flags is as an assignment of the message with these flags", True)
@@ -587,26 +510,6 @@ def _(box: Any) -> Any:
     return shown(box[first]) == shown(box[second])
 
 
-@flags_row("add_flag adds a flag, or some, and leaves the others", ["FS", "FPRS", "FPRS"])
-def _(box: Any) -> Any:
-    key = box.add(maildir_message("S", "cur"))
-    found = []
-    for flags in ("F", "RP", ""):
-        box.add_flag(key, flags)
-        found.append(box.get_flags(key))
-    return found
-
-
-@flags_row("remove_flag takes a flag, or some, away, and leaves the others", ["PRS", "S", "S"])
-def _(box: Any) -> Any:
-    key = box.add(maildir_message("FPRS", "cur"))
-    found = []
-    for flags in ("F", "RP", "T"):
-        box.remove_flag(key, flags)
-        found.append(box.get_flags(key))
-    return found
-
-
 @flags_row("get_info and set_info are of what stands after the colon", ["2,FS", "2,T", "2,"])
 def _(box: Any) -> Any:
     key = box.add(maildir_message("FS", "cur"))
@@ -617,9 +520,7 @@ def _(box: Any) -> Any:
     return found
 
 
-@flags_row("A message that was just added has no info", "")
-def _(box: Any) -> Any:
-    return box.get_info(box.add(MESSAGE))
+is_so_of_flags("A message that was just added has no info", "", lambda box: box.get_info(box.add(MESSAGE)))
 
 
 @flags_row("Flags and info by key raise KeyError where there is no such message", [KeyError] * 6)
@@ -632,5 +533,4 @@ def _(box: Any) -> Any:
 @flags_row("Flags and info by key are strings, else TypeError", [TypeError] * 4)
 def _(box: Any) -> Any:
     key = box.add(maildir_message("S", "cur"))
-    changes = box.set_flags, box.set_info, box.add_flag, box.remove_flag
-    return [outcome(change, key, 1) for change in changes]
+    return [outcome(change, key, 1) for change in (box.set_flags, box.set_info, box.add_flag, box.remove_flag)]

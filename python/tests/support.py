@@ -22,22 +22,19 @@ from deolmutt._library import library  # noqa: E402
 from deolmutt.errors import LibraryMissing  # noqa: E402
 
 
-def why_not() -> str:
-    """Why the library can't be used, or nothing."""
-    try:
-        library()
-    except LibraryMissing as error:
-        return str(error)
-    return ""
+# Why the library can't be used, or nothing.
+WHY_NOT = ""
+try:
+    library()
+except LibraryMissing as missing:
+    WHY_NOT = str(missing)
+needs_library = unittest.skipIf(WHY_NOT, f"the library isn't built: {WHY_NOT}")
 
 
 def library_path() -> str:
     """Where the library is."""
     return os.path.abspath(library()._name)
 
-
-WHY_NOT = why_not()
-needs_library = unittest.skipIf(WHY_NOT, f"the library isn't built: {WHY_NOT}")
 
 MESSAGE = b"Subject: one\nFrom: a@example.org\n\nHello.\n"
 
@@ -62,10 +59,16 @@ class Case(unittest.TestCase):
         self.addCleanup(folder.cleanup)
         self.folder = pathlib.Path(folder.name)
 
+    def assert_each_raises(self, kind: type[Exception], *calls: Callable[[], object]) -> None:
+        """Asserts that each of some calls raises an exception of a kind."""
+        for number, call in enumerate(calls):
+            with self.subTest(kind=kind.__name__, call=number), self.assertRaises(kind):
+                call()
+
 
 def outcome(function: Callable[..., Any], *given: Any) -> Any:
     """What a function answers, or the kind of exception that it raises, as users catch it."""
-    kinds = (mailbox.NoSuchMailboxError, mailbox.NotEmptyError, KeyError, TypeError, ValueError)
+    kinds = (mailbox.NoSuchMailboxError, mailbox.NotEmptyError, FileNotFoundError, KeyError, TypeError, ValueError)
     try:
         return function(*given)
     except kinds as error:

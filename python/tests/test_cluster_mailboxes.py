@@ -16,18 +16,7 @@ from deolmutt.errors import BadUnique, BodyTooLong, NameUsed, NoFolder, NotThere
 if not NO_DASK:
     from distributed import Client
 
-    from deolmutt.cluster import (
-        Mailboxes,
-        MissingShard,
-        NoSnapshot,
-        NoWorker,
-        OtherShards,
-        OtherStore,
-        OtherVersion,
-        ShardLost,
-        WrongChecksum,
-        shard_of,
-    )
+    from deolmutt.cluster import Mailboxes, errors, shard_of
     from deolmutt.cluster.records import Records
 
 USERS = [b"user%d" % number for number in range(200)]
@@ -65,8 +54,7 @@ class MailboxesTest(ClusterCase):
         self.assertEqual("2.b", boxes.copy("ann", "1.a", "2.b", folder="archive"))
         self.assertEqual(["1.a:2,FS", "2.b:2,FS"], [boxes.list("ann", it)[0].name for it in ("archive", "inbox")])
         self.assertEqual(b"Subject: one\n\n", boxes.read("ann", "2.b"))
-        with self.assertRaises(NotTrashed):
-            boxes.expunge("ann", "2.b")
+        self.assertRaises(NotTrashed, boxes.expunge, "ann", "2.b")
         boxes.flag("ann", "2.b", "T")
         boxes.expunge("ann", "2.b")
         self.assertEqual([], boxes.list("ann"))
@@ -78,8 +66,7 @@ class MailboxesTest(ClusterCase):
             (NoFolder, lambda: boxes.list("ann", "none")),
             (BodyTooLong, lambda: boxes.deliver("ann", bytes(MOST_BYTES + 1))),
         ):
-            with self.assertRaises(refused):
-                call()
+            self.assertRaises(refused, call)
 
     def test_users_of_any_bytes(self) -> None:
         boxes = self.mailboxes(4)
@@ -96,8 +83,7 @@ class MailboxesTest(ClusterCase):
         boxes.deliver("ann", b"x", "1.a")
         boxes.deliver("bob", b"y", "2.a")
         for user, unique in (("bob", "1.a"), ("ann", "2.a"), ("none", "1.a")):
-            with self.assertRaises(NotThere):
-                boxes.read(user, unique)
+            self.assertRaises(NotThere, boxes.read, user, unique)
 
     def test_a_move_stays_in_one_store(self) -> None:
         boxes = self.mailboxes(2)
@@ -105,8 +91,7 @@ class MailboxesTest(ClusterCase):
         there = next(user for user in USERS if shard_of(user, 2) == 1)
         boxes.deliver(here, b"x", "1.a")
         for call in (boxes.move, boxes.copy):
-            with self.assertRaises(OtherStore):
-                call(here, "1.a", to=there)
+            self.assertRaises(errors.OtherStore, call, here, "1.a", to=there)
         boxes.move(here, "1.a", to=beside)
         self.assertEqual(b"x", boxes.read(beside, "1.a"))
         # A store has 64 folders: a shard's 65th user is in another one.
@@ -114,8 +99,7 @@ class MailboxesTest(ClusterCase):
         for at, user in enumerate(USERS[:65]):
             crowd.deliver(user, b"x", f"{at}.a")
         crowd.move(USERS[0], "0.a", to=USERS[63])
-        with self.assertRaises(OtherStore):
-            crowd.move(USERS[1], "1.a", to=USERS[64])
+        self.assertRaises(errors.OtherStore, crowd.move, USERS[1], "1.a", to=USERS[64])
 
     def test_it_settles_by_itself(self) -> None:
         boxes = self.mailboxes(1)
@@ -137,11 +121,9 @@ class MailboxesTest(ClusterCase):
         too_long = bytes(MOST_BYTES + 1)
         for refused, wrong, body in ((NameUsed, "0.a", b""), (BadUnique, "a\0b", b""), (BodyTooLong, "a", too_long)):
             first, second = f"1.{refused.__name__}", f"2.{refused.__name__}"
-            with self.assertRaises(refused):
-                boxes.deliver_many("bob", [b"x", body, b"yz"], [first, wrong, second])
+            self.assertRaises(refused, boxes.deliver_many, "bob", [b"x", body, b"yz"], [first, wrong, second])
             self.assertEqual([b"x", b"yz"], [boxes.read("bob", name) for name in (first, second)])
-        with self.assertRaises(TypeError):
-            boxes.deliver_many("bob", [b"x", 5], ["8.a", "9.a"])
+        self.assertRaises(TypeError, boxes.deliver_many, "bob", [b"x", 5], ["8.a", "9.a"])
         self.assertEqual(6, len(boxes.list("bob")))
 
     def test_refused_ones_amid_a_batch_that_settles(self) -> None:
@@ -150,22 +132,18 @@ class MailboxesTest(ClusterCase):
         # A name that is used before it settles, after that, and at the end.
         for at in (5, 10_003, 11_999):
             names[at] = "4.a"
-        with self.assertRaises(NameUsed):
-            boxes.deliver_many("ann", [b"x"] * len(names), names)
+        self.assertRaises(NameUsed, boxes.deliver_many, "ann", [b"x"] * len(names), names)
         self.assertEqual(set(names), {entry.unique for entry in boxes.list("ann")})
         self.assertEqual([(1, 11_997)], boxes.counts())
 
-    def test_a_client_that_sends_by_the_scheduler(self) -> None:
-        address = self.client.scheduler.address
-        with Client(address, direct_to_workers=False, set_as_default=False) as client, Mailboxes(client, 2) as boxes:
-            names = boxes.deliver_many("ann", [b"x" * 50_000, b"y"])
-            self.assertEqual([b"x" * 50_000, b"y"], [boxes.read("ann", name) for name in names])
-
-    def test_a_worker_in_the_same_process(self) -> None:
-        how = {"processes": False, "n_workers": 1, "threads_per_worker": 1, "dashboard_address": None}
-        with Client(set_as_default=False, **how) as client, Mailboxes(client, 2) as boxes:
-            names = boxes.deliver_many("ann", [b"x" * 50_000, b"y"])
-            self.assertEqual([b"x" * 50_000, b"y"], [boxes.read("ann", name) for name in names])
+    def test_a_client_that_sends_by_the_scheduler_and_a_worker_in_the_same_process(self) -> None:
+        for how in (
+            {"address": self.client.scheduler.address, "direct_to_workers": False},
+            {"processes": False, "n_workers": 1, "threads_per_worker": 1, "dashboard_address": None},
+        ):
+            with self.subTest(how), Client(set_as_default=False, **how) as client, Mailboxes(client, 2) as boxes:
+                names = boxes.deliver_many("ann", [b"x" * 50_000, b"y"])
+                self.assertEqual([b"x" * 50_000, b"y"], [boxes.read("ann", name) for name in names])
 
     def test_the_largest_message(self) -> None:
         boxes = self.mailboxes(2)
@@ -182,15 +160,13 @@ class MailboxesTest(ClusterCase):
         boxes = self.mailboxes(2)
         boxes.deliver("ann", b"y", "1.a")
         other.close()
-        with self.assertRaises(ShardLost):
-            gone.deliver("ann", b"x")
+        self.assertRaises(errors.ShardLost, gone.deliver, "ann", b"x")
         self.assertEqual(b"y", boxes.read("ann", "1.a"))
 
     def test_what_is_closed_is_lost(self) -> None:
         boxes = self.mailboxes(1)
         boxes.close()
-        with self.assertRaises(ShardLost):
-            boxes.list("ann")
+        self.assertRaises(errors.ShardLost, boxes.list, "ann")
 
 
 @needs_cluster
@@ -234,19 +210,18 @@ class SnapshotTest(ClusterCase):
         store = self.folder / said["shards"][0]["stores"][0]["file"]
         whole = store.read_bytes()
         for refused, spoil in (
-            (WrongChecksum, lambda: store.write_bytes(whole[:-2] + b"!\n")),
-            (WrongChecksum, lambda: store.write_bytes(whole[:-1])),
-            (MissingShard, store.unlink),
-            (MissingShard, lambda: self.write({**said, "shards": said["shards"][:1] + said["shards"][2:]})),
-            (OtherVersion, lambda: self.write({**said, "version": 2})),
-            (OtherShards, lambda: self.write({**said, "shards": said["shards"][:2]})),
-            (OtherShards, lambda: self.write({**said, "folders": ["inbox"]})),
-            (NoSnapshot, (self.folder / "manifest.json").unlink),
+            (errors.WrongChecksum, lambda: store.write_bytes(whole[:-2] + b"!\n")),
+            (errors.WrongChecksum, lambda: store.write_bytes(whole[:-1])),
+            (errors.MissingShard, store.unlink),
+            (errors.MissingShard, lambda: self.write({**said, "shards": said["shards"][:1] + said["shards"][2:]})),
+            (errors.OtherVersion, lambda: self.write({**said, "version": 2})),
+            (errors.OtherShards, lambda: self.write({**said, "shards": said["shards"][:2]})),
+            (errors.OtherShards, lambda: self.write({**said, "folders": ["inbox"]})),
+            (errors.NoSnapshot, (self.folder / "manifest.json").unlink),
         ):
             with self.subTest(refused.__name__):
                 spoil()
-                with self.assertRaises(refused):
-                    boxes.restore(self.folder)
+                self.assertRaises(refused, boxes.restore, self.folder)
                 store.write_bytes(whole)
                 self.write(said)
         # Nothing was changed.
@@ -279,7 +254,7 @@ class Deliverer(threading.Thread):
                 try:
                     self.boxes.deliver(USERS[number % 50], b"%d" % number, f"{number}.a")
                     self.answered.append(number)
-                except ShardLost as error:
+                except errors.ShardLost as error:
                     self.lost[number] = error
         except BaseException as error:
             self.other.append(error)
@@ -338,14 +313,11 @@ class LostWorkerTest(ClusterCase):
         sent = boxes._sent(0, "deliver_many", user, 0, Records.of(names, [bytes(2000)] * 9000))
         worker.kill()
         began = time.monotonic()
-        with self.assertRaises(ShardLost):
-            boxes._answer(sent)
-        with self.assertRaises(ShardLost):
-            boxes.list(user)
+        self.assertRaises(errors.ShardLost, boxes._answer, sent)
+        self.assertRaises(errors.ShardLost, boxes.list, user)
         self.assertLess(time.monotonic() - began, MOST_SECONDS_TO_BE_LOST)
         # Without a snapshot there is nothing to restore.
-        with self.assertRaises(NoSnapshot):
-            boxes.restore(shard=0)
+        self.assertRaises(errors.NoSnapshot, boxes.restore, shard=0)
         time.sleep(1)
         self.assertEqual("error", boxes._shards[0].future.status)
 
@@ -361,10 +333,8 @@ class LostWorkerTest(ClusterCase):
         sent = boxes._sent(0, "snapshot", 0, str(self.folder))
         self.until(lambda: self.files() != files)
         worker.kill()
-        with self.assertRaises(ShardLost):
-            boxes._answer(sent)
-        with self.assertRaises(ShardLost):
-            boxes.snapshot(self.folder)
+        self.assertRaises(errors.ShardLost, boxes._answer, sent)
+        self.assertRaises(errors.ShardLost, boxes.snapshot, self.folder)
         self.assertEqual(manifest, (self.folder / "manifest.json").read_bytes())
         boxes.restore(shard=0)
         self.assertEqual(["old.a"], [entry.unique for entry in boxes.list(user)])
@@ -394,10 +364,8 @@ class LostSchedulerTest(unittest.TestCase):
         cluster.scheduler.kill()
         for worker in cluster.workers:
             worker.kill()
-        with self.assertRaises(ShardLost):
-            boxes.deliver("ann", b"y")
-        with self.assertRaises((NoSnapshot, NoWorker)):
-            boxes.restore()
+        self.assertRaises(errors.ShardLost, boxes.deliver, "ann", b"y")
+        self.assertRaises((errors.NoSnapshot, errors.NoWorker), boxes.restore)
 
 
 if __name__ == "__main__":

@@ -77,8 +77,7 @@ class ExploreTest(ClusterCase):
     SETUP = "mkdir -p box/tmp box/new box/cur; echo > box/cur/u:2,S"
 
     def test_what_the_tool_refuses(self) -> None:
-        with self.assertRaises(ToolRefused):
-            explore(self.client, ("true", "true"), self.folder / "x", setup="exit 3")
+        self.assertRaises(ToolRefused, explore, self.client, ("true", "true"), self.folder / "x", setup="exit 3")
 
     @unittest.skipUnless(shutil.which("strace"), "strace is not here")
     @unittest.skipUnless(os.access(DEOLMUTT, os.X_OK), f"deolmutt is not built: {DEOLMUTT}; DEOLMUTT may name it")

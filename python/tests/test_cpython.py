@@ -24,42 +24,27 @@ OTHER_INFO = "it gives a message info that is no flags"
 NO_DISK = "it looks at the disk, where a mailbox in memory has nothing"
 PRIVATE = "it calls what is private to mailbox.Maildir"
 NEW_WITH_FLAGS = "it gives flags to messages that are to stay in new"
+NO_PATH = "it opens the path again, and this mailbox has none"
+READ_LONG_AGO = "it calls a file old that was written this moment, as read long ago"
+# The names of tests, after their `test_`, by the reason.
 LEFT_OUT = {
-    "test_add_MM": OTHER_INFO,
-    "test_create_tmp": PRIVATE,
-    "test_file_permissions": PRIVATE,
-    "test_get_info": OTHER_INFO,
-    "test_lookup": PRIVATE,
-    "test_refresh": PRIVATE,
-    "test_refresh_after_safety_period": PRIVATE,
-    "test_reread": PRIVATE,
-    "test_set_info": OTHER_INFO,
-    "test_set_MM": NEW_WITH_FLAGS,
+    OTHER_INFO: "add_MM get_info set_info",
+    PRIVATE: "create_tmp file_permissions lookup refresh refresh_after_safety_period reread",
+    NEW_WITH_FLAGS: "set_MM",
 }
-LEFT_OUT_IN_MEMORY = {
-    **LEFT_OUT,
-    "test_clean": NO_DISK,
-    "test_directory_in_folder": NO_DISK,
-    "test_folder_file_perms": NO_DISK,
-    "test_get_folder": NO_DISK,
-    "test_initialize_new": NO_DISK,
-}
-LEFT_OUT_WITHOUT_A_PATH = {
-    **LEFT_OUT_IN_MEMORY,
-    "test_close": "it opens the path again, and this mailbox has none",
-    "test_consistent_factory": "it opens the path again, and this mailbox has none",
-    "test_flush": "it opens the path again, and this mailbox has none",
-}
-LEFT_OUT_ON_THE_DISK = {**LEFT_OUT, "test_clean": "it calls a file old that was written this moment, as read long ago"}
+LEFT_OUT_IN_MEMORY = {**LEFT_OUT, NO_DISK: "clean directory_in_folder folder_file_perms get_folder initialize_new"}
+LEFT_OUT_WITHOUT_A_PATH = {**LEFT_OUT_IN_MEMORY, NO_PATH: "close consistent_factory flush"}
+LEFT_OUT_ON_THE_DISK = {**LEFT_OUT, READ_LONG_AGO: "clean"}
 
 
 def leaves_out(reasons: dict[str, str]) -> Callable[[Any], Any]:
     """Leaves tests of a class out."""
 
     def mark(case: Any) -> Any:
-        for name, reason in reasons.items():
-            if hasattr(case, name):
-                setattr(case, name, unittest.skip(reason)(getattr(case, name)))
+        for reason, names in reasons.items():
+            for name in (f"test_{name}" for name in names.split()):
+                if hasattr(case, name):
+                    setattr(case, name, unittest.skip(reason)(getattr(case, name)))
         return case
 
     return mark

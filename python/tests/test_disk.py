@@ -5,39 +5,19 @@ from __future__ import annotations
 import mailbox
 import os
 import pathlib
-import random
 import time
 import unittest
 from typing import Any, Callable
 from unittest import mock
 
-from rows import ROWS
 from support import MESSAGE, Case, maildir_message, needs_library
-from test_documentation import plain_lists
-from test_random import Both
 
 import deolmutt
-from deolmutt import _readings, _running, disk_maildir
-from deolmutt.calls import Clean, Deliver, Flag, Move
+from deolmutt import _readings, _running, disk_maildir, errors
+from deolmutt.calls import Answer, Call, Clean, Deliver, Flag, Move
 from deolmutt.driven import CUR, DONE, LINK, LIST, NOT_FOUND, Driven
-from deolmutt.errors import (
-    AskedBefore,
-    BadUnique,
-    Closed,
-    Failed,
-    Fault,
-    NameTaken,
-    NotAsked,
-    NotThere,
-    OtherInfo,
-    Restless,
-    SameFolder,
-    TwoNames,
-)
 
 HOURS_37 = 37 * 3600
-SEEDS = range(3)
-CALLS = 40
 
 
 class DiskCase(Case):
@@ -55,6 +35,9 @@ class DiskCase(Case):
 
     def names(self, place: str) -> list[str]:
         return sorted(os.listdir(self.path / place))
+
+    def run_job(self, call: Call) -> Answer:
+        return _running.run(call, [os.fsencode(self.path)])
 
 
 @needs_library
@@ -111,10 +94,8 @@ class BesideCPythonTest(DiskCase):
             self.assertNotIn(key, self.box)
         self.assertEqual([], self.names("new") + self.names("cur"))
         self.box.discard(keys[0])
-        with self.assertRaises(KeyError):
-            self.box.remove(keys[0])
-        with self.assertRaises(KeyError):
-            self.box.add_flag(keys[0], "S")
+        self.assertRaises(KeyError, self.box.remove, keys[0])
+        self.assertRaises(KeyError, self.box.add_flag, keys[0], "S")
         for other in ("", "a/b", ".x", 7):
             self.assertNotIn(other, self.box)
 
@@ -152,14 +133,11 @@ class BesideCPythonTest(DiskCase):
         key = sent.add(MESSAGE)
         self.assertEqual(["Sent"], self.box.list_folders())
         self.assertEqual([key], self.other.get_folder("Sent").keys())
-        with self.assertRaises(mailbox.NotEmptyError):
-            self.box.remove_folder("Sent")
+        self.assertRaises(mailbox.NotEmptyError, self.box.remove_folder, "Sent")
         self.box.get_folder("Sent").clear()
         self.box.remove_folder("Sent")
-        with self.assertRaises(mailbox.NoSuchMailboxError):
-            self.box.get_folder("Sent")
-        with self.assertRaises(FileNotFoundError):
-            self.box.remove_folder("Sent")
+        self.assertRaises(mailbox.NoSuchMailboxError, self.box.get_folder, "Sent")
+        self.assertRaises(FileNotFoundError, self.box.remove_folder, "Sent")
 
     def test_a_folder_that_is_not_empty_stays(self) -> None:
         for stray in ("keep", "cur/u:2,", "new/.dir", ".Sub"):
@@ -175,28 +153,8 @@ class BesideCPythonTest(DiskCase):
         (self.path / "cur/u:2,").mkdir()
         self.assertEqual([], self.box.keys())
         self.assertNotIn("u", self.box)
-        with self.assertRaises(KeyError):
-            self.box.add_flag("u", "S")
+        self.assertRaises(KeyError, self.box.add_flag, "u", "S")
         self.assertEqual(["u:2,"], self.names("cur"))
-
-    def test_what_the_documentation_says(self) -> None:
-        for number, row in enumerate(ROWS):
-            with self.subTest(row.sentence):
-                box = deolmutt.DiskMaildir(self.folder / str(number))
-                self.assertEqual(plain_lists(row.tried(box)), plain_lists(row.expected))
-
-    def test_random_calls(self) -> None:
-        for seed in SEEDS:
-            ours, theirs = deolmutt.DiskMaildir(self.folder / f"ours{seed}"), mailbox.Maildir(self.folder / f"theirs{seed}")
-            both = Both(random.Random(seed), ours, theirs)
-            for call in range(CALLS):
-                with self.subTest(seed=seed, call=call):
-                    for answers in (both.make_a_call(), both.held()):
-                        self.assertEqual(answers[1], answers[0])
-
-    def test_every_public_name_is_there(self) -> None:
-        names = {name for name in dir(mailbox.Maildir) if not name.startswith("_")}
-        self.assertLessEqual(names, set(dir(deolmutt.DiskMaildir)))
 
     def test_the_clean(self) -> None:
         old, young = self.path / "tmp/old", self.path / "tmp/young"
@@ -209,47 +167,36 @@ class BesideCPythonTest(DiskCase):
 
     def test_a_clean_that_may_not_look(self) -> None:
         (self.path / "tmp/old").write_bytes(MESSAGE)
-        folders = [os.fsencode(self.path)]
-        with mock.patch.object(os, "lstat", side_effect=PermissionError), self.assertRaises(Fault):
-            _running.run(Clean(0), folders)
+        with mock.patch.object(os, "lstat", side_effect=PermissionError):
+            self.assertRaises(errors.Fault, self.run_job, Clean(0))
         with mock.patch.object(os, "lstat", side_effect=FileNotFoundError):
-            self.assertEqual(0, _running.run(Clean(0), folders).removed)
+            self.assertEqual(0, self.run_job(Clean(0)).removed)
 
 
 @needs_library
 class MeanwhileTest(DiskCase):
     """Another program changes the maildir between two calls of a job."""
 
-    def between(self, meanwhile: Callable[[], None]) -> Any:
-        """Lets another program do something once, right before the next rename."""
-        rename = _running._rename
+    def flagged_meanwhile(self, place: str) -> Any:
+        """Lets another program give the only message of a directory the flag R, in cur, right before the next rename."""
+        rename, left = _running._rename, [self.path / place]
 
-        def first(path: bytes, target: bytes) -> int:
-            meanwhile()
+        def renamed(path: bytes, target: bytes) -> int:
+            if left:
+                [file] = left.pop().iterdir()
+                os.rename(file, self.path / "cur" / (file.name.partition(":")[0] + ":2,R"))
             return rename(path, target)
 
-        return mock.patch.object(_running, "_rename", _Once(first, rename))
+        return mock.patch.object(_running, "_rename", renamed)
 
     def test_no_flag_of_another_program_is_lost(self) -> None:
-        key = self.box.add(maildir_message("", "cur"))
-        cur = self.path / "cur"
-
-        def meanwhile() -> None:
-            os.rename(cur / (key + ":2,"), cur / (key + ":2,S"))
-
-        with self.between(meanwhile):
-            self.box.add_flag(key, "F")
-        self.assertEqual([key + ":2,FS"], self.names("cur"))
-
-    def test_a_message_that_goes_to_cur_is_met_there(self) -> None:
-        key = self.box.add(MESSAGE)
-
-        def meanwhile() -> None:
-            os.rename(self.path / "new" / key, self.path / "cur" / (key + ":2,R"))
-
-        with self.between(meanwhile):
-            self.box.add_flag(key, "F")
-        self.assertEqual([key + ":2,FR"], self.names("cur"))
+        messages: dict[str, Any] = {"cur": maildir_message("", "cur"), "new": MESSAGE}
+        for place, message in messages.items():
+            key = self.box.add(message)
+            with self.subTest(place), self.flagged_meanwhile(place):
+                self.box.add_flag(key, "F")
+            self.assertEqual([key + ":2,FR"], self.names("cur"))
+            self.box.remove(key)
 
     def test_a_name_that_is_there_is_not_replaced(self) -> None:
         key = self.box.add(maildir_message("", "cur"))
@@ -259,16 +206,13 @@ class MeanwhileTest(DiskCase):
             mock.patch.object(os.path, "lexists", lambda path: False),
         )
         for way in ways:
-            with way, self.assertRaises(Fault):
-                self.box.add_flag(key, "F")
+            with way:
+                self.assertRaises(errors.Fault, self.box.add_flag, key, "F")
             self.assertEqual(b"another", (self.path / "cur" / (key + ":2,F")).read_bytes())
 
     def test_other_info_is_kept(self) -> None:
         (self.path / "cur/u:1,x").write_bytes(MESSAGE)
-        changes: tuple[Callable[[], Any], ...] = (lambda: self.box.add_flag("u", "F"), lambda: self.box.remove("u"))
-        for change in changes:
-            with self.assertRaises(OtherInfo):
-                change()
+        self.assert_each_raises(errors.OtherInfo, lambda: self.box.add_flag("u", "F"), lambda: self.box.remove("u"))
         self.assertEqual("1,x", self.box.get_info("u"))
 
     def test_names_of_any_bytes(self) -> None:
@@ -286,16 +230,14 @@ class MeanwhileTest(DiskCase):
         self.assertEqual([MESSAGE, MESSAGE], [message.as_bytes() for message in self.box])
         self.box.add_flag(spaced, "S")
         self.assertEqual(("S", ""), (self.box.get_flags(spaced), self.box.get_flags(long)))
-        with self.assertRaises(BadUnique):
-            self.box.remove(long)
+        self.assertRaises(errors.BadUnique, self.box.remove, long)
         for key in ("v" * 201, "\ud800", "u:2,"):
-            with self.assertRaises(KeyError):
-                self.box.remove(key)
+            self.assertRaises(KeyError, self.box.remove, key)
 
     def test_a_message_whose_name_always_changes_is_not_said_to_be_gone(self) -> None:
         key = self.box.add(MESSAGE)
-        with mock.patch.object(disk_maildir, "open", side_effect=FileNotFoundError, create=True), self.assertRaises(Restless):
-            self.box.get_bytes(key)
+        with mock.patch.object(disk_maildir, "open", side_effect=FileNotFoundError, create=True):
+            self.assertRaises(errors.Restless, self.box.get_bytes, key)
 
     def test_a_directory_whose_time_is_to_come(self) -> None:
         key = self.box.add(MESSAGE)
@@ -317,27 +259,20 @@ class MeanwhileTest(DiskCase):
         self.assertNotEqual(before, _readings._changed_at(cur))
 
     def test_a_directory_that_never_rests_says_nothing(self) -> None:
-        with mock.patch.object(_readings._Watch, "rested_since", lambda watch: None), mock.patch.object(
-            _readings, "_READINGS", 2
-        ):
-            with self.assertRaises(Restless):
-                self.box.keys()
-            with self.assertRaises(Restless):
-                "none" in self.box
-            with self.assertRaises(Fault):
-                _running.run(Flag(0, "none", "F"), [os.fsencode(self.path)])
+        changing = mock.patch.object(_readings, "_changed_at", lambda directory: None)
+        with changing, mock.patch.object(_readings, "_READINGS", 2):
+            self.assert_each_raises(errors.Restless, self.box.keys, lambda: "none" in self.box)
+            self.assertRaises(errors.Fault, self.run_job, Flag(0, "none", "F"))
 
     def test_a_name_that_is_taken(self) -> None:
-        folders = [os.fsencode(self.path)]
-        _running.run(Deliver(0, "u", MESSAGE), folders)
-        with self.assertRaises(NameTaken):
-            _running.run(Deliver(0, "u", b"two"), folders)
+        self.run_job(Deliver(0, "u", MESSAGE))
+        self.assertRaises(errors.NameTaken, self.run_job, Deliver(0, "u", b"two"))
         self.assertEqual([], self.names("tmp"))
         self.assertEqual(MESSAGE, self.box.get_bytes("u"))
 
     def test_a_disk_that_refuses(self) -> None:
         with mock.patch.object(os, "fsync", side_effect=OSError(5, "no")):
-            with self.assertRaises(Fault) as raised:
+            with self.assertRaises(errors.Fault) as raised:
                 self.box.add(MESSAGE)
         cause = raised.exception.__cause__
         assert isinstance(cause, OSError)
@@ -345,43 +280,31 @@ class MeanwhileTest(DiskCase):
         self.assertEqual([], self.names("tmp") + self.names("new"))
 
     def test_causes(self) -> None:
-        folders = [os.fsencode(self.path)]
-        with self.assertRaises(NotThere) as raised:
-            _running.run(Flag(0, "u", "F"), folders)
+        with self.assertRaises(errors.NotThere) as raised:
+            self.run_job(Flag(0, "u", "F"))
         self.assertIsNone(raised.exception.__cause__)
         for name in ("u:2,", "u:2,S"):
             (self.path / "cur" / name).write_bytes(MESSAGE)
-        with self.assertRaises(Fault) as failed:
-            _running.run(Flag(0, "u", "F"), folders)
-        self.assertIsInstance(failed.exception.__cause__, TwoNames)
+        with self.assertRaises(errors.Fault) as failed:
+            self.run_job(Flag(0, "u", "F"))
+        self.assertIsInstance(failed.exception.__cause__, errors.TwoNames)
         os.rmdir(self.path / "tmp")
-        with self.assertRaises(Failed) as refused:
-            _running.run(Deliver(0, "v", MESSAGE), folders)
+        with self.assertRaises(errors.Failed) as refused:
+            self.run_job(Deliver(0, "v", MESSAGE))
         self.assertIsInstance(refused.exception.__cause__, FileNotFoundError)
 
     def test_no_directory_to_move_to(self) -> None:
         """The message stays, and is not taken for one that is gone."""
         (self.path / "cur/u:2,").write_bytes(MESSAGE)
         (self.path / "other").mkdir()
-        with self.assertRaises(Fault) as raised:
+        with self.assertRaises(errors.Fault) as raised:
             _running.run(Move(0, "u", 1), [os.fsencode(self.path), os.fsencode(self.path / "other")])
         self.assertIsInstance(raised.exception.__cause__, FileNotFoundError)
         self.assertEqual(["u:2,"], self.names("cur"))
 
 
-class _Once:
-    """A function at its first call, and another one from then on."""
-
-    def __init__(self, first: Callable[..., int], rest: Callable[..., int]) -> None:
-        self._functions = [first]
-        self._rest = rest
-
-    def __call__(self, *given: bytes) -> int:
-        return (self._functions.pop() if self._functions else self._rest)(*given)
-
-
 @needs_library
-class DrivenTest(unittest.TestCase):
+class DrivenTest(DiskCase):
     def test_a_flag(self) -> None:
         with Driven(Flag(3, "u", "F", "S")) as job:
             job.ask(1000)
@@ -394,7 +317,7 @@ class DrivenTest(unittest.TestCase):
             asked = job.request()
             self.assertEqual((b"u:2,PS", 3, CUR, b"u:2,FP"), (asked.name, asked.to_folder, asked.to_place, asked.other))
             answer = job.take(DONE)
-            assert answer is not None and not isinstance(answer, Failed)
+            assert answer is not None and not isinstance(answer, errors.Failed)
             self.assertEqual("FP", answer.flags)
 
     def test_a_delivery(self) -> None:
@@ -410,35 +333,18 @@ class DrivenTest(unittest.TestCase):
 
     def test_the_order(self) -> None:
         job = Driven(Clean(0))
-        calls: tuple[Callable[[], Any], ...] = (job.request, lambda: job.row(b"u"), lambda: job.take(DONE))
-        for call in calls:
-            with self.assertRaises(NotAsked):
-                call()
+        self.assert_each_raises(errors.NotAsked, job.request, lambda: job.row(b"u"), lambda: job.take(DONE))
         job.ask(1)
-        with self.assertRaises(AskedBefore):
-            job.ask(1)
+        self.assertRaises(errors.AskedBefore, job.ask, 1)
         job.close()
-        with self.assertRaises(Closed):
-            job.ask(1)
+        self.assertRaises(errors.Closed, job.ask, 1)
 
     def test_refusals(self) -> None:
-        with self.assertRaises(SameFolder):
-            Driven(Move(0, "u", 0))
+        self.assertRaises(errors.SameFolder, Driven, Move(0, "u", 0))
         with Driven(Move(0, "u", 1)) as job:
             job.ask(1)
-            self.assertIsInstance(job.take(NOT_FOUND), Fault)
-        with self.assertRaises(NotThere):
-            _running.run(Flag(0, "u", "F"), [os.fsencode(_empty(self))])
-
-
-def _empty(case: unittest.TestCase) -> str:
-    """A maildir without messages."""
-    import tempfile
-
-    folder = tempfile.TemporaryDirectory()
-    case.addCleanup(folder.cleanup)
-    deolmutt.DiskMaildir(os.path.join(folder.name, "box"))
-    return os.path.join(folder.name, "box")
+            self.assertIsInstance(job.take(NOT_FOUND), errors.Fault)
+        self.assertRaises(errors.NotThere, self.run_job, Flag(0, "u", "F"))
 
 
 if __name__ == "__main__":

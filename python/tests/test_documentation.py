@@ -1,11 +1,13 @@
-"""The mailbox beside CPython's `mailbox.Maildir`: what its documentation says is so of both."""
+"""The mailboxes beside CPython's `mailbox.Maildir`: what its documentation says is so of each."""
 
 from __future__ import annotations
 
 import mailbox
+import pathlib
 import unittest
+from typing import Any, Callable
 
-from rows import ROWS
+from rows import ROWS, Row
 from support import Case, needs_library
 
 import deolmutt
@@ -17,25 +19,31 @@ _ROWS_OF_CPYTHON = [row for row in ROWS if hasattr(mailbox.Maildir, "get_flags")
 
 @needs_library
 class DocumentationTest(Case):
-    def test_each_row_is_so_of_this_mailbox(self) -> None:
-        for row in ROWS:
-            with self.subTest(row.sentence), deolmutt.Maildir() as box:
+    def assert_each_row(self, rows: list[Row], box_of: Callable[[pathlib.Path], Any]) -> None:
+        for number, row in enumerate(rows):
+            with self.subTest(row.sentence):
+                box = box_of(self.folder / str(number))
                 self.assertEqual(plain_lists(row.tried(box)), plain_lists(row.expected))
 
+    def test_each_row_is_so_of_the_mailbox_in_memory(self) -> None:
+        self.assert_each_row(ROWS, lambda _: deolmutt.Maildir())
+
+    def test_each_row_is_so_of_the_mailbox_on_a_disk(self) -> None:
+        self.assert_each_row(ROWS, deolmutt.DiskMaildir)
+
     def test_each_row_is_so_of_cpythons_mailbox(self) -> None:
-        for number, row in enumerate(_ROWS_OF_CPYTHON):
-            box = mailbox.Maildir(self.folder / str(number))
-            with self.subTest(row.sentence):
-                self.assertEqual(plain_lists(row.tried(box)), plain_lists(row.expected))
+        self.assert_each_row(_ROWS_OF_CPYTHON, mailbox.Maildir)
 
     def test_every_public_name_is_there(self) -> None:
         names = {name for name in dir(mailbox.Maildir) if not name.startswith("_")}
-        self.assertLessEqual(names | _NEWER, set(dir(deolmutt.Maildir)))
+        for kind in (deolmutt.Maildir, deolmutt.DiskMaildir):
+            self.assertLessEqual(names | _NEWER, set(dir(kind)))
 
     def test_every_public_method_has_a_docstring_of_its_own(self) -> None:
-        for name, value in vars(deolmutt.Maildir).items():
-            if not name.startswith("_") and callable(getattr(value, "__func__", value)):
-                self.assertTrue(value.__doc__, name)
+        for kind in (deolmutt.Maildir, deolmutt.DiskMaildir):
+            for name, value in vars(kind).items():
+                if not name.startswith("_") and callable(getattr(value, "__func__", value)):
+                    self.assertTrue(value.__doc__, name)
 
 
 def plain_lists(value: object) -> object:

@@ -103,8 +103,8 @@ class JudgeTest(unittest.TestCase):
 
     def test_what_is_no_log_at_all(self) -> None:
         for wrong in (7, None, [7], [None], [["maildir_log 1"]]):
-            with self.subTest(wrong), self.assertRaises(TypeError):
-                deolmutt.judge(wrong)  # type: ignore[arg-type]
+            with self.subTest(wrong):
+                self.assertRaises(TypeError, deolmutt.judge, wrong)
 
     def test_names_of_other_bytes(self) -> None:
         lines: list[Log] = ["maildir_log 1", "folder \u00e4\udcff", b"1 p create \xc3\xa4\xff/new/u ok"]
@@ -127,15 +127,15 @@ class JudgeTest(unittest.TestCase):
         self.assertEqual(list(told.items())[: len(texts)], texts)
 
     def test_a_library_without_the_judge(self) -> None:
-        with mock.patch.object(judging, "judges", return_value=False), self.assertRaises(errors.NotJudged):
-            deolmutt.judge(LOG)
+        with mock.patch.object(judging, "library", return_value=object()):
+            self.assertRaises(errors.NotJudged, deolmutt.judge, LOG)
 
     def test_no_memory(self) -> None:
         class Full:
             deolmutt_judge = staticmethod(lambda *_: 4)
 
-        with mock.patch.object(judging, "library", return_value=Full()), self.assertRaises(errors.NoMemory):
-            deolmutt.judge(LOG)
+        with mock.patch.object(judging, "library", return_value=Full()):
+            self.assertRaises(errors.NoMemory, deolmutt.judge, LOG)
 
     def test_each_clause_has_a_name(self) -> None:
         self.assertEqual(b"no such clause", library().deolmutt_clause_name(14))

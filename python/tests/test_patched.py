@@ -39,8 +39,7 @@ class PatchedTest(Case):
             self.assertIsInstance(again, mailbox.Maildir)
             self.assertEqual(0, len(mailbox.Maildir(self.folder / "b")))
             self.assertEqual(0, len(mailbox.Maildir(self.folder)))
-            with self.assertRaises(mailbox.NoSuchMailboxError):
-                mailbox.Maildir(self.folder / "c", create=False)
+            self.assertRaises(mailbox.NoSuchMailboxError, mailbox.Maildir, self.folder / "c", create=False)
         self.assertEqual([], files_below(self.folder))
 
     def test_a_path_elsewhere_and_each_path_after_it_are_on_the_disk(self) -> None:
@@ -71,8 +70,7 @@ class PatchedTest(Case):
             key = mailbox.Maildir(self.folder / "a/.Sent").add(MESSAGE)
             self.assertEqual(["Sent"], box.list_folders())
             self.assertEqual([key], box.get_folder("Sent").keys())
-            with self.assertRaises(mailbox.NoSuchMailboxError):
-                mailbox.Maildir(self.folder / "a/.None", create=False)
+            self.assertRaises(mailbox.NoSuchMailboxError, mailbox.Maildir, self.folder / "a/.None", create=False)
             # One whose own name begins with a dot is in no other.
             self.assertEqual(0, len(mailbox.Maildir(self.folder / ".mail")))
 

@@ -1,8 +1,9 @@
-"""Random calls of this mailbox and of CPython's, side by side: what each answers, and what both hold after it."""
+"""Random calls of the mailboxes and of CPython's, side by side: what each answers, and what both hold after it."""
 
 from __future__ import annotations
 
 import mailbox
+import pathlib
 import random
 import unittest
 from typing import Any, Callable
@@ -11,8 +12,6 @@ from support import Case, maildir_message, needs_library, outcome
 
 import deolmutt
 
-SEEDS = range(20)
-CALLS = 60
 FLAGS = "DFPRST"
 
 
@@ -88,16 +87,20 @@ def plain(value: Any) -> Any:
 
 @needs_library
 class RandomTest(Case):
-    def test_random_calls(self) -> None:
-        for seed in SEEDS:
-            cpythons = mailbox.Maildir(self.folder / str(seed))
-            with self.subTest(seed=seed), deolmutt.Maildir() as box:
-                both = Both(random.Random(seed), box, cpythons)
-                for _ in range(CALLS):
-                    ours, theirs = both.make_a_call()
-                    self.assertEqual(theirs, ours)
-                    ours, theirs = both.held()
-                    self.assertEqual(theirs, ours)
+    def assert_the_same(self, box_of: Callable[[pathlib.Path], Any], seeds: int, calls: int) -> None:
+        for seed in range(seeds):
+            boxes = box_of(self.folder / f"ours{seed}"), mailbox.Maildir(self.folder / f"theirs{seed}")
+            both = Both(random.Random(seed), *boxes)
+            for call in range(calls):
+                with self.subTest(seed=seed, call=call):
+                    for ours, theirs in (both.make_a_call(), both.held()):
+                        self.assertEqual(theirs, ours)
+
+    def test_random_calls_in_memory(self) -> None:
+        self.assert_the_same(lambda _: deolmutt.Maildir(), 20, 60)
+
+    def test_random_calls_on_a_disk(self) -> None:
+        self.assert_the_same(deolmutt.DiskMaildir, 3, 40)
 
 
 if __name__ == "__main__":

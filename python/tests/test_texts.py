@@ -19,24 +19,22 @@ class NameTest(unittest.TestCase):
     """By "Using maildir format" (https://cr.yp.to/proto/maildir.html) and maildir(5)."""
 
     def test_a_unique_name_has_its_parts_in_order(self) -> None:
-        self.assertEqual("1000.M5P7Q1.host", deolmutt.unique_name(1000, 5, 7, 1, "host"))
-
-    def test_a_slash_and_a_colon_of_a_host_are_escaped(self) -> None:
-        self.assertEqual(r"1.M2P3Q4.a\057b\072c", deolmutt.unique_name(1, 2, 3, 4, "a/b:c"))
+        names = {
+            "1000.M5P7Q1.host": (1000, 5, 7, 1, "host"),
+            # A slash and a colon of a host are escaped, and other bytes are not.
+            r"1.M2P3Q4.a\057b\072c": (1, 2, 3, 4, "a/b:c"),
+            "1.M2P3Q4.\u00e4\udcff": (1, 2, 3, 4, "\u00e4\udcff"),
+        }
+        self.assertEqual(list(names), [deolmutt.unique_name(*parts) for parts in names.values()])
 
     def test_hosts_and_microseconds_that_no_name_has(self) -> None:
         for host in ("", "a\0", "a\nb", "a\rb", "x" * 101, "/" * 26):
             with self.subTest(host), self.assertRaises(errors.BadHost):
                 deolmutt.unique_name(1, 2, 3, 4, host)
         for micro in (-1, 1_000_000, MOST_U64 - 1, MOST_U64):
-            with self.assertRaises(errors.BadMicrosecond):
-                deolmutt.unique_name(1, micro, 3, 4, "a")
+            self.assertRaises(errors.BadMicrosecond, deolmutt.unique_name, 1, micro, 3, 4, "a")
         for number in (-1, MOST_U64):
-            with self.assertRaises(ValueError):
-                deolmutt.unique_name(number, 2, 3, 4, "a")
-
-    def test_hosts_of_other_bytes(self) -> None:
-        self.assertEqual("1.M2P3Q4.\u00e4\udcff", deolmutt.unique_name(1, 2, 3, 4, "\u00e4\udcff"))
+            self.assertRaises(ValueError, deolmutt.unique_name, number, 2, 3, 4, "a")
 
     def test_the_parts_of_names(self) -> None:
         parts = {
@@ -66,13 +64,15 @@ class SummaryTest(unittest.TestCase):
             b"Subject: Saying Hello\r\nDate: Fri, 21 Nov 1997 09:55:06 -0600\r\n"
             b"Message-ID: <1234@local.machine.example>\r\n\r\nThis is a message just to say hello.\r\n"
         )
-        found = deolmutt.summary(message)
-        self.assertEqual("Saying Hello", found.subject)
-        self.assertEqual("John Doe <jdoe@machine.example>", found.sender)
-        self.assertEqual("<1234@local.machine.example>", found.message_id)
-        self.assertEqual("Fri, 21 Nov 1997 09:55:06 -0600", found.date)
-        # By `date -u -d '1997-11-21 15:55:06' +%s`.
-        self.assertEqual(880_127_706, found.seconds)
+        said = Summary(
+            subject="Saying Hello",
+            sender="John Doe <jdoe@machine.example>",
+            message_id="<1234@local.machine.example>",
+            date="Fri, 21 Nov 1997 09:55:06 -0600",
+            # By `date -u -d '1997-11-21 15:55:06' +%s`.
+            seconds=880_127_706,
+        )
+        self.assertEqual(said, deolmutt.summary(message))
 
     def test_a_date_before_1970_and_one_that_says_nothing(self) -> None:
         before = deolmutt.summary(b"Date: 31 Dec 1969 23:59:59 +0000\n\n")
@@ -105,18 +105,6 @@ class TranscriptTest(unittest.TestCase):
     def test_a_script_of_no_lines(self) -> None:
         self.assertEqual(b"", deolmutt.transcript(b""))
 
-    def test_a_refused_line_says_what_was_printed_before_it(self) -> None:
-        with self.assertRaises(errors.BadCommand) as met:
-            deolmutt.transcript(b"folder i\njob clean i\nnone\n")
-        error = met.exception
-        self.assertEqual((3, b"job 1\n"), (error.line, error.printed))
-        self.assertEqual(f"line 3: {errors.BadCommand()}", str(error))
-
-    def test_what_a_store_refuses_is_refused_at_its_line(self) -> None:
-        with self.assertRaises(errors.NameUsed) as met:
-            deolmutt.transcript(b"folder i\njob deliver i u 1 x\njob deliver i u 1 x\n")
-        self.assertEqual((3, b"job 1\n"), (met.exception.line, met.exception.printed))
-
     def test_a_long_transcript(self) -> None:
         script = b"folder i\n" + b"".join(b"unique %d 0 1 1 host\n" % number for number in range(9000))
         printed = deolmutt.transcript(script)
@@ -137,16 +125,24 @@ class IndexLinesTest(unittest.TestCase):
         self.assertEqual(said, deolmutt.index_lines(lines, room=1))
         self.assertEqual(b"", deolmutt.index_lines(b""))
 
-    def test_a_refused_line_is_named(self) -> None:
-        for refused, line, lines in (
-            (errors.NotInThisRun, 2, b"folder i\nlist i\n"),
-            (errors.BadEscape, 2, b"folder i\nfile i new u 0 \\q\nfile i new v\n"),
+
+@needs_library
+class RefusedLineTest(unittest.TestCase):
+    def test_a_refused_line_says_what_was_printed_before_it(self) -> None:
+        play, index = deolmutt.transcript, deolmutt.index_lines
+        for function, refused, line, printed, lines in (
+            (play, errors.BadCommand, 3, b"job 1\n", b"folder i\njob clean i\nnone\n"),
+            # What a store refuses is refused at its line.
+            (play, errors.NameUsed, 3, b"job 1\n", b"folder i\njob deliver i u 1 x\njob deliver i u 1 x\n"),
+            (index, errors.NotInThisRun, 2, b"", b"folder i\nlist i\n"),
+            (index, errors.BadEscape, 2, b"", b"folder i\nfile i new u 0 \\q\nfile i new v\n"),
             # What makes no store is refused at the last line, as by the program.
-            (errors.DuplicateUnique, 4, b"folder i\nfile i new u 0\nfile i cur u:2, 0\n# last\n"),
+            (index, errors.DuplicateUnique, 4, b"", b"folder i\nfile i new u 0\nfile i cur u:2, 0\n# last\n"),
         ):
-            with self.assertRaises(refused) as met:
-                deolmutt.index_lines(lines)
-            self.assertEqual((line, b""), (met.exception.line, met.exception.printed))
+            with self.subTest(lines), self.assertRaises(refused) as met:
+                function(lines)
+            error = met.exception
+            self.assertEqual((line, printed, f"line {line}: {refused()}"), (error.line, error.printed, str(error)))
 
 
 if __name__ == "__main__":

@@ -9,7 +9,7 @@ import pathlib
 import unittest
 import warnings
 from concurrent.futures import ThreadPoolExecutor
-from typing import Any, Callable
+from typing import Any, Mapping
 
 from support import MESSAGE, Case, maildir_message, needs_library
 
@@ -43,10 +43,12 @@ def tree_of(path: pathlib.Path) -> dict[str, bytes]:
     }
 
 
-def make(path: pathlib.Path) -> pathlib.Path:
-    """An empty maildir."""
+def make(path: pathlib.Path, files: Mapping[str, bytes] = {}) -> pathlib.Path:
+    """A maildir with these files, by their places and names."""
     for place in ("tmp", "new", "cur"):
         (path / place).mkdir(parents=True)
+    for name, content in files.items():
+        (path / name).write_bytes(content)
     return path
 
 
@@ -73,12 +75,10 @@ class BodyTest(Case):
         with Maildir() as box:
             key = box.add(body)
             self.assertEqual(body, box.get_bytes(key))
-            with self.assertRaises(BodyTooLong):
-                box.add(body + b"x")
-            with self.assertRaises(BodyTooLong):
-                box[key] = body + b"x"
-            with self.assertRaises(BodyTooLong):
-                box.add_all([b"", body + b"x"])
+            longer = body + b"x"
+            self.assertRaises(BodyTooLong, box.add, longer)
+            self.assertRaises(BodyTooLong, box.__setitem__, key, longer)
+            self.assertRaises(BodyTooLong, box.add_all, [b"", longer])
             self.assertEqual([key], box.keys())
             self.check_tree(box, body)
 
@@ -86,14 +86,10 @@ class BodyTest(Case):
 @needs_library
 class TreeTest(Case):
     def test_a_tree_comes_back_byte_by_byte(self) -> None:
-        source = make(self.folder / "source")
-        make(source / ".Sent")
-        make(source / ".Sent" / ".old.er \u00e4")
-        bodies = list(BODIES.values())
-        for folder in (source, source / ".Sent", source / ".Sent" / ".old.er \u00e4"):
-            for place, names in NAMES.items():
-                for number, name in enumerate(names):
-                    (folder / place / name).write_bytes(bodies[number % len(bodies)])
+        files = {f"{place}/{name}": body for place in NAMES for name, body in zip(NAMES[place], BODIES.values())}
+        source = make(self.folder / "source", files)
+        make(source / ".Sent", files)
+        make(source / ".Sent" / ".old.er \u00e4", files)
         with Maildir.load(source) as box:
             self.assertEqual(["Sent"], box.list_folders())
             box.export(self.folder / "copy")
@@ -125,10 +121,8 @@ class TreeTest(Case):
         with Maildir() as box:
             key = box.add(MESSAGE)
             box.add_folder("Sent").add(MESSAGE)
-            tree = make(self.folder / "copy")
-            (tree / "cur" / f"{key}:2,S").write_bytes(b"there")
-            with self.assertRaises(mailbox.ExternalClashError):
-                box.export(tree)
+            tree = make(self.folder / "copy", {f"cur/{key}:2,S": b"there"})
+            self.assertRaises(mailbox.ExternalClashError, box.export, tree)
             self.assertEqual({f"cur/{key}:2,S": b"there"}, tree_of(tree))
             self.assertFalse((tree / ".Sent").exists())
 
@@ -150,10 +144,8 @@ class TreeTest(Case):
         self.assertEqual({f"new/{key}", f".b/new/{other}"}, set(tree_of(self.folder / "copy")))
 
     def test_one_unique_name_in_two_folders_and_in_new_and_cur(self) -> None:
-        source = make(self.folder / "source")
-        make(source / ".Sent")
-        for path, body in (("new/a", b"1"), ("cur/a:2,S", b"2"), (".Sent/cur/a:2,F", b"3")):
-            (source / path).write_bytes(body)
+        source = make(self.folder / "source", {"new/a": b"1", "cur/a:2,S": b"2"})
+        make(source / ".Sent", {"cur/a:2,F": b"3"})
         with Maildir.load(source) as box:
             self.assertEqual([b"1", b"2"], sorted(box.get_bytes(key) for key in box.keys()))
             self.assertEqual(b"1", box.get_bytes("a"))
@@ -163,19 +155,15 @@ class TreeTest(Case):
             self.assertEqual((0, 2), (len(sent), len(box)))
 
     def test_names_that_are_no_messages(self) -> None:
-        source = make(self.folder / "source")
-        (source / "new" / ".hidden").write_bytes(b"")
+        source = make(self.folder / "source", {"new/.hidden": b"", "tmp/half": b""})
         (source / "new" / "directory").mkdir()
-        (source / "tmp" / "half").write_bytes(b"")
         os.mkfifo(source / "cur" / "pipe")
         with Maildir.load(source) as box:
             self.assertEqual([], box.keys())
 
     def test_what_is_left_out_is_told(self) -> None:
-        source = make(self.folder / "source")
+        source = make(self.folder / "source", {"cur/a:2,S x": b"", "cur/b:2,S": b""})
         (source / ".half").mkdir()
-        (source / "cur" / "a:2,S x").write_bytes(b"")
-        (source / "cur" / "b:2,S").write_bytes(b"")
         with warnings.catch_warnings(record=True) as met:
             warnings.simplefilter("always")
             with Maildir.load(source) as box:
@@ -183,15 +171,13 @@ class TreeTest(Case):
         self.assertEqual([deolmutt.LeftOut] * 2, [warning.category for warning in met])
 
     def test_a_tree_that_is_not_there(self) -> None:
-        with self.assertRaises(mailbox.NoSuchMailboxError):
-            Maildir.load(self.folder / "none")
+        self.assertRaises(mailbox.NoSuchMailboxError, Maildir.load, self.folder / "none")
 
     def test_another_colon(self) -> None:
         class Other(Maildir):
             colon = "!"
 
-        source = make(self.folder / "source")
-        (source / "cur" / "a!2,FS").write_bytes(b"x")
+        source = make(self.folder / "source", {"cur/a!2,FS": b"x"})
         with Other.load(source) as box:
             self.assertEqual("FS", box.get_flags("a"))
             box.export(self.folder / "copy")
@@ -204,17 +190,15 @@ class DifferenceTest(Case):
 
     def setUp(self) -> None:
         super().setUp()
-        source = make(self.folder / "source")
-        (source / "cur" / "a:1,x:2,S").write_bytes(b"x")
-        (source / "cur" / "b").write_bytes(b"y")
-        self.box = Maildir.load(source)
+        self.box = Maildir.load(make(self.folder / "source", {"cur/a:1,x:2,S": b"x", "cur/b": b"y"}))
         self.addCleanup(self.box.close)
 
     def test_other_info_is_kept(self) -> None:
         box = self.box
         self.assertEqual(("1,x:2,S", ""), (box.get_info("a"), box.get_flags("a")))
         self.assertEqual("1,x:2,S", box["a"].get_info())
-        changes: list[Any] = [
+        self.assert_each_raises(
+            OtherInfo,
             lambda: box.set_flags("a", "S"),
             lambda: box.add_flag("a", "S"),
             lambda: box.add_flag_to_all(["b", "a"], "S"),
@@ -222,10 +206,7 @@ class DifferenceTest(Case):
             lambda: box.remove("a"),
             lambda: box.__setitem__("a", MESSAGE),
             lambda: box.add(box["a"]),
-        ]
-        for change in changes:
-            with self.assertRaises(OtherInfo):
-                change()
+        )
         self.assertEqual(["a", "b"], sorted(box.keys()))
         self.assertEqual(("x", "", ""), (box["a"].as_string().strip(), box.get_info("b"), box.get_flags("b")))
 
@@ -245,43 +226,37 @@ class DifferenceTest(Case):
 
     def test_flags_are_letters(self) -> None:
         for flags in ("1", "\u00e4", " ", "S,"):
-            with self.assertRaises(ValueError):
-                self.box.set_flags("b", flags)
+            self.assertRaises(ValueError, self.box.set_flags, "b", flags)
 
     def test_folders_are_those_that_the_store_was_made_with(self) -> None:
         with Maildir(folders=["a"], spare_folders=1) as box:
             self.assertEqual(["a"], box.list_folders())
             box.add_folder("b")
-            with self.assertRaises(NoSpareFolder):
-                box.add_folder("c")
+            self.assertRaises(NoSpareFolder, box.add_folder, "c")
             box.remove_folder("b")
             box.add_folder("c")
             self.assertEqual(["a", "c"], sorted(box.list_folders()))
-        with self.assertRaises(NoSpareFolder):
-            Maildir(folders=[str(number) for number in range(64)])
+        self.assertRaises(NoSpareFolder, Maildir, folders=[str(number) for number in range(64)])
         with Maildir(folders=[str(number) for number in range(63)]) as box:
             self.assertEqual(63, len(box.list_folders()))
 
     def test_folders_that_no_directory_can_be(self) -> None:
         for name in ("", ".", "a/b", "a\0"):
-            with self.assertRaises(ValueError):
-                self.box.add_folder(name)
-            with self.assertRaises(mailbox.NoSuchMailboxError):
-                self.box.get_folder(name)
+            self.assertRaises(ValueError, self.box.add_folder, name)
+            self.assertRaises(mailbox.NoSuchMailboxError, self.box.get_folder, name)
 
     def test_a_folder_that_was_removed(self) -> None:
         folder = self.box.add_folder("a")
         self.box.remove_folder("a")
-        for call in (lambda: folder.add(MESSAGE), folder.keys, folder.list_folders):
-            with self.assertRaises(mailbox.NoSuchMailboxError):
-                call()
+        self.assert_each_raises(mailbox.NoSuchMailboxError, lambda: folder.add(MESSAGE), folder.keys, folder.list_folders)
 
     def test_a_closed_mailbox(self) -> None:
         folder = self.box.add_folder("a")
         folder.close()
         key = folder.add(MESSAGE)
         self.box.close()
-        changes: list[Callable[[], object]] = [
+        self.assert_each_raises(
+            deolmutt.errors.Closed,
             lambda: self.box.add(MESSAGE),
             lambda: self.box.add_all([MESSAGE]),
             lambda: self.box.remove("b"),
@@ -293,16 +268,11 @@ class DifferenceTest(Case):
             lambda: self.box.remove_folder("a"),
             self.box.clean,
             lambda: folder.add(MESSAGE),
-        ]
-        for change in changes:
-            with self.assertRaises(deolmutt.errors.Closed):
-                change()
+        )
         self.assertEqual((2, ["a"], [key]), (len(self.box), self.box.list_folders(), folder.keys()))
         self.assertEqual(MESSAGE, folder.get_bytes(key))
         self.box.world.close()
-        for read in (self.box.keys, lambda: "b" in self.box, folder.keys):
-            with self.assertRaises(deolmutt.errors.Closed):
-                read()
+        self.assert_each_raises(deolmutt.errors.Closed, self.box.keys, lambda: "b" in self.box, folder.keys)
 
     def test_what_it_shows_of_itself(self) -> None:
         folder = self.box.add_folder("a")
@@ -314,11 +284,10 @@ class DifferenceTest(Case):
         self.assertEqual("<deolmutt.Maildir: nothing to see: Closed>", repr(self.box))
 
     def test_a_path_is_refused_with_what_to_call(self) -> None:
+        said = r"takes no path.*Maildir\.load\(path\).*DiskMaildir\(path\)"
         for path in (self.folder, str(self.folder), os.fsencode(self.folder)):
-            with self.assertRaisesRegex(TypeError, r"takes no path.*Maildir\.load\(path\).*DiskMaildir\(path\)"):
-                Maildir(path)  # type: ignore[arg-type]
-        with self.assertRaisesRegex(TypeError, "can't be called: 7"):
-            Maildir(7)  # type: ignore[arg-type]
+            self.assertRaisesRegex(TypeError, said, Maildir, path)
+        self.assertRaisesRegex(TypeError, "can't be called: 7", Maildir, 7)
 
     def test_calls_of_the_world_are_seen(self) -> None:
         self.assertEqual(2, len(self.box))
@@ -362,10 +331,8 @@ class DifferenceTest(Case):
         self.assertEqual(5.0, self.box[keys[2]].get_date())
         self.box.add_flag_to_all([*keys, keys[0]], "FR")
         self.assertEqual(["FR", "FR", "FRS"], [self.box.get_flags(key) for key in keys])
-        with self.assertRaises(KeyError):
-            self.box.add_flag_to_all([keys[0], "none"], "T")
-        with self.assertRaises(TypeError):
-            self.box.add_all([MESSAGE, None])  # type: ignore[list-item]
+        self.assertRaises(KeyError, self.box.add_flag_to_all, [keys[0], "none"], "T")
+        self.assertRaises(TypeError, self.box.add_all, [MESSAGE, None])
         self.assertEqual(("FR", 5), (self.box.get_flags(keys[0]), len(self.box)))
 
     def test_a_factory(self) -> None:

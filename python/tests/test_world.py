@@ -9,7 +9,7 @@ import unittest
 from concurrent.futures import ThreadPoolExecutor
 from typing import Callable
 
-from support import MESSAGE, TOP, needs_library
+from support import MESSAGE, TOP, Case, needs_library
 
 from deolmutt import World, WrongThread, errors, lines
 from deolmutt._numbers import FAILURES, MOST_U64, REFUSALS
@@ -30,13 +30,14 @@ def world_of(*files: tuple[str, str, bytes]) -> World:
 
 
 @needs_library
-class CallTest(unittest.TestCase):
+class CallTest(Case):
     def setUp(self) -> None:
+        super().setUp()
         self.world = world_of(("new", "n", b"1"), ("cur", "c:2,FS", b"22"), ("cur", "o:1,x", b""))
         self.addCleanup(self.world.close)
 
-    def names(self, folder: int = 0) -> list[tuple[str, str]]:
-        return [(entry.place.value, entry.name) for entry in self.world.list(folder)]
+    def names(self, folder: int = 0) -> str:
+        return " ".join(f"{entry.place.value}/{entry.name}" for entry in self.world.list(folder))
 
     def test_a_listing_is_in_order_of_unique_names(self) -> None:
         entries = self.world.list(0)
@@ -44,35 +45,26 @@ class CallTest(unittest.TestCase):
         self.assertEqual(["c", "n", "o"], [entry.unique for entry in entries])
         self.assertEqual(["2,FS", None, "1,x"], [entry.info for entry in entries])
 
-    def test_deliver(self) -> None:
-        self.world.deliver(1, "d", MESSAGE)
-        self.assertEqual([("new", "d")], self.names(1))
-        self.assertEqual(MESSAGE, self.world.read("d"))
-
-    def test_seen(self) -> None:
-        self.assertEqual("SX", self.world.seen(0, "n", "XS"))
-        self.assertIn(("cur", "n:2,SX"), self.names())
-
-    def test_flag(self) -> None:
-        self.assertEqual("FR", self.world.flag(0, "c", "R", "S"))
-        self.assertIn(("cur", "c:2,FR"), self.names())
-
-    def test_move(self) -> None:
-        self.world.move(0, "c", 1)
-        self.world.move(0, "n", 1)
-        self.assertEqual([("cur", "c:2,FS"), ("new", "n")], self.names(1))
-
-    def test_copy(self) -> None:
-        self.world.copy(0, "c", 1, "e")
-        self.assertEqual([("cur", "e:2,FS")], self.names(1))
-        self.assertEqual(b"22", self.world.read("e"))
-
-    def test_expunge(self) -> None:
-        self.world.flag(0, "c", "T")
-        self.world.expunge(0, "c")
-        self.assertNotIn("c", [entry.unique for entry in self.world.list(0)])
-        with self.assertRaises(errors.NotThere):
-            self.world.read("c")
+    def test_each_call(self) -> None:
+        """What each answers, and what the two folders have after it."""
+        world = self.world
+        rows: list[tuple[Callable[[], object], object, str, str]] = [
+            (lambda: world.deliver(1, "d", MESSAGE), None, "cur/c:2,FS new/n cur/o:1,x", "new/d"),
+            (lambda: world.read("d"), MESSAGE, "cur/c:2,FS new/n cur/o:1,x", "new/d"),
+            (lambda: world.seen(0, "n", "XS"), "SX", "cur/c:2,FS cur/n:2,SX cur/o:1,x", "new/d"),
+            (lambda: world.flag(0, "c", "R", "S"), "FR", "cur/c:2,FR cur/n:2,SX cur/o:1,x", "new/d"),
+            (lambda: world.move(0, "c", 1), None, "cur/n:2,SX cur/o:1,x", "cur/c:2,FR new/d"),
+            (lambda: world.move(1, "d", 0), None, "new/d cur/n:2,SX cur/o:1,x", "cur/c:2,FR"),
+            (lambda: world.copy(0, "n", 1, "e"), None, "new/d cur/n:2,SX cur/o:1,x", "cur/c:2,FR cur/e:2,SX"),
+            (lambda: world.copy(1, "c", 1, "f"), None, "new/d cur/n:2,SX cur/o:1,x", "cur/c:2,FR cur/e:2,SX cur/f:2,FR"),
+            (lambda: world.read("f"), b"22", "new/d cur/n:2,SX cur/o:1,x", "cur/c:2,FR cur/e:2,SX cur/f:2,FR"),
+            (lambda: world.flag(1, "f", "T"), "FRT", "new/d cur/n:2,SX cur/o:1,x", "cur/c:2,FR cur/e:2,SX cur/f:2,FRT"),
+            (lambda: world.expunge(1, "f"), None, "new/d cur/n:2,SX cur/o:1,x", "cur/c:2,FR cur/e:2,SX"),
+        ]
+        for number, (call, answer, here, there) in enumerate(rows):
+            with self.subTest(call=number):
+                self.assertEqual((answer, here, there), (call(), self.names(0), self.names(1)))
+        self.assertRaises(errors.NotThere, world.read, "f")
 
     def test_clean(self) -> None:
         with world_of(("tmp", "t", b"")) as world:
@@ -86,8 +78,7 @@ class CallTest(unittest.TestCase):
         calls = ["create", "append 3", "append 2", "link", "unlink"]
         self.assertEqual([Step(call, "ok", call == "link") for call in calls], done)
         self.assertEqual(Answer(Outcome.DELIVERED), self.world.answer(job))
-        with self.assertRaises(errors.Answered):
-            self.world.step(job)
+        self.assertRaises(errors.Answered, self.world.step, job)
 
     def test_two_flag_changes_that_race(self) -> None:
         first, second = (self.world.submit(Flag(0, "c", flag)) for flag in "TR")
@@ -103,8 +94,7 @@ class CallTest(unittest.TestCase):
         self.world.step(job, now=1)
         self.world.flag(0, "c", "T")
         self.world.step(job, now=1)
-        with self.assertRaises(errors.Lost):
-            self.world.answer(job)
+        self.assertRaises(errors.Lost, self.world.answer, job)
 
     def test_a_delivery_of_over_24_hours(self) -> None:
         job = self.world.submit(Deliver(1, "d", MESSAGE))
@@ -144,8 +134,8 @@ class CallTest(unittest.TestCase):
         }
         self.assertEqual(list(calls.values()), [self.world.call(call) for call in calls])
 
-    def test_each_refusal(self) -> None:
-        refused: dict[Call, type[errors.Refused]] = {
+    def test_each_refusal_and_each_failed_answer(self) -> None:
+        ends: dict[Call, type[errors.DeolmuttError]] = {
             Clean(2): errors.NoFolder,
             Clean(-1): errors.NoFolder,
             Clean(1 << 32): errors.NoFolder,
@@ -168,15 +158,6 @@ class CallTest(unittest.TestCase):
             Copy(0, "c", 1, "n"): errors.NameUsed,
             Seen(0, "n", "1"): errors.BadFlag,
             Flag(0, "c", "", "\u00e4"): errors.BadFlag,
-        }
-        before = self.names()
-        for call, kind in refused.items():
-            with self.subTest(str(call)[:60]), self.assertRaises(kind):
-                self.world.call(call)
-        self.assertEqual(before, self.names())
-
-    def test_each_failed_answer(self) -> None:
-        failed: dict[Call, type[errors.Failed]] = {
             Seen(0, "c"): errors.NotThere,
             Flag(0, "n", "S"): errors.NotThere,
             Move(1, "c", 0): errors.NotThere,
@@ -187,40 +168,33 @@ class CallTest(unittest.TestCase):
             Copy(0, "o", 1, "e2"): errors.OtherInfo,
         }
         before = self.names()
-        for call, kind in failed.items():
-            with self.subTest(str(call)), self.assertRaises(kind):
+        for call, kind in ends.items():
+            with self.subTest(str(call)[:60]), self.assertRaises(kind):
                 self.world.call(call)
         self.assertEqual(before, self.names())
 
     def test_jobs_that_are_not_there(self) -> None:
         for job in (0, 1, -1, MOST_U64 + 1):
-            with self.assertRaises(errors.NoJob):
-                self.world.step(job)
-            with self.assertRaises(errors.NoJob):
-                self.world.answer(job)
+            self.assert_each_raises(errors.NoJob, lambda: self.world.step(job), lambda: self.world.answer(job))
 
     def test_bodies_are_bytes(self) -> None:
         self.world.deliver(1, "d", bytearray(b"abc"))
         self.world.deliver(1, "e", memoryview(b"abcd")[::2])
         self.assertEqual((b"abc", b"ac"), (self.world.read("d"), self.world.read("e")))
         for wrong in (5, "text", None, [1]):
-            with self.assertRaises(TypeError):
-                self.world.deliver(1, "f", wrong)  # type: ignore[arg-type]
+            self.assertRaises(TypeError, self.world.deliver, 1, "f", wrong)
 
     def test_moments_and_folders_that_no_type_holds(self) -> None:
         for now in (-1, MOST_U64):
-            with self.assertRaises(ValueError):
-                self.world.clean(0, now=now)
+            self.assertRaises(ValueError, self.world.clean, 0, now=now)
         for folder in (2, -1, 1 << 32):
-            with self.assertRaises(errors.NoFolder):
-                self.world.list(folder)
+            self.assertRaises(errors.NoFolder, self.world.list, folder)
 
     def test_errors_are_those_that_python_programs_catch(self) -> None:
         with self.assertRaises(KeyError) as met:
             self.world.read("x")
         self.assertEqual("No message of that name where the call looks for it.", str(met.exception))
-        with self.assertRaises(ValueError):
-            self.world.deliver(0, "", b"")
+        self.assertRaises(ValueError, self.world.deliver, 0, "", b"")
 
 
 @needs_library
@@ -257,27 +231,21 @@ class ManyTest(unittest.TestCase):
 
 
 @needs_library
-class LifeTest(unittest.TestCase):
+class LifeTest(Case):
     def test_a_closed_world_is_refused(self) -> None:
         with World.with_folders("a") as world:
             pass
         world.close()
         self.assertTrue(world.is_closed)
-        calls: tuple[Callable[[], object], ...] = (
-            lambda: world.list(0),
-            lambda: world.read("a"),
-            lambda: world.clean(0),
+        self.assert_each_raises(
+            errors.Closed, lambda: world.list(0), lambda: world.read("a"), lambda: world.clean(0)
         )
-        for call in calls:
-            with self.assertRaises(errors.Closed):
-                call()
 
     def test_a_world_is_neither_copied_nor_pickled(self) -> None:
         with World.with_folders("a") as world:
-            ways: tuple[Callable[[World], object], ...] = (copy.copy, copy.deepcopy, pickle.dumps)
-            for way in ways:
-                with self.assertRaises(TypeError):
-                    way(world)
+            self.assert_each_raises(
+                TypeError, lambda: copy.copy(world), lambda: copy.deepcopy(world), lambda: pickle.dumps(world)
+            )
 
     def test_calls_are_counted_and_a_settled_world_takes_as_many_again(self) -> None:
         with World.with_folders("a") as world:
@@ -287,12 +255,10 @@ class LifeTest(unittest.TestCase):
             world.expunge(0, "gone")
             world.call_many([Clean(0)] * (MOST_CALLS - 4))
             world.deliver(0, "there", MESSAGE)
-            with self.assertRaises(errors.TooManyJobs):
-                world.clean(0)
+            self.assertRaises(errors.TooManyJobs, world.clean, 0)
             world.settle()
             self.assertEqual(["there"], [entry.name for entry in world.list(0)])
-            with self.assertRaises(errors.NameUsed):
-                world.deliver(0, "there", b"")
+            self.assertRaises(errors.NameUsed, world.deliver, 0, "there", b"")
             world.deliver(0, "gone", b"again")
             self.assertEqual(b"again", world.read("gone"))
 
@@ -315,13 +281,11 @@ class LifeTest(unittest.TestCase):
 
     def test_a_world_is_loaded_anew_in_place_of_what_it_held(self) -> None:
         with world_of(("new", "n", b"1")) as world:
-            with self.assertRaises(errors.BadFolder):
-                world.reload(b"folder .a\n")
+            self.assertRaises(errors.BadFolder, world.reload, b"folder .a\n")
             self.assertEqual(b"1", world.read("n"))
             world.reload(lines.folder_line("a"))
             self.assertEqual([], world.list(0))
-        with self.assertRaises(errors.Closed):
-            world.reload(b"")
+        self.assertRaises(errors.Closed, world.reload, b"")
 
     def test_each_refused_line(self) -> None:
         refused = {
@@ -341,8 +305,7 @@ class LifeTest(unittest.TestCase):
 
     def test_a_name_that_no_line_says(self) -> None:
         for name in ("", "a b", "a\nb"):
-            with self.assertRaises(errors.BadName):
-                lines.folder_line(name)
+            self.assertRaises(errors.BadName, lines.folder_line, name)
 
 
 @needs_library
