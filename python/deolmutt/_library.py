@@ -123,39 +123,29 @@ def library() -> ctypes.CDLL:
     tried = []
     for path in _paths():
         try:
-            found = ctypes.CDLL(path)
+            return _declared(ctypes.CDLL(path), path)
         except OSError as error:
             tried.append(f"{path}: {error}")
-            continue
-        return _declared(found, path)
     raise LibraryMissing(f"{FILE_NAME} can't be loaded ({'; '.join(tried)}). {_HOW}")
 
 
-def filled(function: Callable[..., int], *asked: Any, room: int = FIRST_ROOM) -> tuple[int, bytes]:
+def filled(
+    function: Callable[..., int], *asked: Any, room: int = FIRST_ROOM, after: tuple[Any, ...] = ()
+) -> tuple[int, bytes]:
     """What a function comes to, and what it gives into a buffer, which grows until it is large enough.
 
-    After what is asked it takes a buffer, the buffer's room, and where the whole length goes.
+    After what is asked it takes a buffer, the buffer's room, where the whole length goes, and what comes after.
     """
     length = _SIZE()
     while True:
         out = _buffer(room)
-        status = function(*asked, start_of(out), len(out), ctypes.byref(length))
+        status = function(*asked, start_of(out), len(out), ctypes.byref(length), *after)
         given = b"" if status == _ROOM else bytes(memoryview(out)[: length.value])
         if len(out) == FIRST_ROOM:
             _spare.append(out)
         if status != _ROOM:
             return status, given
         room = length.value
-
-
-def drives(found: ctypes.CDLL) -> bool:
-    """Whether the library has driven jobs."""
-    return hasattr(found, "deolmutt_drive")
-
-
-def judges(found: ctypes.CDLL) -> bool:
-    """Whether the library has the judge."""
-    return hasattr(found, "deolmutt_judge")
 
 
 def start_of(buffer: bytearray) -> Any:
@@ -191,20 +181,13 @@ def _declared(found: ctypes.CDLL, path: str) -> ctypes.CDLL:
     try:
         found.deolmutt_abi.restype = _U32
         version = found.deolmutt_abi()
-        for name, types in {**_FUNCTIONS, **_those_of(found, _MAYBE)}.items():
-            function = getattr(found, name)
-            function.argtypes = types
-            function.restype = _U32
-        for name, types in _those_of(found, _TEXTS).items():
-            function = getattr(found, name)
-            function.argtypes = types
-            function.restype = ctypes.c_char_p
+        for name, types in {**_FUNCTIONS, **_MAYBE, **_TEXTS}.items():
+            if name in _FUNCTIONS or hasattr(found, name):
+                function = getattr(found, name)
+                function.argtypes = types
+                function.restype = ctypes.c_char_p if name in _TEXTS else _U32
     except AttributeError as error:
         raise LibraryMissing(f"{path} is no library of Deolmutt's: {error}. {_HOW}") from error
     if version != ABI:
         raise LibraryMissing(f"{path} has version {version} of the interface, and {ABI} is needed. {_HOW}")
     return found
-
-
-def _those_of(found: ctypes.CDLL, wanted: dict[str, tuple[Any, ...]]) -> dict[str, tuple[Any, ...]]:
-    return {name: types for name, types in wanted.items() if hasattr(found, name)}

@@ -1,35 +1,28 @@
-"""The numbers of the C interface: of the kinds of calls, the refusals and the answers (deolmutt.h)."""
+"""The numbers of the C interface, of the kinds of calls, the refusals and the answers (deolmutt.h), and what comes of them here."""
 
 from __future__ import annotations
 
+import ctypes
 import string
 from functools import lru_cache
-from typing import Any, Callable, NamedTuple, Tuple, Union
+from typing import Any, Callable, NamedTuple, Optional, Tuple, Union
 
 from . import errors
+from ._library import FIRST_ROOM, filled
 from .calls import Answer, Call, Clean, Copy, Deliver, Expunge, Flag, Move, Outcome, Seen, Step
-from .errors import DeolmuttError, Failed
+from .errors import DeolmuttError, Failed, Refused
 from .lines import encoded
 
 OK = 0
 
 REFUSALS: dict[int, type[DeolmuttError]] = {
-    1: errors.Misused,
-    2: errors.Misused,
-    3: errors.Misused,
+    **dict.fromkeys((1, 2, 3, 5, 6, 7, 11, 14, 15, 16), errors.Misused),
     4: errors.NoMemory,
-    5: errors.Misused,
-    6: errors.Misused,
-    7: errors.Misused,
     8: errors.NotThere,
     9: errors.NoMessageName,
     10: errors.Unanswered,
-    11: errors.Misused,
     12: errors.NotAsked,
     13: errors.AskedBefore,
-    14: errors.Misused,
-    15: errors.Misused,
-    16: errors.Misused,
     20: errors.BadName,
     21: errors.LongUnique,
     22: errors.DuplicateUnique,
@@ -59,14 +52,9 @@ REFUSALS: dict[int, type[DeolmuttError]] = {
     **dict.fromkeys(range(70, 87), errors.BadLog),
 }
 
-_DELIVERED, _FLAGS, _MOVED, _EXPUNGED, _COPIED, _CLEANED = range(1, 7)
-
-_PLAIN_ANSWERS = {
-    _DELIVERED: Answer(Outcome.DELIVERED),
-    _MOVED: Answer(Outcome.MOVED),
-    _EXPUNGED: Answer(Outcome.EXPUNGED),
-    _COPIED: Answer(Outcome.COPIED),
-}
+# Those that say nothing more, each the same object. The outcomes are in the order of their numbers.
+_ANSWERS = {number: Answer(outcome) for number, outcome in enumerate(Outcome, 1)}
+_FLAGS, _CLEANED = 2, 6
 
 FAILURES: dict[int, type[Failed]] = {
     7: errors.NotThere,
@@ -83,7 +71,7 @@ MOST_U32 = 1 << 32
 MOST_U64 = 1 << 64
 
 # The letters in the order of their bits.
-_LETTERS = string.ascii_uppercase + string.ascii_lowercase
+LETTERS = string.ascii_uppercase + string.ascii_lowercase
 
 
 def refusal(status: int) -> DeolmuttError:
@@ -92,38 +80,69 @@ def refusal(status: int) -> DeolmuttError:
     return kind(f"the library's refusal {status}") if kind is errors.Misused else kind()
 
 
+def check(status: int) -> None:
+    """Raises the refusal that a status is."""
+    if status != OK:
+        raise refusal(status)
+
+
+def given(function: Callable[..., int], *asked: Any) -> bytes:
+    """What a function gives into a buffer. A refusal is raised."""
+    status, found = filled(function, *asked)
+    check(status)
+    return found
+
+
+def given_of_lines(function: Callable[..., int], text: bytes, room: Optional[int] = None) -> Tuple[int, bytes, int]:
+    """What a function comes to over the lines of a text, what it gives, and the number of the line that it refuses."""
+    line = ctypes.c_uint64()
+    status, found = filled(function, text, len(text), room=room or FIRST_ROOM, after=(ctypes.byref(line),))
+    return status, found, line.value
+
+
+def at_line(error: DeolmuttError, line: int, printed: bytes = b"") -> DeolmuttError:
+    """A refusal with the number of its line, 0 for none, and what was printed before it."""
+    if isinstance(error, Refused):
+        error.line, error.printed = line, printed
+        error.args = (f"line {line}: {error}" if line else str(error),)
+    return error
+
+
 def answer_of(kind: int, value: int) -> Union[Answer, Failed]:
     """A job's answer: how it took effect, or an exception, which is not raised."""
-    plain = _PLAIN_ANSWERS.get(kind)
-    if plain is not None:
-        return plain
     if kind == _FLAGS:
         return Answer(Outcome.FLAGS, flags=letters_of(value))
     if kind == _CLEANED:
         return Answer(Outcome.CLEANED, removed=value)
-    return FAILURES[kind]()
+    return _ANSWERS.get(kind) or FAILURES[kind]()
+
+
+def success_of(answer: Union[Answer, DeolmuttError]) -> Answer:
+    """An answer that is a success. Any other end of a job is raised."""
+    if isinstance(answer, DeolmuttError):
+        raise answer
+    return answer
 
 
 @lru_cache(maxsize=4096)
 def letters_of(bits: int) -> str:
     """The letters of flags."""
-    return "".join(letter for at, letter in enumerate(_LETTERS) if bits >> at & 1)
+    return "".join(letter for at, letter in enumerate(LETTERS) if bits >> at & 1)
 
 
 _APPEND, _LIST = 2, 6
-_DIR_CALLS = {1: "create", 3: "link", 4: "rename", 5: "unlink"}
-_PLACES = ("tmp", "new", "cur")
-_REPLIES = {1: "ok", 2: "exists", 3: "notfound", 4: "fault"}
+_DIR_CALLS = dict(enumerate(("create", "append", "link", "rename", "unlink", "list"), 1))
+PLACES = ("tmp", "new", "cur")
+_REPLIES = dict(enumerate(("ok", "exists", "notfound", "fault"), 1))
 
 
 def step_of(call: int, value: int, reply: int, effect: int) -> Step:
     """What a step did."""
+    text = _DIR_CALLS[call]
     if call == _APPEND:
-        text = f"append {value}"
+        text += f" {value}"
     elif call == _LIST:
-        text = f"list {_PLACES[value]}"
-    else:
-        text = _DIR_CALLS[call]
+        text += f" {PLACES[value]}"
     return Step(text, _REPLIES[reply], bool(effect))
 
 

@@ -3,13 +3,13 @@
 from __future__ import annotations
 
 import ctypes
-from typing import NamedTuple, NoReturn, Optional, Union
+from typing import NamedTuple, Optional, Union
 
-from ._closing import Closing
-from ._library import RequestStruct, StepStruct, drives, filled, library
-from ._numbers import MOST_U64, OK, answer_of, asked, refusal
+from ._closing import Handle
+from ._library import RequestStruct, StepStruct, library
+from ._numbers import MOST_U64, answer_of, asked, check, given
 from .calls import Answer, Call
-from .errors import Closed, Failed, NotDriven
+from .errors import Failed, NotDriven
 
 CREATE, APPEND, LINK, RENAME, UNLINK, LIST = range(1, 7)
 DONE, EXISTS, NOT_FOUND, FAULTED = range(1, 5)
@@ -31,11 +31,13 @@ class Request(NamedTuple):
     other: bytes
 
 
-class Driven(Closing):
+class Driven(Handle):
     """A job whose directory calls its caller makes: `ask`, `request`, for a reading `row`, and `take`, again and again until it is answered.
 
     Folders are the caller's own numbers. One job is for one thread at a time.
     """
+
+    _what = "a driven job"
 
     def __init__(self, call: Call) -> None:
         """The job of a call, of which no step was taken.
@@ -44,23 +46,22 @@ class Driven(Closing):
         """
         self._handle = ctypes.c_void_p()
         self._library = library()
-        if not drives(self._library):
+        if not hasattr(self._library, "deolmutt_drive"):
             raise NotDriven()
-        self._check(self._library.deolmutt_drive(*asked(call).words(), ctypes.byref(self._handle)))
+        check(self._library.deolmutt_drive(*asked(call).words(), ctypes.byref(self._handle)))
 
     def ask(self, second: int) -> None:
         """Asks for the next call, at a second of the caller's clock.
 
         Refused: `Answered`, and `AskedBefore` where the reply to a call is waited for.
         """
-        self._check(self._library.deolmutt_driven_ask(self._open(), _number(second)))
+        check(self._library.deolmutt_driven_ask(self._open(), _number(second)))
 
     def request(self) -> Request:
         """The call that was asked for, as often as wanted. Refused: `NotAsked`."""
         shown = RequestStruct()
-        status, given = filled(self._library.deolmutt_driven_request, self._open(), ctypes.byref(shown))
-        self._check(status)
-        name, other = given[: shown.name], given[shown.name :]
+        names = given(self._library.deolmutt_driven_request, self._open(), ctypes.byref(shown))
+        name, other = names[: shown.name], names[shown.name :]
         return Request(shown.call, shown.folder, shown.place, name, shown.to_folder, shown.to_place, other)
 
     def row(self, name: bytes, stamp: int = 0, size: int = 0) -> None:
@@ -68,7 +69,7 @@ class Driven(Closing):
 
         A clean goes by the stamp, the second of the file's last use; the others go by the name alone.
         """
-        self._check(self._library.deolmutt_driven_row(self._open(), name, len(name), _number(stamp), _number(size)))
+        check(self._library.deolmutt_driven_row(self._open(), name, len(name), _number(stamp), _number(size)))
 
     def take(self, reply: int) -> Optional[Union[Answer, Failed]]:
         """Tells the job what was replied, DONE to FAULTED, and gives its answer where that was the last call.
@@ -76,31 +77,12 @@ class Driven(Closing):
         An answer that is no success is given as its exception. Refused: `NotAsked`.
         """
         step = StepStruct()
-        self._check(self._library.deolmutt_driven_take(self._open(), reply, ctypes.byref(step)))
+        check(self._library.deolmutt_driven_take(self._open(), reply, ctypes.byref(step)))
         return answer_of(step.answer.kind, step.answer.value) if step.answer.kind else None
 
     def close(self) -> None:
         """Lets the job go, at any time. Each other method is refused as `Closed` from then on."""
-        handle, self._handle = self._handle, ctypes.c_void_p()
-        if handle:
-            self._library.deolmutt_driven_free(handle)
-
-    def _open(self) -> ctypes.c_void_p:
-        if not self._handle:
-            raise Closed()
-        return self._handle
-
-    @staticmethod
-    def _check(status: int) -> None:
-        if status != OK:
-            raise refusal(status)
-
-    def __del__(self) -> None:
-        if getattr(self, "_handle", None):
-            self.close()
-
-    def __reduce__(self) -> NoReturn:
-        raise TypeError("a driven job can't be copied or pickled: it is memory of the library")
+        self._let_go(self._library.deolmutt_driven_free)
 
 
 def _number(value: int) -> int:

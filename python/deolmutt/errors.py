@@ -17,7 +17,7 @@ class DeolmuttError(Exception):
 
     def __str__(self) -> str:
         # Some of these are KeyErrors too, which would show their text in quotes.
-        return str(self.args[0]) if self.args else _first_line(type(self))
+        return str(self.args[0]) if self.args else (type(self).__doc__ or "").strip().partition("\n")[0]
 
 
 class Refused(DeolmuttError):
@@ -262,7 +262,3 @@ class NameTaken(Failed):
 
 class Fault(Failed):
     """A directory call failed."""
-
-
-def _first_line(kind: type) -> str:
-    return (kind.__doc__ or "").strip().partition("\n")[0]

@@ -2,15 +2,11 @@
 
 from __future__ import annotations
 
-import re
-from typing import Dict, NamedTuple, Optional
+from typing import NamedTuple, Optional
 
-from ._library import filled, library
-from ._numbers import OK, refusal
-from .lines import decoded
-
-_ESCAPE = re.compile(rb"\\([nr\\])")
-_MEANS = {b"n": b"\n", b"r": b"\r", b"\\": b"\\"}
+from ._library import library
+from ._numbers import given
+from .lines import decoded, unescaped
 
 
 class Summary(NamedTuple):
@@ -25,25 +21,14 @@ class Summary(NamedTuple):
     seconds: Optional[int] = None
 
 
+# What the lines of a summary begin with, in the order of its fields.
+KEYS = ("subject", "from", "message-id", "date", "seconds")
+
+
 def summary(message: bytes) -> Summary:
     """The summary of a message, of which the header alone is read. Refused only as `NoMemory`."""
     text = bytes(message)
-    status, given = filled(library().deolmutt_summary, text, len(text))
-    if status != OK:
-        raise refusal(status)
-    return _summary_of(given)
-
-
-def _summary_of(lines: bytes) -> Summary:
-    values: Dict[bytes, str] = {}
-    for line in lines.split(b"\n"):
-        key, _, value = line.partition(b"=")
-        values[key] = decoded(_ESCAPE.sub(lambda found: _MEANS[found[1]], value))
-    seconds = values.get(b"seconds")
-    return Summary(
-        subject=values.get(b"subject"),
-        sender=values.get(b"from"),
-        message_id=values.get(b"message-id"),
-        date=values.get(b"date"),
-        seconds=None if seconds is None else int(seconds),
-    )
+    lines = decoded(given(library().deolmutt_summary, text, len(text))).split("\n")
+    said = dict(line.partition("=")[::2] for line in lines)
+    *values, seconds = map(said.get, KEYS)
+    return Summary._make([*(value and unescaped(value) for value in values), seconds and int(seconds)])

@@ -5,13 +5,12 @@ from __future__ import annotations
 import ctypes
 import struct
 from dataclasses import dataclass
-from typing import Any, Iterable, List, Union
+from typing import Iterable, List, Union
 
-from ._library import filled, judges, library
-from ._numbers import OK, refusal
+from ._library import library
+from ._numbers import OK, at_line, given_of_lines, refusal
 from .errors import BadLog, DeolmuttError, NotJudged
 from .lines import encoded
-from .world import at_line
 
 # A finding as the library gives it: the number of its line, that of its clause, and a number that is 0.
 _FINDING = struct.Struct("<QII")
@@ -40,18 +39,11 @@ def judge(lines: Lines) -> List[Finding]:
     first wrong line, and as `NoMemory`; and as `NotJudged` by a library without the judge.
     """
     loaded = library()
-    if not judges(loaded):
+    if not hasattr(loaded, "deolmutt_judge"):
         raise NotJudged()
-    log = _text(lines)
-    line = ctypes.c_uint64()
-
-    def run(*given: Any) -> int:
-        status: int = loaded.deolmutt_judge(*given, ctypes.byref(line))
-        return status
-
-    status, found = filled(run, log, len(log))
+    status, found, line = given_of_lines(loaded.deolmutt_judge, _text(lines))
     if status != OK:
-        raise _refused(loaded, status, line.value)
+        raise _refused(loaded, status, line)
     return [_finding(loaded, number, clause) for number, clause, _ in _FINDING.iter_unpack(found)]
 
 
@@ -59,16 +51,12 @@ def _text(lines: Lines) -> bytes:
     """The text of a log."""
     if isinstance(lines, (bytes, bytearray, memoryview, str)):
         return _bytes(lines)
-    return b"".join(_ended(_bytes(line)) for line in lines)
+    return b"".join(_bytes(line).removesuffix(b"\n") + b"\n" for line in lines)
 
 
 def _bytes(text: Log) -> bytes:
     """Bytes as they are, and of a text its UTF-8. A number, of which `bytes` would make so many, is none."""
     return encoded(text) if isinstance(text, str) else bytes(memoryview(text))
-
-
-def _ended(line: bytes) -> bytes:
-    return line if line.endswith(b"\n") else line + b"\n"
 
 
 def _finding(loaded: ctypes.CDLL, line: int, clause: int) -> Finding:

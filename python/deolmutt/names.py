@@ -6,8 +6,8 @@ import ctypes
 from enum import Enum
 from typing import NamedTuple
 
-from ._library import filled, library
-from ._numbers import MOST_U64, OK, letters_of, refusal
+from ._library import library
+from ._numbers import MOST_U64, check, given, letters_of
 from .errors import BadMicrosecond
 from .lines import decoded, encoded
 
@@ -40,19 +40,12 @@ def unique_name(second: int, microsecond: int, process: int, count: int, host: s
     if not 0 <= microsecond < MOST_U64:
         raise BadMicrosecond()
     name = encoded(host)
-    status, made = filled(library().deolmutt_unique, second, microsecond, process, count, name, len(name))
-    if status != OK:
-        raise refusal(status)
-    return decoded(made)
+    return decoded(given(library().deolmutt_unique, second, microsecond, process, count, name, len(name)))
 
 
 def split_name(name: str) -> Parts:
     """The parts of a message's file name. Refused as `NoMessageName` where it is no message's."""
     whole = encoded(name)
     length, info, flags = ctypes.c_size_t(), ctypes.c_uint32(), ctypes.c_uint64()
-    status = library().deolmutt_split(
-        whole, len(whole), ctypes.byref(length), ctypes.byref(info), ctypes.byref(flags)
-    )
-    if status != OK:
-        raise refusal(status)
+    check(library().deolmutt_split(whole, len(whole), ctypes.byref(length), ctypes.byref(info), ctypes.byref(flags)))
     return Parts(decoded(whole[: length.value]), InfoKind(info.value), letters_of(flags.value))

@@ -2,12 +2,10 @@
 
 from __future__ import annotations
 
-import ctypes
 from typing import Any, Optional
 
-from ._library import FIRST_ROOM, filled, library
-from ._numbers import OK, refusal
-from .world import at_line
+from ._library import library
+from ._numbers import OK, at_line, given_of_lines, refusal
 
 
 def transcript(script: bytes, room: Optional[int] = None) -> bytes:
@@ -32,14 +30,7 @@ def index_lines(lines: bytes, room: Optional[int] = None) -> bytes:
 
 def _printed(function: Any, script: bytes, room: Optional[int]) -> bytes:
     """What a function prints of a script. A refused line is raised with what was printed before it."""
-    text = bytes(script)
-    line = ctypes.c_uint64()
-
-    def run(*given: Any) -> int:
-        status: int = function(*given, ctypes.byref(line))
-        return status
-
-    status, printed = filled(run, text, len(text), room=room or FIRST_ROOM)
+    status, printed, line = given_of_lines(function, bytes(script), room)
     if status != OK:
-        raise at_line(refusal(status), line.value, printed)
+        raise at_line(refusal(status), line, printed)
     return printed

@@ -6,24 +6,13 @@ import ctypes
 import struct
 import threading
 import time
-from typing import Any, Callable, Iterable, Iterator, List, NoReturn, Optional, Union
+from typing import Any, Callable, Iterable, Iterator, List, Optional, Tuple, Union
 
-from ._closing import Closing
-from ._library import AnswerStruct, StepStruct, filled, library, start_of
-from ._numbers import MOST_U32, MOST_U64, OK, answer_of, asked, refusal, step_of
+from ._closing import Handle
+from ._library import AnswerStruct, StepStruct, library, start_of
+from ._numbers import MOST_U32, MOST_U64, OK, answer_of, asked, at_line, check, given, refusal, step_of, success_of
 from .calls import Answer, Call, Clean, Copy, Deliver, Entry, Expunge, Flag, Move, Place, Seen, Step
-from .errors import (
-    Closed,
-    DeolmuttError,
-    Failed,
-    NoFolder,
-    NoJob,
-    NoMemory,
-    NotSettled,
-    Refused,
-    Unanswered,
-    WrongThread,
-)
+from .errors import DeolmuttError, Failed, NoFolder, NoJob, NoMemory, NotSettled, Unanswered, WrongThread
 from .lines import decoded, encoded, folder_line
 
 _RECORD = struct.Struct("=4I4Q")
@@ -50,7 +39,7 @@ class _Hold:
         self._lock.release()
 
 
-class World(Closing):
+class World(Handle):
     """A store: folders, numbered from 0, and the messages in them, which lives until it is closed.
 
     One world is for one thread at a time. A call from a second thread while the first is in one is
@@ -65,6 +54,8 @@ class World(Closing):
     `NoMemory` its `job` is the number of a job that is there without an answer, which `step` goes on
     with, or 0.
     """
+
+    _what = "a world"
 
     def __init__(self, lines: bytes) -> None:
         """As `load`."""
@@ -162,12 +153,8 @@ class World(Closing):
                 self._open(), *asked(call).words(), _moment(now), _pointer(own),
                 ctypes.byref(self._job), ctypes.byref(self._answer),
             )  # fmt: skip
-            if status != OK:
-                raise _with_job(refusal(status), self._job.value)
-            answer = answer_of(self._answer.kind, self._answer.value)
-        if isinstance(answer, Failed):
-            raise answer
-        return answer
+            self._check_with_job(status)
+            return success_of(answer_of(self._answer.kind, self._answer.value))
 
     # Many calls.
 
@@ -176,15 +163,11 @@ class World(Closing):
 
         The first that is refused or fails is raised, as by `deliver`; those before it are delivered.
         """
-        self._all(self.call_many([Deliver(folder, *message) for message in messages], now))
+        for answer in self.call_many([Deliver(folder, *message) for message in messages], now):
+            success_of(answer)
 
     def flag_many(
-        self,
-        folder: int,
-        uniques: Iterable[str],
-        add: str = "",
-        remove: str = "",
-        now: Optional[int] = None,
+        self, folder: int, uniques: Iterable[str], add: str = "", remove: str = "", now: Optional[int] = None
     ) -> List[str]:
         """Adds and removes flags of messages in cur, and answers the flags of each.
 
@@ -192,7 +175,7 @@ class World(Closing):
         success, the others are changed all the same, and the first such answer is raised.
         """
         calls = [Flag(folder, unique, add, remove) for unique in uniques]
-        return [answer.flags for answer in self._all(self.call_many(calls, now))]
+        return [success_of(answer).flags for answer in self.call_many(calls, now)]
 
     def call_many(self, calls: Iterable[Call], now: Optional[int] = None) -> List[Union[Answer, Failed]]:
         """Makes calls one after the other, and answers how each ended: an answer that is no success is
@@ -204,30 +187,23 @@ class World(Closing):
         moment = _moment(now)
         with self._hold:
             for records, count in _together(calls):
-                status = self._make(records, count, moment, answers)
+                status, ended = self._made(records, len(records), count, moment)
+                answers += (answer_of(kind, value) for kind, value in _ANSWER.iter_unpack(ended))
                 if status != OK:
                     error = refusal(status)
                     error.done = answers
                     raise error
         return answers
 
-    def _make(self, records: bytes, count: int, now: int, answers: List[Union[Answer, Failed]]) -> int:
-        given = bytearray(count * _ANSWER.size)
+    def _made(self, records: Any, size: int, count: int, now: int) -> Tuple[int, bytes]:
+        """Makes so many calls, by records of so many bytes, and says what refused the next one, and the answers."""
+        ended = bytearray(count * _ANSWER.size)
         self._length.value = 0
         self._changes += 1
         status: int = self._library.deolmutt_calls(
-            self._open(), records, len(records), now, start_of(given), count, ctypes.byref(self._length)
+            self._open(), records, size, now, start_of(ended), count, ctypes.byref(self._length)
         )
-        whole = memoryview(given)[: self._length.value * _ANSWER.size]
-        answers.extend(answer_of(kind, value) for kind, value in _ANSWER.iter_unpack(whole))
-        return status
-
-    @staticmethod
-    def _all(answers: List[Union[Answer, Failed]]) -> List[Answer]:
-        for answer in answers:
-            if isinstance(answer, Failed):
-                raise answer
-        return [answer for answer in answers if isinstance(answer, Answer)]
+        return status, bytes(memoryview(ended)[: self._length.value * _ANSWER.size])
 
     # A job step by step.
 
@@ -237,7 +213,7 @@ class World(Closing):
         Refused: as by `call`.
         """
         with self._hold:
-            self._check(self._library.deolmutt_submit(self._open(), *asked(call).words(), ctypes.byref(self._job)))
+            check(self._library.deolmutt_submit(self._open(), *asked(call).words(), ctypes.byref(self._job)))
             return self._job.value
 
     def step(self, job: int, now: Optional[int] = None, own: Optional[int] = None) -> Step:
@@ -251,7 +227,7 @@ class World(Closing):
             status = self._library.deolmutt_step(
                 self._open(), _checked(job, NoJob), _moment(now), _pointer(own), ctypes.byref(step)
             )
-            self._check(status)
+            check(status)
         return step_of(step.call, step.value, step.reply, step.effect)
 
     def answer(self, job: int) -> Optional[Answer]:
@@ -260,13 +236,10 @@ class World(Closing):
         An answer that is no success is raised: `Failed`. Refused: `NoJob`.
         """
         with self._hold:
-            self._check(self._library.deolmutt_job_answer(self._open(), _checked(job, NoJob), ctypes.byref(self._answer)))
+            check(self._library.deolmutt_job_answer(self._open(), _checked(job, NoJob), ctypes.byref(self._answer)))
             if self._answer.kind == 0:
                 return None
-            answer = answer_of(self._answer.kind, self._answer.value)
-        if isinstance(answer, Failed):
-            raise answer
-        return answer
+            return success_of(answer_of(self._answer.kind, self._answer.value))
 
     # What is there.
 
@@ -283,9 +256,7 @@ class World(Closing):
     def _given(self, function: Callable[..., int], *asked: Any) -> bytes:
         """What a function of the library gives into a buffer."""
         with self._hold:
-            status, given = filled(function, self._open(), *asked)
-            self._check(status)
-        return given
+            return given(function, self._open(), *asked)
 
     # Its life.
 
@@ -298,9 +269,7 @@ class World(Closing):
         if not hasattr(self._library, "deolmutt_settle"):
             raise NotSettled()
         with self._hold:
-            status = self._library.deolmutt_settle(self._open(), ctypes.byref(self._job))
-            if status != OK:
-                raise _with_job(refusal(status), self._job.value)
+            self._check_with_job(self._library.deolmutt_settle(self._open(), ctypes.byref(self._job)))
 
     def reload(self, lines: bytes) -> None:
         """Begins anew over these lines, in place of all that it holds.
@@ -315,9 +284,7 @@ class World(Closing):
     def close(self) -> None:
         """Lets all that the world holds go. Each other method is refused as `Closed` from then on."""
         with self._hold:
-            handle, self._handle = self._handle, ctypes.c_void_p()
-            if handle:
-                self._library.deolmutt_free(handle)
+            self._let_go(self._library.deolmutt_free)
 
     @property
     def held(self) -> _Hold:
@@ -335,14 +302,6 @@ class World(Closing):
         was refused."""
         return self._changes
 
-    def __del__(self) -> None:
-        # A world that was not loaded has no handle.
-        if getattr(self, "_handle", None):
-            self.close()
-
-    def __reduce__(self) -> NoReturn:
-        raise TypeError("a world can't be copied or pickled: it is memory of the library")
-
     def _loaded(self, lines: bytes) -> ctypes.c_void_p:
         handle, line = ctypes.c_void_p(), ctypes.c_uint64()
         status = self._library.deolmutt_load(lines, len(lines), ctypes.byref(handle), ctypes.byref(line))
@@ -350,29 +309,13 @@ class World(Closing):
             raise at_line(refusal(status), line.value)
         return handle
 
-    def _open(self) -> ctypes.c_void_p:
-        if not self._handle:
-            raise Closed()
-        return self._handle
-
-    @staticmethod
-    def _check(status: int) -> None:
-        if status != OK:
-            raise refusal(status)
-
-
-def at_line(error: DeolmuttError, line: int, printed: bytes = b"") -> DeolmuttError:
-    """A refusal with the number of its line, 0 for none, and what was printed before it."""
-    if isinstance(error, Refused):
-        error.line, error.printed = line, printed
-        error.args = (f"line {line}: {error}" if line else str(error),)
-    return error
-
-
-def _with_job(error: DeolmuttError, job: int) -> DeolmuttError:
-    if isinstance(error, (NoMemory, Unanswered)):
-        error.job = job
-    return error
+    def _check_with_job(self, status: int) -> None:
+        """Raises a refusal, with the number of the job that it is about."""
+        try:
+            check(status)
+        except (NoMemory, Unanswered) as error:
+            error.job = self._job.value
+            raise
 
 
 def _moment(now: Optional[int]) -> int:

@@ -13,7 +13,6 @@ from itertools import accumulate
 from operator import add
 from typing import Any, Dict, List, NamedTuple, Optional, Sequence, Tuple, Union
 
-from .._library import start_of
 from .._numbers import OK, _bytes, answer_of, asked, refusal
 from ..calls import Deliver
 from ..errors import DeolmuttError, Failed
@@ -93,16 +92,9 @@ class RecordWorld(World):
 
     def deliver_records(self, records: Records, first: int) -> Made:
         """Delivers the messages from one on, up to the first that is refused. Failed ones have their positions."""
-        given = bytearray((len(records) - first) * _ANSWER.size)
         with self._hold:
-            self._changes += 1
-            self._length.value = 0
-            status: int = self._library.deolmutt_calls(
-                self._open(), *records.after(first), int(time.time()), start_of(given),
-                len(records) - first, ctypes.byref(self._length),
-            )  # fmt: skip
-            count = self._length.value
-        answers = bytes(memoryview(given)[: count * _ANSWER.size])
+            status, answers = self._made(*records.after(first), len(records) - first, int(time.time()))
+        count = len(answers) // _ANSWER.size
         failed = {} if answers == _DELIVERED * count else _failed(answers, first)
         return Made(count, failed, None if status == OK else refusal(status))
 
