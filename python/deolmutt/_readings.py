@@ -64,38 +64,21 @@ def _find_once(directory: bytes, unique: bytes) -> Found:
 
 def _rested(directory: bytes, read: Callable[[], _Read], is_enough: Callable[[_Read], bool]) -> _Read:
     """What a reading gives that is enough, or in which the directory rested."""
-    watch = _Watch(directory)
+    changed: Optional[int] = None
+    since = 0
     for _ in range(_READINGS):
-        before = watch.rested_since()
+        before, now = _changed_at(directory), time.monotonic_ns()
+        if before != changed:
+            # Since when it is seen to bear that time.
+            changed, since = before, now
+        # Its time may be one to come, by another machine's clock or where the clock was set back. Then it rests if it bears that time
+        # for longer than the grain.
+        is_old = before is not None and (time.time_ns() - before > _GRAIN or now - since > _GRAIN)
         given = read()
-        if is_enough(given) or (before is not None and _changed_at(directory) == before):
+        if is_enough(given) or (is_old and _changed_at(directory) == before):
             return given
         time.sleep(_PAUSE)
     raise Restless(f"{os.fsdecode(directory)} was changed again and again")
-
-
-class _Watch:
-    """How long a directory has rested."""
-
-    def __init__(self, directory: bytes) -> None:
-        self._directory = directory
-        self._changed: Optional[int] = None
-        # Since when it is seen to bear that time.
-        self._since = 0
-
-    def rested_since(self) -> Optional[int]:
-        """When it was changed last, if that is longer ago than the grain of its times.
-
-        Its time may be one to come, by another machine's clock or where the clock was set back. Then it rests if it bears that time for
-        so long.
-        """
-        changed, now = _changed_at(self._directory), time.monotonic_ns()
-        if changed is None:
-            return None
-        if changed != self._changed:
-            self._changed, self._since = changed, now
-        is_old = time.time_ns() - changed > _GRAIN or now - self._since > _GRAIN
-        return changed if is_old else None
 
 
 def _changed_at(directory: bytes) -> Optional[int]:
