@@ -6,14 +6,18 @@ import os
 import stat
 import warnings
 from contextlib import suppress
-from typing import Iterator, NamedTuple, Optional
+from typing import Iterator, NamedTuple, Optional, Union
 
+from ._message import Message, message_of
 from ._names import fresh_unique
+from ._numbers import PLACES
 from ._running import flush_directory
 from ._tree import TOP, Trail
 from .calls import Place
+from .lines import encoded
 
-_PLACES = ("tmp", "new", "cur")
+StrPath = Union[str, "os.PathLike[str]"]
+
 _MODE = 0o700
 _FILE_MODE = 0o600
 _NAME_BYTES = 255
@@ -22,14 +26,12 @@ _TRIES = 8
 
 
 class File(NamedTuple):
-    """A message's file: its directory, the two parts of its name, its bytes, and when it was
-    delivered, in seconds since 1970."""
+    """A message's file: the message, its bytes, when it was delivered, in seconds since 1970, and the file's number on the disk."""
 
-    place: Place
-    unique: str
-    info: Optional[str]
+    message: Message
     body: bytes
     date: float
+    number: int
 
 
 class LeftOut(UserWarning):
@@ -48,11 +50,21 @@ def find_folders(tree: str, trail: Trail = TOP) -> Iterator[Trail]:
         path = os.path.join(directory, name)
         if len(name) < 2 or not name.startswith(".") or not os.path.isdir(path):
             continue
-        if not all(os.path.isdir(os.path.join(path, place.value)) for place in Place):
+        if not is_maildir(path):
             warnings.warn(f"{path}: left out: it lacks new or cur", LeftOut, stacklevel=2)
             continue
         yield (*trail, name[1:])
         yield from find_folders(tree, (*trail, name[1:]))
+
+
+def is_maildir(path: str) -> bool:
+    """Whether a directory has new and cur."""
+    return all(map(os.path.isdir, new_and_cur(path)))
+
+
+def new_and_cur(path: str) -> list[str]:
+    """Where the messages of a folder are."""
+    return [os.path.join(path, place.value) for place in Place]
 
 
 def read_files(directory: str, colon: str) -> Iterator[File]:
@@ -67,50 +79,58 @@ def read_files(directory: str, colon: str) -> Iterator[File]:
             is_whole = True
             for name in sorted(os.listdir(os.path.join(directory, place.value))):
                 try:
-                    file, number = _read(directory, place, name, colon)
+                    file = _read(directory, place, name, colon)
                 except FileNotFoundError:
                     is_whole = False
                     continue
-                if file is not None and (file.unique, number) not in met:
-                    met.add((file.unique, number))
+                if file is not None and (file.message.unique, file.number) not in met:
+                    met.add((file.message.unique, file.number))
                     yield file
             if is_whole:
                 break
 
 
-def _read(directory: str, place: Place, name: str, colon: str) -> tuple[Optional[File], int]:
-    """A file and its number on the disk; none where the name is no message's."""
-    unique, found, info = name.partition(colon)
-    if not unique or unique.startswith("."):
-        return None, 0
+def _read(directory: str, place: Place, name: str, colon: str) -> Optional[File]:
+    """A file; none where the name is no message's."""
+    message = message_of(name, place, colon)
+    if not message.unique or message.unique.startswith("."):
+        return None
     path = os.path.join(directory, place.value, name)
     # What is no file is not waited for.
     if not stat.S_ISREG(os.stat(path).st_mode):
-        return None, 0
+        return None
     with open(path, "rb") as file:
         status = os.fstat(file.fileno())
-        parts = place, unique, info if found else None
-        return File(*parts, file.read(), status.st_mtime), status.st_ino
+        return File(message, file.read(), status.st_mtime, status.st_ino)
 
 
-def make_folder(directory: str, is_top: bool) -> None:
-    """Makes a folder where it isn't there."""
-    for path in (directory, *(os.path.join(directory, place) for place in _PLACES)):
-        os.makedirs(path, _MODE, exist_ok=True)
+def make_maildir(path: str) -> None:
+    """Makes a maildir where nothing is yet."""
+    for directory in _directories(path):
+        os.mkdir(directory, _MODE)
+
+
+def make_folder(path: str, is_top: bool) -> None:
+    """Makes what of a folder isn't there."""
+    for directory in _directories(path):
+        os.makedirs(directory, _MODE, exist_ok=True)
     if not is_top:
-        # By Maildir++ a folder in another is marked so.
-        mark = os.path.join(directory, "maildirfolder")
-        os.close(os.open(mark, os.O_CREAT | os.O_WRONLY | os.O_CLOEXEC, 0o666))
+        mark_folder(path)
+
+
+def mark_folder(path: str) -> None:
+    """Marks a folder in another as one, by Maildir++."""
+    os.close(os.open(os.path.join(path, "maildirfolder"), os.O_CREAT | os.O_WRONLY | os.O_CLOEXEC, 0o666))
+
+
+def _directories(path: str) -> list[str]:
+    return [path, *(os.path.join(path, place) for place in PLACES)]
 
 
 def uniques_in(directory: str, colon: str) -> set[str]:
     """The unique names that a folder has, if it is there."""
-    found: set[str] = set()
-    for place in Place:
-        path = os.path.join(directory, place.value)
-        if os.path.isdir(path):
-            found.update(name.partition(colon)[0] for name in os.listdir(path))
-    return found
+    paths = filter(os.path.isdir, new_and_cur(directory))
+    return {name.partition(colon)[0] for path in paths for name in os.listdir(path)}
 
 
 def write_file(path: str, body: bytes, date: float) -> None:
@@ -131,8 +151,8 @@ def write_file(path: str, body: bytes, date: float) -> None:
 
 def flush_folder(directory: str) -> None:
     """Flushes the names in a folder to the disk."""
-    for place in Place:
-        flush_directory(os.path.join(directory, place.value))
+    for path in new_and_cur(directory):
+        flush_directory(path)
 
 
 def _place(fresh: str, path: str) -> None:
@@ -148,5 +168,5 @@ def _place(fresh: str, path: str) -> None:
 def is_sayable(info: Optional[str]) -> bool:
     """Whether a line of the store can say a message's info, after a unique name of this package."""
     text = info or ""
-    size = len(text.encode("utf-8", "surrogateescape")) + len(fresh_unique()) + 1
+    size = len(encoded(text)) + len(fresh_unique()) + 1
     return size <= _NAME_BYTES and not set(text) & set(" \n\r")

@@ -8,6 +8,8 @@ import socket
 import time
 from itertools import count
 
+from .lines import encoded
+
 _HOST_BYTES = 100
 _UNIQUE_BYTES = 200
 _NEVER_IN_UNIQUE = re.compile("[ :/\0\n\r]")
@@ -24,7 +26,7 @@ def is_unique(name: str) -> bool:
     """Whether the store takes a unique name, and a line can say it."""
     if not name or name.startswith(".") or _NEVER_IN_UNIQUE.search(name):
         return False
-    return len(name.encode("utf-8", "surrogateescape")) <= _UNIQUE_BYTES
+    return len(encoded(name)) <= _UNIQUE_BYTES
 
 
 def _host() -> str:

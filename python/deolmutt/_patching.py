@@ -5,13 +5,13 @@ from __future__ import annotations
 import mailbox
 import os
 from contextlib import contextmanager
-from typing import Any, Iterator, Optional, Union
+from typing import Any, Iterator, Optional
 
+from ._base import Factory
+from ._disk import StrPath, directory_of, is_maildir
 from ._tree import TOP, Trail, Tree
 from .disk_maildir import DiskMaildir
-from .maildir import Factory, Maildir
-
-StrPath = Union[str, "os.PathLike[str]"]
+from .maildir import Maildir
 
 
 class MemoryMaildir(Maildir, mailbox.Maildir):  # type: ignore[misc]
@@ -22,7 +22,7 @@ class MemoryMaildir(Maildir, mailbox.Maildir):  # type: ignore[misc]
     def _at(self, trail: Trail) -> MemoryMaildir:
         found = super()._at(trail)
         assert isinstance(found, MemoryMaildir)
-        found._path = os.path.join(self._path, *("." + name for name in trail[len(self._trail) :]))
+        found._path = directory_of(self._path, trail[len(self._trail) :])
         return found
 
     def close(self) -> None:
@@ -56,13 +56,13 @@ class _Stores:
         trail: Trail = TOP
         while True:
             above, name = os.path.split(path)
-            if len(name) < 2 or not name.startswith(".") or not (above in self._trees or _is_maildir(above)):
+            if len(name) < 2 or not name.startswith(".") or not (above in self._trees or is_maildir(above)):
                 return path, trail
             path, trail = above, (name[1:], *trail)
 
     @staticmethod
     def _load(path: str, create: bool) -> Tree:
-        if _is_maildir(path):
+        if is_maildir(path):
             return Maildir.load(path)._tree
         if not create and not os.path.isdir(path):
             raise mailbox.NoSuchMailboxError(path)
@@ -85,7 +85,7 @@ def patched(prefix: StrPath, disk: bool = False) -> Iterator[None]:
 
     def begin(self: Any, dirname: StrPath, factory: Optional[Factory] = None, create: bool = True) -> None:
         path = os.fsdecode(os.fspath(dirname))
-        if not _is_below(path, top):
+        if os.path.commonpath([os.path.realpath(path), top]) != top:
             before(self, dirname, factory, create)
         elif disk:
             self.__class__ = _with_base(type(self), PatchedDiskMaildir)
@@ -114,12 +114,3 @@ def _with_base(kind: type, base: type) -> type:
     if (kind, base) not in _made:
         _made[kind, base] = type(kind.__name__, (kind, base), {"__module__": kind.__module__})
     return _made[kind, base]
-
-
-def _is_below(path: str, top: str) -> bool:
-    found = os.path.realpath(path)
-    return os.path.commonpath([found, top]) == top
-
-
-def _is_maildir(path: str) -> bool:
-    return all(os.path.isdir(os.path.join(path, place)) for place in ("new", "cur"))

@@ -11,13 +11,14 @@ from contextlib import suppress
 from functools import lru_cache
 from typing import Any, Iterator, List, Optional, Sequence, Tuple, Union
 
+from ._closing import Closing
+from ._numbers import PLACES
 from ._readings import find_name
 from .calls import Answer, Call, Clean
 from .driven import APPEND, CREATE, DONE, EXISTS, FAULTED, LINK, LIST, NOT_FOUND, UNLINK, Driven, Request
 from .errors import DeolmuttError, Failed, TwoNames
 from .lines import encoded
 
-PLACES = (b"tmp", b"new", b"cur")
 _FILE_MODE = 0o600
 # Of renameat2(2): from the directory of the process, and with no replacing.
 _AT_FDCWD = -100
@@ -33,24 +34,20 @@ def run(call: Call, folders: Sequence[bytes], date: Optional[float] = None) -> A
     An answer that is no success is raised: `Failed`, from the error of the last call that failed, if one did. Refused: as
     `deolmutt.driven.Driven`.
     """
-    system = _System(folders, date)
-    try:
-        with Driven(call) as job:
-            while True:
-                job.ask(int(time.time()))
-                reply, rows = system.make(job.request(), call)
-                for name, stamp in rows:
-                    job.row(name, stamp)
-                answer = job.take(reply)
-                if isinstance(answer, Failed):
-                    raise answer from system.cause
-                if answer is not None:
-                    return answer
-    finally:
-        system.close()
+    with _System(folders, date) as system, Driven(call) as job:
+        while True:
+            job.ask(int(time.time()))
+            reply, rows = system.make(job.request(), call)
+            for name, stamp in rows:
+                job.row(name, stamp)
+            answer = job.take(reply)
+            if isinstance(answer, Failed):
+                raise answer from system.cause
+            if answer is not None:
+                return answer
 
 
-class _System:
+class _System(Closing):
     """The calls of the system on some maildirs."""
 
     def __init__(self, folders: Sequence[bytes], date: Optional[float]) -> None:
@@ -120,31 +117,28 @@ class _System:
 
     def _link(self, path: bytes, target: bytes) -> int:
         """Gives a file a second name. The file of a delivery is flushed before, and the directory after."""
-        self._flush(path)
+        self._flush()
         os.link(path, target)
         # The message is there, whether or not a machine that stops now would keep it.
         with suppress(OSError):
             flush_directory(os.path.dirname(target))
         return DONE
 
-    def _flush(self, path: bytes) -> None:
-        file, self._file = self._file, None
-        if file is None:
-            return
-        try:
+    def _flush(self) -> None:
+        if self._file is not None:
             if self._date is not None:
-                os.utime(file, (self._date, self._date))
-            os.fsync(file)
-        finally:
-            os.close(file)
+                os.utime(self._file, (self._date, self._date))
+            os.fsync(self._file)
+            self.close()
 
     def close(self) -> None:
-        """Closes the file of a delivery that did not come to its link."""
-        if self._file is not None:
-            os.close(self._file)
+        """Closes the file of a delivery, also of one that did not come to its link."""
+        file, self._file = self._file, None
+        if file is not None:
+            os.close(file)
 
     def _directory(self, folder: int, place: int) -> bytes:
-        return os.path.join(self._folders[folder], PLACES[place])
+        return os.path.join(self._folders[folder], encoded(PLACES[place]))
 
     def _path(self, folder: int, place: int, name: bytes) -> bytes:
         return os.path.join(self._directory(folder, place), name)

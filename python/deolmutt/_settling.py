@@ -2,7 +2,7 @@
 
 from __future__ import annotations
 
-from typing import Callable, Iterable, List, Optional, Union
+from typing import Callable, Iterable, List, Union
 
 from .calls import Answer, Call
 from .errors import DeolmuttError, Failed, NotSettled, TooManyJobs
@@ -17,9 +17,7 @@ def settle(world: World, lines: Callable[[], Iterable[bytes]]) -> None:
         world.reload(b"".join(lines()))
 
 
-def call_many(
-    world: World, calls: Iterable[Call], settle: Callable[[], None], now: Optional[int] = None
-) -> List[Union[Answer, Failed]]:
+def call_many(world: World, calls: Iterable[Call], settle: Callable[[], None]) -> List[Union[Answer, Failed]]:
     """Makes calls, and answers how each ended, as `World.call_many` does.
 
     Where the world has had all its calls, `settle` gives it as many again, and the calls go on. The
@@ -29,7 +27,7 @@ def call_many(
     answers: List[Union[Answer, Failed]] = []
     while left:
         try:
-            answers += world.call_many(left, now)
+            answers += world.call_many(left)
             break
         except TooManyJobs as error:
             answers += error.done

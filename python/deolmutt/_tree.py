@@ -3,13 +3,14 @@
 from __future__ import annotations
 
 import time
-from functools import lru_cache
-from typing import Iterable, Iterator, NamedTuple, Optional
+from typing import Callable, Iterable, Iterator, Optional, Union
 
+from ._message import FLAGS_FOLLOW, TRASHED, Message, Wanted, message_of
 from ._names import fresh_unique
+from ._numbers import success_of
 from ._settling import call_many, settle
 from .calls import Answer, Call, Deliver, Expunge, Flag, Place, Seen
-from .errors import BadFlag, Failed, NoSpareFolder, OtherInfo, TooManyJobs
+from .errors import NoSpareFolder, TooManyJobs
 from .lines import file_line, folder_line
 from .world import World
 
@@ -17,56 +18,6 @@ from .world import World
 Trail = tuple[str, ...]
 TOP: Trail = ()
 MOST_FOLDERS = 64
-_FLAGS_FOLLOW = "2,"
-_TRASHED = "T"
-
-
-class Message(NamedTuple):
-    """Where the store has a message: its unique name, its directory and its info, if it has any."""
-
-    unique: str
-    place: Place
-    info: Optional[str]
-
-    @property
-    def flags(self) -> str:
-        """Its flags. Other info has none."""
-        if self.info is None or not self.info.startswith(_FLAGS_FOLLOW):
-            return ""
-        return self.info[len(_FLAGS_FOLLOW) :]
-
-    def check_info(self) -> None:
-        """Refuses a message with another program's mark, whose flags the store doesn't change."""
-        if self.info is not None:
-            flags_in(self.info)
-
-
-@lru_cache(maxsize=256)
-def flags_in(info: str) -> str:
-    """The flags that info says: none, or `2,` and letters. All else is refused as `OtherInfo`."""
-    flags = info[len(_FLAGS_FOLLOW) :]
-    if info and not (info.startswith(_FLAGS_FOLLOW) and is_flags(flags)):
-        raise OtherInfo(f"info is empty, or 2, and letters: {info!r}")
-    return flags
-
-
-def is_flags(flags: str) -> bool:
-    """Whether a text is letters alone, A to Z and a to z, or empty."""
-    return not flags or (flags.isascii() and flags.isalpha())
-
-
-def check_flags(flags: str) -> None:
-    """Refuses flags that are no letters."""
-    if not is_flags(flags):
-        raise BadFlag(f"flags are letters: {flags!r}")
-
-
-class Wanted(NamedTuple):
-    """What a message is to be in the store beside its bytes."""
-
-    place: Place
-    flags: str
-    date: float
 
 
 class Tree:
@@ -133,10 +84,10 @@ class Tree:
         found: dict[str, Message] = {}
         now = time.time()
         for entry in self.world.list(number):
-            unique = entry.unique
-            self._dates.setdefault(unique, now)
-            key = self._keys.get(unique, unique)
-            found[unique if key in found else key] = Message(unique, entry.place, entry.info)
+            message = message_of(entry.name, entry.place)
+            self._dates.setdefault(message.unique, now)
+            key = self._keys.get(message.unique, message.unique)
+            found[message.unique if key in found else key] = message
         return found
 
     def date(self, message: Message) -> float:
@@ -158,10 +109,9 @@ class Tree:
         unique = fresh_unique()
         self.call(Deliver(number, unique, body))
         self._dates[unique] = wanted.date
-        message = Message(unique, Place.NEW, None)
+        contents[unique] = Message(unique, Place.NEW)
         if wanted.place is Place.CUR:
-            message = self._seen(number, message, wanted.flags)
-        contents[unique] = message
+            contents[unique] = self._flagged(Seen(number, unique, wanted.flags))
         self._keep_contents()
         return unique
 
@@ -183,9 +133,9 @@ class Tree:
         contents = self.contents(number)
         message = contents[key]
         if message.place is Place.NEW:
-            self._seen(number, message, _TRASHED)
-        elif _TRASHED not in message.flags:
-            self._flag(number, message, _TRASHED, "")
+            self.call(Seen(number, message.unique, TRASHED))
+        elif TRASHED not in message.flags:
+            self.call(Flag(number, message.unique, TRASHED))
         self.call(Expunge(number, message.unique))
         self._keys.pop(message.unique, None)
         self._dates.pop(message.unique, None)
@@ -204,10 +154,10 @@ class Tree:
         message = contents[key]
         message.check_info()
         if message.place is Place.NEW and (add or message.flags):
-            message = self._seen(number, message, add)
+            message = self._flagged(Seen(number, message.unique, add))
         flags = set(message.flags)
         if not flags.issuperset(add) or not flags.isdisjoint(remove):
-            message = self._flag(number, message, add, remove)
+            message = self._flagged(Flag(number, message.unique, add, remove))
         contents[key] = message
         self._keep_contents()
 
@@ -223,13 +173,9 @@ class Tree:
                 for message in messages
             )
 
-    def _seen(self, number: int, message: Message, flags: str) -> Message:
-        answer = self.call(Seen(number, message.unique, flags))
-        return Message(message.unique, Place.CUR, _FLAGS_FOLLOW + answer.flags)
-
-    def _flag(self, number: int, message: Message, add: str, remove: str) -> Message:
-        answer = self.call(Flag(number, message.unique, add, remove))
-        return Message(message.unique, Place.CUR, _FLAGS_FOLLOW + answer.flags)
+    def _flagged(self, call: Union[Seen, Flag]) -> Message:
+        """Makes a call after which a message is in cur, and answers the message as it is then."""
+        return Message(call.unique, Place.CUR, FLAGS_FOLLOW + self.call(call).flags)
 
     # Calls.
 
@@ -244,23 +190,15 @@ class Tree:
     def _call_all(self, calls: Iterable[Call]) -> None:
         """Makes many calls. What they changed is listed anew when it is asked for."""
         for answer in call_many(self.world, calls, self._settle):
-            if isinstance(answer, Failed):
-                raise answer
+            success_of(answer)
 
     def _settle(self) -> None:
         settle(self.world, self._lines)
 
     def _lines(self) -> Iterator[bytes]:
         """The `folder` and `file` lines of all that the world holds."""
-        numbers = range(len(self._folders) + len(self._spare))
-        yield from map(_head, numbers)
-        for number in numbers:
-            yield from self._lines_of(number)
-
-    def _lines_of(self, number: int) -> Iterator[bytes]:
-        for entry in self.world.list(number):
-            date, body = self._dates.get(entry.unique, 0.0), self.world.read(entry.unique)
-            yield file_line(store_name(number), entry.place.value, entry.name, int(date), body)
+        count = len(self._folders) + len(self._spare)
+        return lines_of(self.world, count, count, lambda unique: int(self._dates.get(unique, 0.0)))
 
 
 def loaded_tree(folders: list[Trail], spare: int, files: Iterable[bytes]) -> Tree:
@@ -270,13 +208,23 @@ def loaded_tree(folders: list[Trail], spare: int, files: Iterable[bytes]) -> Tre
     count = len(named) + spare
     if count > MOST_FOLDERS:
         raise NoSpareFolder(f"a store has at most {MOST_FOLDERS} folders, not {count}")
-    world = World.load(b"".join([*map(_head, range(count)), *files]))
+    world = World.load(b"".join([folder_lines(count), *files]))
     numbers = {trail: number for number, trail in enumerate(named)}
     return Tree(world, numbers, list(range(count - 1, len(named) - 1, -1)))
 
 
-def _head(number: int) -> bytes:
-    return folder_line(store_name(number))
+def folder_lines(count: int) -> bytes:
+    """The lines of so many folders."""
+    return b"".join(folder_line(store_name(number)) for number in range(count))
+
+
+def lines_of(world: World, count: int, used: int, date_of: Callable[[str], int]) -> Iterator[bytes]:
+    """The `folder` and `file` lines of a world of so many folders, of which so many from the first on are used."""
+    yield folder_lines(count)
+    for number in range(used):
+        for entry in world.list(number):
+            body = world.read(entry.unique)
+            yield file_line(store_name(number), entry.place.value, entry.name, date_of(entry.unique), body)
 
 
 def store_name(number: int) -> str:

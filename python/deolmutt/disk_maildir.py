@@ -3,59 +3,33 @@
 from __future__ import annotations
 
 import errno
-import io
 import mailbox
 import os
 import re
-from typing import IO, Any, Iterator, List, NamedTuple, Optional
+from typing import IO, Any, List, Optional
 
-from ._closing import Closing
+from ._base import Addable, BaseMaildir, Factory, no_message
+from ._disk import StrPath, directory_of, make_maildir, mark_folder, new_and_cur
+from ._message import TRASHED, Message, Wanted, flags_in, message_of, name_of, wanted_of
 from ._names import fresh_unique
-from ._numbers import letters_of
+from ._numbers import PLACES
 from ._readings import all_names, find_name
-from ._running import PLACES, run
-from ._tree import flags_in, is_flags
+from ._running import run
 from .calls import Answer, Call, Clean, Copy, Deliver, Expunge, Flag, Place, Seen
 from .errors import BadUnique, NameTaken, NotThere, NotTrashed, Restless, TwoNames
 from .lines import decoded, encoded
-from .maildir import Addable, Factory, check_text, wanted_of
 
-_TRASHED = "T"
-_MODE = 0o700
-_MARK = "maildirfolder"
-_ALL_FLAGS = letters_of((1 << 52) - 1)
 # How many bytes are written at once.
 _PIECE_BYTES = 1 << 20
 # How often a job looks for a message whose name is gone at the act: as often as one may.
 _TRIES = 16
-_MESSAGE_PLACES = ("new", "cur")
-_PLACES = ("tmp", *_MESSAGE_PLACES)
 # A message that goes to another name while it is looked for is looked for again so often.
 _LOOKS = 8
-_NEVER_IN_KEY = re.compile("[:/\0]")
+# What no unique name has, and surrogates that stand for no byte of one.
+_NEVER_IN_KEY = re.compile("[:/\0\ud800-\udc7f\udd00-\udfff]")
 
 
-class _Named(NamedTuple):
-    """A message's file: its directory and its whole name."""
-
-    place: Place
-    name: bytes
-
-    @property
-    def info(self) -> Optional[str]:
-        """What stands after the first colon, or None where there is none."""
-        _, colon, info = self.name.partition(b":")
-        return decoded(info) if colon else None
-
-    @property
-    def flags(self) -> str:
-        """Its flags. Other info has none."""
-        info = self.info or ""
-        flags = info[2:]
-        return flags if info.startswith("2,") and is_flags(flags) else ""
-
-
-class DiskMaildir(Closing, mailbox.Mailbox):  # type: ignore[type-arg]
+class DiskMaildir(BaseMaildir):
     """A maildir on a disk, with the methods of `mailbox.Maildir`.
 
     Other programs may change it meanwhile, as long as they keep to the maildir format. Each change is a job of the store's machine,
@@ -65,28 +39,22 @@ class DiskMaildir(Closing, mailbox.Mailbox):  # type: ignore[type-arg]
 
     Differences from `mailbox.Maildir`: a message that is given flags is in cur; other info than flags raises `OtherInfo` where it
     would be changed; an answer of a job that is no success is raised as a `Failed`; and a file is flushed to the disk before it is a
-    message, and the directory after. docs/PYTHON.md has them all.
+    message, and the directory after. docs/PYTHON.md has them all. Another `colon` is not taken.
     """
 
-    # What stands before info in the names of files. Another one is not taken.
-    colon = ":"
-
-    def __init__(
-        self, dirname: "str | os.PathLike[str]", factory: Optional[Factory] = None, create: bool = True
-    ) -> None:
+    def __init__(self, dirname: StrPath, factory: Optional[Factory] = None, create: bool = True) -> None:
         """The maildir of a path, which is made where it isn't there.
 
         Raises `mailbox.NoSuchMailboxError` where it isn't there and is not to be made.
         """
         # The class beside it of `patched` has another one first.
         mailbox.Mailbox.__init__(self, os.fspath(dirname), factory, create)
-        self._onetime_keys: Optional[Iterator[str]] = None
         # Where messages were met last, by their unique names.
-        self._met: dict[bytes, _Named] = {}
+        self._met: dict[str, Message] = {}
         if not os.path.exists(self._path):
             if not create:
                 raise mailbox.NoSuchMailboxError(self._path)
-            _make(self._path)
+            make_maildir(self._path)
 
     def __repr__(self) -> str:
         return f"<{type(self).__module__.partition('.')[0]}.{type(self).__qualname__} of {self._path!r}>"
@@ -99,7 +67,9 @@ class DiskMaildir(Closing, mailbox.Mailbox):  # type: ignore[type-arg]
         It is delivered to new. One that has flags or is of cur then goes there by a second step: a failure between the two leaves it
         in new without its flags. Raises `mailbox.ExternalClashError` where another message has the name that was made for it.
         """
-        wanted = wanted_of(message)
+        return self._deliver(message, wanted_of(message))
+
+    def _deliver(self, message: Addable, wanted: Wanted) -> str:
         key = fresh_unique()
         self._run(Deliver(0, key, self._body(message), _PIECE_BYTES), wanted.date)
         if wanted.place is Place.CUR:
@@ -113,7 +83,7 @@ class DiskMaildir(Closing, mailbox.Mailbox):  # type: ignore[type-arg]
         between them leaves it whole in cur, with the flag T.
         """
         for _ in range(_LOOKS):
-            self._change_flags(key, _TRASHED, "")
+            self._change_flags(key, TRASHED, "")
             try:
                 self._run(Expunge(0, key, _TRIES))
                 return
@@ -121,7 +91,7 @@ class DiskMaildir(Closing, mailbox.Mailbox):  # type: ignore[type-arg]
                 # Another program took the flag away.
                 continue
             except NotThere:
-                raise _no_message(key) from None
+                raise no_message(key) from None
         raise NotTrashed()
 
     def __setitem__(self, key: str, message: Addable) -> None:
@@ -133,10 +103,8 @@ class DiskMaildir(Closing, mailbox.Mailbox):  # type: ignore[type-arg]
         `mailbox.ExternalClashError`.
         """
         old = self._lookup(key)
-        flags_in(old.info or "")
-        fresh = self.add(message)
-        if not isinstance(message, mailbox.MaildirMessage) and (old.flags or old.place is Place.CUR):
-            self._run(Seen(0, fresh, old.flags, _TRIES))
+        old.check_info()
+        fresh = self._deliver(message, wanted_of(message, old))
         self.remove(key)
         self._run(Copy(0, fresh, 0, key, _TRIES))
         self.remove(fresh)
@@ -169,11 +137,7 @@ class DiskMaildir(Closing, mailbox.Mailbox):  # type: ignore[type-arg]
 
         New is read, and then cur, each by a reading in which it rested.
         """
-        return [decoded(unique) for unique in sorted(self._listed())]
-
-    def iterkeys(self) -> Iterator[str]:
-        """The keys of the messages that are there now. Those removed meanwhile are passed over."""
-        return (key for key in self.keys() if key in self)
+        return sorted(self._listed(), key=encoded)
 
     def __contains__(self, key: object) -> bool:
         """Whether there is a message of this key."""
@@ -189,54 +153,14 @@ class DiskMaildir(Closing, mailbox.Mailbox):  # type: ignore[type-arg]
         """How many messages there are."""
         return len(self._listed())
 
-    def next(self) -> Any:
-        """The next message of an iteration that a mailbox has once, or None after the last."""
-        if self._onetime_keys is None:
-            self._onetime_keys = self.iterkeys()
-        for key in self._onetime_keys:
-            try:
-                return self[key]
-            except KeyError:
-                continue
-        return None
-
-    # Flags and info by key.
-
-    def get_info(self, key: str) -> str:
-        """What stands after the first colon of a message's name. Raises KeyError for no message."""
-        return self._lookup(key).info or ""
-
-    def set_info(self, key: str, info: str) -> None:
-        """Sets the flags that info says: it is empty, or `2,` and letters, else `OtherInfo`."""
-        if not isinstance(info, str):
-            raise TypeError(f"info must be a string: {type(info)}")
-        self.set_flags(key, flags_in(info))
-
-    def get_flags(self, key: str) -> str:
-        """The flags of a message, as its name spells them. Raises KeyError for no message."""
-        return self._lookup(key).flags
-
-    def set_flags(self, key: str, flags: str) -> None:
-        """Gives a message these flags and no others. One in new that is given any goes to cur."""
-        check_text(flags)
-        self._change_flags(key, flags, "".join(sorted(set(_ALL_FLAGS) - set(flags))))
-
-    def add_flag(self, key: str, flag: str) -> None:
-        """Adds a flag, or some, to those that the message has by then. One in new goes to cur."""
-        check_text(flag)
-        self._change_flags(key, flag, "")
-
-    def remove_flag(self, key: str, flag: str) -> None:
-        """Takes a flag, or some, away from those that the message has by then."""
-        check_text(flag)
-        self._change_flags(key, "", flag)
+    # Flags by key.
 
     def _change_flags(self, key: str, add: str, remove: str) -> None:
         """Adds flags and takes flags away, wherever the message is: in cur, or in new, from where it goes to cur.
 
         A message that goes from new to cur meanwhile is met in cur at the second round.
         """
-        _unique_of(key)
+        _check_key(key)
         try:
             for _ in range(2):
                 if self._change_in_cur(key, add, remove) or self._change_in_new(key, add, remove):
@@ -245,7 +169,7 @@ class DiskMaildir(Closing, mailbox.Mailbox):  # type: ignore[type-arg]
             # No job takes the name. That is said only where there is a message of that name.
             self._lookup(key)
             raise
-        raise _no_message(key)
+        raise no_message(key)
 
     def _change_in_cur(self, key: str, add: str, remove: str) -> bool:
         """The same for a message of cur. Whether there is one."""
@@ -257,7 +181,7 @@ class DiskMaildir(Closing, mailbox.Mailbox):  # type: ignore[type-arg]
 
     def _change_in_new(self, key: str, add: str, remove: str) -> bool:
         """The same for a message of new, which stays there if nothing of it changes. Whether there is one."""
-        found = self._find(Place.NEW, encoded(key))
+        found = self._find(Place.NEW, key)
         if found is None:
             return False
         flags = set(flags_in(found.info or ""))
@@ -278,13 +202,13 @@ class DiskMaildir(Closing, mailbox.Mailbox):  # type: ignore[type-arg]
 
     def get_folder(self, folder: str) -> DiskMaildir:
         """A folder in this one. Raises `mailbox.NoSuchMailboxError` where there is none."""
-        return type(self)(os.path.join(self._path, "." + folder), self._factory, create=False)
+        return type(self)(directory_of(self._path, (folder,)), self._factory, create=False)
 
     def add_folder(self, folder: str) -> DiskMaildir:
         """Makes a folder in this one where it isn't there, and answers it."""
-        path = os.path.join(self._path, "." + folder)
+        path = directory_of(self._path, (folder,))
         found = type(self)(path, self._factory)
-        os.close(os.open(os.path.join(path, _MARK), os.O_CREAT | os.O_WRONLY | os.O_CLOEXEC, 0o666))
+        mark_folder(path)
         return found
 
     def remove_folder(self, folder: str) -> None:
@@ -293,16 +217,15 @@ class DiskMaildir(Closing, mailbox.Mailbox):  # type: ignore[type-arg]
         Raises FileNotFoundError where there is none, and `mailbox.NotEmptyError` where it has messages or directories. A message that
         another program delivers meanwhile stays: the folder is not empty then.
         """
-        path = os.path.join(self._path, "." + folder)
-        for place in _MESSAGE_PLACES:
-            if any(not name.startswith(".") for name in os.listdir(os.path.join(path, place))):
-                raise mailbox.NotEmptyError(f"Folder contains message(s): {folder}")
+        path = directory_of(self._path, (folder,))
+        if any(not name.startswith(".") for directory in new_and_cur(path) for name in os.listdir(directory)):
+            raise mailbox.NotEmptyError(f"Folder contains message(s): {folder}")
         with os.scandir(path) as entries:
             for entry in entries:
-                if entry.is_dir() and entry.name not in _PLACES:
+                if entry.is_dir() and entry.name not in PLACES:
                     raise mailbox.NotEmptyError(f"Folder contains subdirectory '{entry.name}': {folder}")
-        for place in _MESSAGE_PLACES:
-            _remove_directory(os.path.join(path, place), ".")
+        for directory in new_and_cur(path):
+            _remove_directory(directory, ".")
         if os.path.isdir(os.path.join(path, "tmp")):
             _remove_directory(os.path.join(path, "tmp"), "")
         _remove_directory(path, "")
@@ -312,15 +235,6 @@ class DiskMaildir(Closing, mailbox.Mailbox):  # type: ignore[type-arg]
     def clean(self) -> None:
         """Removes the files of tmp that were not used for 36 hours."""
         self._run(Clean(0))
-
-    def flush(self) -> None:
-        """Does nothing: each change is on the disk at once."""
-
-    def lock(self) -> None:
-        """Does nothing: a maildir needs no lock."""
-
-    def unlock(self) -> None:
-        """Does nothing: there is no lock."""
 
     def close(self) -> None:
         """Does nothing: nothing is kept open."""
@@ -336,38 +250,39 @@ class DiskMaildir(Closing, mailbox.Mailbox):  # type: ignore[type-arg]
     def _directory(self, place: Place) -> bytes:
         return os.path.join(os.fsencode(self._path), encoded(place.value))
 
-    def _file(self, found: _Named) -> bytes:
-        return os.path.join(self._directory(found.place), found.name)
+    def _file(self, found: Message) -> bytes:
+        return os.path.join(self._directory(found.place), encoded(name_of(found.unique, found.info)))
 
-    def _listed(self) -> dict[bytes, _Named]:
+    def _listed(self) -> dict[str, Message]:
         """The messages by their unique names: new is read before cur, and one that both show is where cur shows it."""
-        listed: dict[bytes, _Named] = {}
-        for place in (Place.NEW, Place.CUR):
+        listed: dict[str, Message] = {}
+        for place in Place:
             for name in all_names(self._directory(place)):
                 if not name.startswith((b".", b":")):
-                    listed[name.partition(b":")[0]] = _Named(place, name)
+                    message = message_of(decoded(name), place)
+                    listed[message.unique] = message
         self._met = dict(listed)
         return listed
 
-    def _find(self, place: Place, unique: bytes) -> Optional[_Named]:
-        found = find_name(self._directory(place), unique)
+    def _find(self, place: Place, unique: str) -> Optional[Message]:
+        found = find_name(self._directory(place), encoded(unique))
         if found.is_twice:
-            raise TwoNames(f"two files have the unique name {decoded(unique)}")
-        return None if found.name is None else _Named(place, found.name)
+            raise TwoNames(f"two files have the unique name {unique}")
+        return None if found.name is None else message_of(decoded(found.name), place)
 
-    def _lookup(self, key: str) -> _Named:
+    def _lookup(self, key: str) -> Message:
         """A message: where it was met last, if its file is still there, or else in new and then in cur. Raises KeyError for no message."""
-        unique = _unique_of(key)
-        met = self._met.get(unique)
+        _check_key(key)
+        met = self._met.get(key)
         if met is not None and os.path.lexists(self._file(met)):
             return met
-        found = self._find(Place.NEW, unique) or self._find(Place.CUR, unique)
+        found = self._find(Place.NEW, key) or self._find(Place.CUR, key)
         if found is None:
-            raise _no_message(key)
-        self._met[unique] = found
+            raise no_message(key)
+        self._met[key] = found
         return found
 
-    def _opened(self, key: str) -> tuple[_Named, IO[bytes]]:
+    def _opened(self, key: str) -> tuple[Message, IO[bytes]]:
         """A message and its file. A name that is gone by the opening is looked for again."""
         for _ in range(_LOOKS):
             found = self._lookup(key)
@@ -377,28 +292,11 @@ class DiskMaildir(Closing, mailbox.Mailbox):  # type: ignore[type-arg]
                 continue
         raise Restless(f"the name of {key} was changed again and again")
 
-    def _body(self, message: Addable) -> bytes:
-        """The bytes of a message, as the base class writes them to a file."""
-        if type(message) is bytes:
-            return message
-        out = io.BytesIO()
-        # The base class has it, and says nothing of its type.
-        self._dump_message(message, out)  # type: ignore[attr-defined]
-        return out.getvalue()
 
-
-def _unique_of(key: object) -> bytes:
-    """The unique name that a key is. Raises KeyError for what no message has as its key."""
+def _check_key(key: object) -> None:
+    """Raises KeyError for what no message has as its key."""
     if not isinstance(key, str) or not key or key.startswith(".") or _NEVER_IN_KEY.search(key):
-        raise _no_message(key)
-    try:
-        return encoded(key)
-    except UnicodeEncodeError:
-        raise _no_message(key) from None
-
-
-def _no_message(key: object) -> KeyError:
-    return KeyError(f"No message with key: {key}")
+        raise no_message(key)
 
 
 def _remove_directory(directory: str, start: str) -> None:
@@ -413,9 +311,3 @@ def _remove_directory(directory: str, start: str) -> None:
         if error.errno not in (errno.ENOTEMPTY, errno.EEXIST):
             raise
         raise mailbox.NotEmptyError(f"Directory is not empty: {directory}") from error
-
-
-def _make(path: str) -> None:
-    os.mkdir(path, _MODE)
-    for place in PLACES:
-        os.mkdir(os.path.join(os.fsencode(path), place), _MODE)

@@ -6,50 +6,28 @@ import io
 import mailbox
 import os
 import re
-import time
 import warnings
-from email.message import Message as EmailMessage
-from typing import IO, Any, Callable, Iterable, Iterator, List, Optional, Protocol, Union
+from typing import IO, Any, Iterable, List, Optional
 
 from . import _disk
-from ._closing import Closing
+from ._base import Addable, BaseMaildir, Factory, Readable, no_message
+from ._disk import StrPath
+from ._message import Message, check_flags, name_of, wanted_of
 from ._names import fresh_unique, is_unique
-from ._tree import (
-    MOST_FOLDERS,
-    TOP,
-    Message,
-    Trail,
-    Tree,
-    Wanted,
-    check_flags,
-    flags_in,
-    loaded_tree,
-    store_name,
-)
-from .calls import Clean, Place
+from ._tree import MOST_FOLDERS, TOP, Trail, Tree, loaded_tree, store_name
+from .calls import Clean
 from .errors import BodyTooLong, Closed, WrongThread
 from .lines import file_line
 from .world import World
 
-
-class Readable(Protocol):
-    """A file that is open for reading bytes."""
-
-    def read(self, __length: int = ...) -> bytes: ...
-
-    def readline(self) -> bytes: ...
-
-
-# What `add` takes, as in `mailbox`. It warns of a StringIO, and takes it by its ASCII bytes.
-Addable = Union[EmailMessage, str, bytes, io.StringIO, Readable]
-Factory = Callable[[IO[bytes]], Any]
+__all__ = ["Addable", "Factory", "Maildir", "Readable"]
 
 # What the store takes of a message that is delivered.
 _MOST_BYTES = 16_777_216
 _NEVER_IN_FOLDER = re.compile("[/\0]")
 
 
-class Maildir(Closing, mailbox.Mailbox):  # type: ignore[type-arg]
+class Maildir(BaseMaildir):
     """A mailbox in memory, which begins empty and lives until it is closed.
 
     It has the methods of `mailbox.Maildir`, and they do what that does, with these differences:
@@ -59,16 +37,12 @@ class Maildir(Closing, mailbox.Mailbox):  # type: ignore[type-arg]
       can be read and exported, and what would change its flags or remove it raises `OtherInfo`.
     - The folders of a store are fixed when it is made. `add_folder` names a spare one.
     - One thread at a time: a second one's call raises `WrongThread`, and has done nothing.
+
+    No disk is written, but by `export`. `colon` is of the files that it writes, and of those that `load` reads.
     """
 
-    # What stands before info in the names of files that `load` reads and `export` writes.
-    colon = ":"
-
     def __init__(
-        self,
-        factory: Optional[Factory] = None,
-        folders: Iterable[str] = (),
-        spare_folders: Optional[int] = None,
+        self, factory: Optional[Factory] = None, folders: Iterable[str] = (), spare_folders: Optional[int] = None
     ) -> None:
         """An empty mailbox with these folders, and so many spare ones for `add_folder`.
 
@@ -86,7 +60,6 @@ class Maildir(Closing, mailbox.Mailbox):  # type: ignore[type-arg]
         self._factory = factory
         self._tree = tree
         self._trail = trail
-        self._onetime_keys: Optional[Iterator[str]] = None
 
     @property
     def world(self) -> World:
@@ -180,11 +153,6 @@ class Maildir(Closing, mailbox.Mailbox):  # type: ignore[type-arg]
         with self._held():
             return list(self._contents())
 
-    def iterkeys(self) -> Iterator[str]:
-        """The keys of the messages that are there now. Those removed meanwhile are passed over."""
-        keys = self.keys()
-        return (key for key in keys if key in self)
-
     def __contains__(self, key: object) -> bool:
         """Whether there is a message of this key."""
         with self._held():
@@ -195,57 +163,9 @@ class Maildir(Closing, mailbox.Mailbox):  # type: ignore[type-arg]
         with self._held():
             return len(self._contents())
 
-    def next(self) -> Any:
-        """The next message of an iteration that a mailbox has once, or None after the last."""
-        if self._onetime_keys is None:
-            self._onetime_keys = self.iterkeys()
-        for key in self._onetime_keys:
-            return self[key]
-        return None
-
-    # Flags and info by key.
-
-    def get_info(self, key: str) -> str:
-        """What stands after the first colon of a message's name. Raises KeyError for no message."""
-        with self._held():
-            return self._lookup(key).info or ""
-
-    def set_info(self, key: str, info: str) -> None:
-        """Sets the flags that info says: it is empty, or `2,` and letters, else `OtherInfo`.
-
-        A message of cur keeps the info `2,` where it is to be empty.
-        """
-        if not isinstance(info, str):
-            raise TypeError(f"info must be a string: {type(info)}")
-        self.set_flags(key, flags_in(info))
-
-    def get_flags(self, key: str) -> str:
-        """The flags of a message, as its name spells them. Raises KeyError for no message."""
-        with self._held():
-            return self._lookup(key).flags
-
-    def set_flags(self, key: str, flags: str) -> None:
-        """Gives a message these flags and no others. One in new that is given any goes to cur.
-
-        Raises KeyError for no message, `BadFlag` for what is no letter, and `OtherInfo` where the
-        message has another program's mark.
-        """
-        check_text(flags)
-        with self._changing():
-            others = "".join(set(self._lookup(key).flags) - set(flags))
-            self._tree.change_flags(self._number(), key, flags, others)
-
-    def add_flag(self, key: str, flag: str) -> None:
-        """Adds a flag, or some, to a message's others. Else as `set_flags`."""
-        self._change_flags(key, flag, "")
-
-    def remove_flag(self, key: str, flag: str) -> None:
-        """Takes a flag, or some, away. Else as `set_flags`."""
-        self._change_flags(key, "", flag)
+    # Flags by key.
 
     def _change_flags(self, key: str, add: str, remove: str) -> None:
-        check_text(add)
-        check_text(remove)
         with self._changing():
             self._lookup(key)
             self._tree.change_flags(self._number(), key, add, remove)
@@ -255,12 +175,12 @@ class Maildir(Closing, mailbox.Mailbox):  # type: ignore[type-arg]
 
         All keys are looked up before the first message is changed.
         """
-        check_text(flag)
+        check_flags(flag)
         with self._changing():
             wanted, contents = list(keys), self._contents()
             for key in wanted:
                 if key not in contents:
-                    raise KeyError(f"No message with key: {key}")
+                    raise no_message(key)
             self._tree.add_flags_to_all(self._number(), wanted, flag)
 
     # Folders.
@@ -321,15 +241,6 @@ class Maildir(Closing, mailbox.Mailbox):  # type: ignore[type-arg]
         with self._changing():
             self._tree.call(Clean(self._number()))
 
-    def flush(self) -> None:
-        """Does nothing: each change is there at once. No disk is written, but by `export`."""
-
-    def lock(self) -> None:
-        """Does nothing, as for `mailbox.Maildir`: a maildir needs no lock."""
-
-    def unlock(self) -> None:
-        """Does nothing: there is no lock."""
-
     def close(self) -> None:
         """Ends changes: what would change the mailbox raises `Closed` from then on. It can still be read.
 
@@ -343,12 +254,7 @@ class Maildir(Closing, mailbox.Mailbox):  # type: ignore[type-arg]
     # Real trees.
 
     @classmethod
-    def load(
-        cls,
-        tree: Union[str, "os.PathLike[str]"],
-        factory: Optional[Factory] = None,
-        spare_folders: Optional[int] = None,
-    ) -> Maildir:
+    def load(cls, tree: StrPath, factory: Optional[Factory] = None, spare_folders: Optional[int] = None) -> Maildir:
         """A mailbox with the messages and folders of a tree, as `mailbox.Maildir` sees them.
 
         Bytes, keys, flags, other info and dates are those of the tree, which is only read. Files in
@@ -371,7 +277,7 @@ class Maildir(Closing, mailbox.Mailbox):  # type: ignore[type-arg]
         box._begin(loaded, TOP, factory)
         return box
 
-    def export(self, tree: Union[str, "os.PathLike[str]"]) -> None:
+    def export(self, tree: StrPath) -> None:
         """Writes this mailbox and the folders in it into a tree on a disk, made where it isn't there.
 
         Each message is a file of its key and its info, with its date, which is written to tmp,
@@ -402,10 +308,8 @@ class Maildir(Closing, mailbox.Mailbox):  # type: ignore[type-arg]
     def _export_folder(self, directory: str, number: int, is_top: bool) -> None:
         _disk.make_folder(directory, is_top)
         for key, message in self._tree.contents(number).items():
-            name = key if message.info is None else key + self.colon + message.info
-            body = self.world.read(message.unique)
-            date = self._tree.date(message)
-            _disk.write_file(os.path.join(directory, message.place.value, name), body, date)
+            path = os.path.join(directory, message.place.value, name_of(key, message.info, self.colon))
+            _disk.write_file(path, self.world.read(message.unique), self._tree.date(message))
         _disk.flush_folder(directory)
 
     # What the methods share.
@@ -437,17 +341,10 @@ class Maildir(Closing, mailbox.Mailbox):  # type: ignore[type-arg]
         try:
             return contents[key]
         except KeyError:
-            raise KeyError(f"No message with key: {key}") from None
+            raise no_message(key) from None
 
     def _body(self, message: Addable) -> bytes:
-        """The bytes of a message, as the base class writes them to a file."""
-        if type(message) is bytes:
-            body = message
-        else:
-            out = io.BytesIO()
-            # The base class has it, and says nothing of its type.
-            self._dump_message(message, out)  # type: ignore[attr-defined]
-            body = out.getvalue()
+        body = super()._body(message)
         if len(body) > _MOST_BYTES:
             raise BodyTooLong()
         return body
@@ -466,34 +363,21 @@ class _Loading:
         """Takes the messages of a folder."""
         keys: set[str] = set()
         for file in _disk.read_files(directory, self._colon):
-            if _disk.is_sayable(file.info):
+            if _disk.is_sayable(file.message.info):
                 self._take(number, file, keys)
             else:
-                left_out = f"{directory}: {file.unique}: left out: its info"
+                left_out = f"{directory}: {file.message.unique}: left out: its info"
                 warnings.warn(left_out, _disk.LeftOut, stacklevel=3)
 
     def _take(self, number: int, file: _disk.File, keys: set[str]) -> None:
-        unique = file.unique
-        if unique in self.notes or not is_unique(unique):
-            # The store has a name once in all its folders, and not every name.
-            unique = fresh_unique()
-        key = unique if file.unique in keys else file.unique
+        theirs, place, info = file.message
+        # The store has a name once in all its folders, and not every name.
+        unique = fresh_unique() if theirs in self.notes or not is_unique(theirs) else theirs
+        key = unique if theirs in keys else theirs
         keys.add(key)
         self.notes[unique] = key, file.date
-        name = unique if file.info is None else f"{unique}:{file.info}"
-        self.lines.append(file_line(store_name(number), file.place.value, name, int(file.date), file.body))
-
-
-def wanted_of(message: Addable, old: Optional[Message] = None) -> Wanted:
-    """What a message is to be: what it says itself, else what the one before it was."""
-    if isinstance(message, mailbox.MaildirMessage):
-        flags = flags_in(message.get_info())
-        is_new = message.get_subdir() == Place.NEW.value and not flags
-        return Wanted(Place.NEW if is_new else Place.CUR, flags, message.get_date())
-    if old is None:
-        return Wanted(Place.NEW, "", time.time())
-    is_new = old.place is Place.NEW and not old.flags
-    return Wanted(Place.NEW if is_new else Place.CUR, old.flags, time.time())
+        name = name_of(unique, info)
+        self.lines.append(file_line(store_name(number), place.value, name, int(file.date), file.body))
 
 
 def _check_factory(factory: object) -> None:
@@ -509,12 +393,6 @@ def _check_factory(factory: object) -> None:
 
 def _counted(count: int, what: str) -> str:
     return f"{count} {what}{'' if count == 1 else 's'}"
-
-
-def check_text(flags: str) -> None:
-    if not isinstance(flags, str):
-        raise TypeError(f"flags must be a string: {type(flags)}")
-    check_flags(flags)
 
 
 def _named(trail: Trail, folder: str) -> Trail:

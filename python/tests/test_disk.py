@@ -215,6 +215,11 @@ class MeanwhileTest(DiskCase):
         self.assert_each_raises(errors.OtherInfo, lambda: self.box.add_flag("u", "F"), lambda: self.box.remove("u"))
         self.assertEqual("1,x", self.box.get_info("u"))
 
+    def test_flags_are_read_as_mailbox_reads_them(self) -> None:
+        for name in ("u:2,FS", "v:2,F-x", "w:1,x", "x"):
+            (self.path / "cur" / name).write_bytes(MESSAGE)
+            self.assertEqual(self.other[name[0]].get_flags(), self.box.get_flags(name[0]))
+
     def test_names_of_any_bytes(self) -> None:
         name = os.fsencode(str(self.path)) + b"/new/\xff\xfe"
         pathlib.Path(os.fsdecode(name)).write_bytes(MESSAGE)

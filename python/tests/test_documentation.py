@@ -11,6 +11,7 @@ from rows import ROWS, Row
 from support import Case, needs_library
 
 import deolmutt
+from deolmutt._base import BaseMaildir
 
 # What `mailbox.Maildir` has since Python 3.13.
 _NEWER = {"get_flags", "get_info", "set_flags", "set_info", "add_flag", "remove_flag"}
@@ -40,7 +41,7 @@ class DocumentationTest(Case):
             self.assertLessEqual(names | _NEWER, set(dir(kind)))
 
     def test_every_public_method_has_a_docstring_of_its_own(self) -> None:
-        for kind in (deolmutt.Maildir, deolmutt.DiskMaildir):
+        for kind in (BaseMaildir, deolmutt.Maildir, deolmutt.DiskMaildir):
             for name, value in vars(kind).items():
                 if not name.startswith("_") and callable(getattr(value, "__func__", value)):
                     self.assertTrue(value.__doc__, name)

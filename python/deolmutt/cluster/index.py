@@ -12,15 +12,17 @@ from dask.delayed import delayed
 from distributed import Client
 
 from .. import _disk
+from .._disk import StrPath
 from .._tree import TOP
-from ..calls import Place
+from ..calls import Entry, Place
 from ..errors import BadLine
+from ..headers import KEYS
 from ..lines import decoded, encoded, escaped, unescaped
 from ..scripts import index_lines
 from ..world import World
 
 # Lines: a file that all workers reach, by its path, or the bytes themselves.
-Lines = Union[str, "os.PathLike[str]", bytes]
+Lines = Union[StrPath, bytes]
 
 # A worker asks for more work once it has done two partitions, and waits some 7 ms for it: small ones cost more than they spread.
 _PARTITION_BYTES = 1 << 25
@@ -58,8 +60,6 @@ class Row(NamedTuple):
 
 # The columns of a frame.
 _TYPES = [(field, "Int64" if field == "seconds" else "object") for field in Row._fields]
-_KEYS = ("subject", "from", "message-id", "date", "seconds")
-
 
 _Item = TypeVar("_Item")
 # Lines that go to the library together: where each run of them begins and ends.
@@ -80,7 +80,7 @@ class _Plan(NamedTuple):
 
 def index(
     client: Client,
-    trees: Iterable["Union[str, os.PathLike[str]]"] = (),
+    trees: Iterable[StrPath] = (),
     lines: Iterable[Lines] = (),
     partition_bytes: int = _PARTITION_BYTES,
     as_frame: bool = False,
@@ -116,7 +116,7 @@ def _printed(row: Row) -> bytes:
     head = b"%b %b\n" % (encoded(row.folder), encoded(row.unique))
     said = (
         b"%b=%b\n" % (key.encode(), escaped(encoded(str(value))))
-        for key, value in zip(_KEYS, row[2:])
+        for key, value in zip(KEYS, row[2:])
         if value is not None
     )
     return b"".join([head, *said, b"end\n"])
@@ -285,34 +285,22 @@ def _line_in(data: BinaryIO, runs: _Runs, line: int) -> int:
 # Trees.
 
 
-class _File(NamedTuple):
-    """A message's file in a tree."""
-
-    place: str
-    name: str
-    size: int
-
-    @property
-    def unique(self) -> str:
-        return self.name.partition(":")[0]
-
-
 def _parts_of_tree(tree: str, most: int) -> Iterator[Any]:
     """A tree's partitions: each is of one folder."""
     path = os.path.abspath(tree)
     for trail in [TOP, *_disk.find_folders(path)]:
         directory = _disk.directory_of(path, trail)
-        files = sorted(_files(directory), key=lambda it: (encoded(it.unique), it.place != "new"))
+        files = sorted(_files(directory), key=lambda it: (encoded(it.unique), it.place is not Place.NEW))
         for part in _parted(files, lambda file: file.size, most):
-            yield delayed(_rows_of_files)(directory, [(file.place, file.name) for file in part])
+            yield delayed(_rows_of_files)(directory, [(file.place.value, file.name) for file in part])
 
 
-def _files(directory: str) -> Iterator[_File]:
+def _files(directory: str) -> Iterator[Entry]:
     for place in Place:
         with os.scandir(os.path.join(directory, place.value)) as found:
             for entry in found:
                 if not entry.name.startswith((".", ":")) and entry.is_file():
-                    yield _File(place.value, entry.name, entry.stat().st_size)
+                    yield Entry(place, entry.name, entry.stat().st_size)
 
 
 def _rows_of_files(directory: str, part: Sequence[Tuple[str, str]]) -> List[Row]:
@@ -343,7 +331,7 @@ def _read(directory: str, place: str, name: str) -> Optional[bytes]:
     except FileNotFoundError:
         unique = name.partition(":")[0]
         files = _disk.read_files(directory, ":")
-        return next((file.body for file in files if file.unique == unique), None)
+        return next((file.body for file in files if file.message.unique == unique), None)
 
 
 # Rows.

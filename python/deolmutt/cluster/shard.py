@@ -11,10 +11,10 @@ from distributed.protocol.serialize import Serialized, deserialize
 
 from .. import errors
 from .._settling import call_many, settle
-from .._tree import MOST_FOLDERS, store_name
+from .._tree import MOST_FOLDERS, folder_lines, lines_of
 from ..calls import Answer, Call, Copy, Deliver, Entry, Expunge, Move
 from ..errors import DeolmuttError, TooManyJobs
-from ..lines import decoded, file_line, folder_line, parted
+from ..lines import decoded, parted
 from .errors import OtherStore
 from .records import Records, RecordWorld
 from .snapshot import PREFIX, Part, ShardPart, read_part, write_durably
@@ -59,12 +59,9 @@ class _Store:
     def __init__(self, width: int, lines: Optional[bytes] = None, users: Iterable[bytes] = ()) -> None:
         self._width = width
         self._count = MOST_FOLDERS // width * width
-        self.world = RecordWorld(self._heads() if lines is None else lines)
+        self.world = RecordWorld(folder_lines(self._count) if lines is None else lines)
         self.users: Dict[bytes, int] = {user: at * width for at, user in enumerate(users)}
         self.kept: Dict[str, Kept] = dict(_kept_in(lines)) if lines else {}
-
-    def _heads(self) -> bytes:
-        return b"".join(folder_line(store_name(number)) for number in range(self._count))
 
     def is_full(self) -> bool:
         return len(self.users) * self._width >= self._count
@@ -139,14 +136,10 @@ class _Store:
 
     def lines(self) -> Iterator[bytes]:
         """The store's `folder` and `file` lines."""
-        now = int(time.time())
-        yield self._heads()
-        for number in range(len(self.users) * self._width):
-            for entry in self.world.list(number):
-                # Amid a batch that settles, what it has delivered so far is not kept yet.
-                kept = self.kept.get(entry.unique)
-                date, body = kept.date if kept else now, self.world.read(entry.unique)
-                yield file_line(store_name(number), entry.place.value, entry.name, date, body)
+        # Amid a batch that settles, what it has delivered so far is not kept yet.
+        fresh = Kept(0, int(time.time()))
+        used = len(self.users) * self._width
+        return lines_of(self.world, self._count, used, lambda unique: self.kept.get(unique, fresh).date)
 
 
 def _kept_in(lines: bytes) -> Iterator[Tuple[str, Kept]]:
