@@ -43,10 +43,9 @@ class Journal:
         """What was done so far. A last line that was cut off is none."""
         if not os.path.exists(self._path):
             return []
-        with open(self._path, "rb") as file:
-            whole = file.read()
-        whole = whole[: whole.rfind(b"\n") + 1]
         with open(self._path, "r+b") as file:
+            whole = file.read()
+            whole = whole[: whole.rfind(b"\n") + 1]
             file.truncate(len(whole))
         return [json.loads(line) for line in whole.splitlines()]
 

@@ -59,11 +59,3 @@ class OtherShards(BadSnapshot):
 
 class WrongChecksum(BadSnapshot):
     """A shard's file is not as the manifest says."""
-
-
-def lost(shard: int, snapshot: Optional[str], since: Sequence[Tuple[bytes, str]], why: object) -> ShardLost:
-    """The error of a shard whose worker is gone."""
-    kept = f"its last snapshot is in {snapshot}" if snapshot else "there is no snapshot of it"
-    error = ShardLost(f"shard {shard} is lost ({why}); {kept}")
-    error.shard, error.snapshot, error.since = shard, snapshot, since
-    return error

@@ -7,6 +7,7 @@ from typing import Any, Dict, List, NamedTuple, Optional, Sequence, Tuple
 
 from distributed import Client, as_completed
 
+from .._disk import StrPath
 from .clone import Journal, module_of_clone
 from .errors import ToolRefused
 from .snapshot import write_durably
@@ -44,7 +45,7 @@ class _Asked(NamedTuple):
 def explore(
     client: Client,
     commands: Tuple[str, str],
-    folder: "os.PathLike[str] | str",
+    folder: StrPath,
     setup: str = "",
     claims: Sequence[str] = (),
     folders: Sequence[str] = (),

@@ -11,11 +11,14 @@ from distributed import Actor, Client, Future
 from distributed.protocol.serialize import Serialized, serialize
 
 from .._closing import Closing
+from .._disk import StrPath
 from .._names import fresh_unique
+from .._numbers import success_of
 from .._tree import MOST_FOLDERS
 from ..calls import Answer, Call, Clean, Copy, Deliver, Entry, Expunge, Flag, Move, Seen
 from ..errors import DeolmuttError, NoFolder
-from .errors import NoSnapshot, NoWorker, OtherShards, OtherStore, ShardLost, lost
+from ..lines import encoded
+from .errors import NoSnapshot, NoWorker, OtherShards, OtherStore, ShardLost
 from .records import Records
 from .rendezvous import shard_of
 from .shard import Ended, Reply, Request, Shard, UserCall
@@ -136,9 +139,7 @@ class Mailboxes(Closing):
         Raises what is refused, and the answer where it is no success: `Failed`.
         """
         [ended] = self.call_many([(user, call, to)])
-        if isinstance(ended, DeolmuttError):
-            raise ended
-        return ended
+        return success_of(ended)
 
     # Many calls.
 
@@ -149,41 +150,32 @@ class Mailboxes(Closing):
         answer, or an exception, which is not raised, also where a shard is lost.
         """
         ended: Dict[int, Ended] = {}
-        of_shards: Dict[int, Tuple[List[int], List[UserCall]]] = {}
+        # The calls of each shard by their positions.
+        of_shards: Dict[int, Dict[int, UserCall]] = {}
         for at, (user, call, to) in enumerate(calls):
             shard = self.shard_of(user)
             if to is not None and self.shard_of(to) != shard:
                 ended[at] = OtherStore()
-                continue
-            positions, asked = of_shards.setdefault(shard, ([], []))
-            positions.append(at)
-            asked.append(UserCall(_bytes(user), call, None if to is None else _bytes(to)))
-        sent = [
-            (self._sent(shard, "call_many", asked), positions, asked)
-            for shard, (positions, asked) in of_shards.items()
-        ]
-        for each, positions, asked in sent:
+            else:
+                each = UserCall(_bytes(user), call, None if to is None else _bytes(to))
+                of_shards.setdefault(shard, {})[at] = each
+        sent = [self._sent(shard, "call_many", list(asked.values())) for shard, asked in of_shards.items()]
+        for call_sent, asked in zip(sent, of_shards.values()):
             try:
-                ends = self._answer(each)
+                ends = self._answer(call_sent)
             except DeolmuttError as error:
-                ends = [error] * len(positions)
-            ended.update(zip(positions, ends))
-            self._note(
-                each.shard,
-                [
-                    (it.user, it.call.unique)
-                    for it, end in zip(asked, ends)
-                    if isinstance(it.call, Deliver) and isinstance(end, Answer)
-                ],
-            )
+                ends = [error] * len(asked)
+            ended.update(zip(asked, ends))
+            delivered = [
+                (it.user, it.call.unique)
+                for it, end in zip(asked.values(), ends)
+                if isinstance(it.call, Deliver) and isinstance(end, Answer)
+            ]
+            self._note(call_sent.shard, delivered)
         return [ended[at] for at in range(len(ended))]
 
     def deliver_many(
-        self,
-        user: User,
-        bodies: Sequence[bytes],
-        uniques: Optional[Sequence[str]] = None,
-        folder: Optional[str] = None,
+        self, user: User, bodies: Sequence[bytes], uniques: Optional[Sequence[str]] = None, folder: Optional[str] = None
     ) -> List[str]:
         """Delivers messages to a user, faster than one by one, and answers their unique names.
 
@@ -236,7 +228,7 @@ class Mailboxes(Closing):
 
     # Snapshots.
 
-    def snapshot(self, folder: "Union[str, os.PathLike[str]]") -> None:
+    def snapshot(self, folder: StrPath) -> None:
         """Writes each shard into a folder that all workers reach, and a manifest with the checksums.
 
         Each shard is as it was at one moment of its own, and no moment is that of all. The snapshot
@@ -255,9 +247,7 @@ class Mailboxes(Closing):
             del since[:count]
         remove_others(path, manifest)
 
-    def restore(
-        self, folder: "Optional[Union[str, os.PathLike[str]]]" = None, shard: Optional[int] = None
-    ) -> None:
+    def restore(self, folder: Optional[StrPath] = None, shard: Optional[int] = None) -> None:
         """Brings back what a snapshot has: of all shards, or of one, on another worker than it was on.
 
         Without a folder it is the last snapshot that was taken or restored. All that came after it is
@@ -377,8 +367,11 @@ class Mailboxes(Closing):
         return self._lost_error(sent.shard, why)
 
     def _lost_error(self, shard: int, why: str) -> ShardLost:
-        since = tuple(self._since[shard]) if self._snapshot is not None else ()
-        return lost(shard, self._snapshot, since, why)
+        kept = f"its last snapshot is in {self._snapshot}" if self._snapshot else "there is no snapshot of it"
+        error = ShardLost(f"shard {shard} is lost ({why}); {kept}")
+        error.shard, error.snapshot = shard, self._snapshot
+        error.since = tuple(self._since[shard]) if self._snapshot is not None else ()
+        return error
 
     def _note(self, shard: int, delivered: Iterable[Tuple[bytes, str]]) -> None:
         """Keeps what was delivered since the last snapshot. Without any, all would be gone anyhow."""
@@ -418,4 +411,4 @@ def _as_it_is(part: memoryview) -> Serialized:
 
 
 def _bytes(user: User) -> bytes:
-    return user.encode("utf-8", "surrogateescape") if isinstance(user, str) else bytes(user)
+    return encoded(user) if isinstance(user, str) else bytes(user)

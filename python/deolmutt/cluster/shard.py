@@ -191,21 +191,18 @@ class Shard:
 
     def call_many(self, asked: List[UserCall]) -> List[Ended]:
         """Makes calls of some users, those of one store in their order, and answers how each ended."""
-        ended: List[Optional[Ended]] = [None] * len(asked)
-        of_stores: Dict[int, Tuple[_Store, List[int], List[Call]]] = {}
+        ended: Dict[int, Ended] = {}
+        # The calls of each store by their positions.
+        of_stores: Dict[_Store, Dict[int, Call]] = {}
         for at, each in enumerate(asked):
             try:
                 store, call = self._placed(each)
+                of_stores.setdefault(store, {})[at] = call
             except DeolmuttError as error:
                 ended[at] = error
-                continue
-            _, positions, calls = of_stores.setdefault(id(store), (store, [], []))
-            positions.append(at)
-            calls.append(call)
-        for store, positions, calls in of_stores.values():
-            for at, end in zip(positions, store.make(calls)):
-                ended[at] = end
-        return [end for end in ended if end is not None]
+        for store, calls in of_stores.items():
+            ended.update(zip(calls, store.make(list(calls.values()))))
+        return [ended[at] for at in range(len(asked))]
 
     def list(self, user: bytes, folder: int) -> List[Entry]:
         """The messages of a user's folder."""

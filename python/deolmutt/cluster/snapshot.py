@@ -9,7 +9,8 @@ from __future__ import annotations
 import hashlib
 import json
 import os
-from typing import Any, Dict, Iterable, List, NamedTuple, Tuple
+from dataclasses import asdict, dataclass
+from typing import Any, Dict, Iterable, List, Tuple
 
 from .._running import flush_directory
 from .errors import BadSnapshot, MissingShard, NoSnapshot, OtherVersion, WrongChecksum
@@ -21,7 +22,8 @@ _MANIFEST = "manifest.json"
 _SAYS = "Each shard is as it was at one moment of its own. No moment is that of all shards."
 
 
-class Part(NamedTuple):
+@dataclass(frozen=True)
+class Part:
     """A store's file: its `folder` and `file` lines, and the users whose folders these are, in order."""
 
     file: str
@@ -31,7 +33,8 @@ class Part(NamedTuple):
     users: List[str]
 
 
-class ShardPart(NamedTuple):
+@dataclass(frozen=True)
+class ShardPart:
     """A shard's stores, and the second since 1970 in which they were written."""
 
     shard: int
@@ -39,7 +42,8 @@ class ShardPart(NamedTuple):
     stores: List[Part]
 
 
-class Manifest(NamedTuple):
+@dataclass(frozen=True)
+class Manifest:
     """What a snapshot is of: the names of each user's folders, and the shards in order."""
 
     folders: List[str]
@@ -47,18 +51,8 @@ class Manifest(NamedTuple):
 
     def write(self, folder: str) -> None:
         """Puts the manifest into its place."""
-        shards = [
-            {**part._asdict(), "stores": [store._asdict() for store in part.stores]}
-            for part in self.shards
-        ]
         count = sum(store.messages for part in self.shards for store in part.stores)
-        said = {
-            "version": VERSION,
-            "says": _SAYS,
-            "messages": count,
-            "folders": self.folders,
-            "shards": shards,
-        }
+        said = {"version": VERSION, "says": _SAYS, "messages": count, **asdict(self)}
         write_durably(folder, _MANIFEST, [json.dumps(said, indent=1).encode()])
 
     def files(self) -> List[str]:

@@ -7,6 +7,7 @@ from typing import Any, Iterable, List, NamedTuple, Optional, Sequence, Tuple
 
 from distributed import Client, as_completed
 
+from .._disk import StrPath
 from .clone import Journal, module_of_clone
 from .snapshot import write_durably
 
@@ -26,7 +27,7 @@ class Finding(NamedTuple):
 def sweep(
     client: Client,
     seeds: Iterable[int],
-    folder: "os.PathLike[str] | str",
+    folder: StrPath,
     ours: Sequence[str],
     plain: Sequence[str],
     scripts: int = 100,
@@ -45,10 +46,10 @@ def sweep(
     journal = Journal(path, [scripts, list(ours), list(plain)])
     done = {said["seed"]: said for said in journal.read()}
     wanted = list(dict.fromkeys(seeds))
-    left = [seed for seed in wanted if seed not in done]
     tasks = {
         client.submit(_played, seed, scripts, list(ours), list(plain), clone, pure=False): seed
-        for seed in left
+        for seed in wanted
+        if seed not in done
     }
     with client.as_current():
         ended = as_completed(list(tasks), with_results=True)
