@@ -9,7 +9,7 @@ import re
 from typing import IO, Any, List, Optional
 
 from ._base import Addable, BaseMaildir, Factory, no_message
-from ._disk import StrPath, directory_of, make_maildir, mark_folder, new_and_cur
+from ._disk import StrPath, directory_of, make_folder, make_maildir, mark_folder, new_and_cur
 from ._message import TRASHED, Message, Wanted, flags_in, message_of, name_of, wanted_of
 from ._names import fresh_unique
 from ._numbers import PLACES
@@ -224,11 +224,16 @@ class DiskMaildir(BaseMaildir):
             for entry in entries:
                 if entry.is_dir() and entry.name not in PLACES:
                     raise mailbox.NotEmptyError(f"Folder contains subdirectory '{entry.name}': {folder}")
-        for directory in new_and_cur(path):
-            _remove_directory(directory, ".")
-        if os.path.isdir(os.path.join(path, "tmp")):
-            _remove_directory(os.path.join(path, "tmp"), "")
-        _remove_directory(path, "")
+        try:
+            for directory in new_and_cur(path):
+                _remove_directory(directory, ".")
+            if os.path.isdir(os.path.join(path, "tmp")):
+                _remove_directory(os.path.join(path, "tmp"), "")
+            _remove_directory(path, "")
+        except mailbox.NotEmptyError:
+            # What was removed by then is a part of the folder, which stays.
+            make_folder(path, is_top=False)
+            raise
 
     # The mailbox as a whole.
 

@@ -140,7 +140,7 @@ class BesideCPythonTest(DiskCase):
         self.assertRaises(FileNotFoundError, self.box.remove_folder, "Sent")
 
     def test_a_folder_that_is_not_empty_stays(self) -> None:
-        for stray in ("keep", "cur/u:2,", "new/.dir", ".Sub"):
+        for stray in ("keep", "cur/u:2,", "new/.dir", "cur/.dir", "tmp/dir", ".Sub"):
             name = stray.replace("/", "-").replace(".", "_")
             directory = self.path / ("." + name)
             self.box.add_folder(name)
@@ -148,6 +148,7 @@ class BesideCPythonTest(DiskCase):
             with self.subTest(stray), self.assertRaises(mailbox.NotEmptyError):
                 self.box.remove_folder(name)
             self.assertTrue((directory / stray).is_dir())
+            self.box.get_folder(name).add(MESSAGE)
 
     def test_a_directory_is_no_message(self) -> None:
         (self.path / "cur/u:2,").mkdir()
