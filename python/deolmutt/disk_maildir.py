@@ -73,7 +73,11 @@ class DiskMaildir(BaseMaildir):
         key = fresh_unique()
         self._run(Deliver(0, key, self._body(message), _PIECE_BYTES), wanted.date)
         if wanted.place is Place.CUR:
-            self._run(Seen(0, key, wanted.flags, _TRIES))
+            try:
+                self._run(Seen(0, key, wanted.flags, _TRIES))
+            except NotThere:
+                # Another program took it to cur meanwhile, where it gets its flags, or removed it.
+                self._change_in_cur(key, wanted.flags, "")
         return key
 
     def remove(self, key: str) -> None:

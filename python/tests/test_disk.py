@@ -199,6 +199,11 @@ class MeanwhileTest(DiskCase):
             self.assertEqual([key + ":2,FR"], self.names("cur"))
             self.box.remove(key)
 
+    def test_a_message_that_goes_to_cur_between_the_two_steps_of_an_add(self) -> None:
+        with self.flagged_meanwhile("new"):
+            key = self.box.add(maildir_message("F", "cur"))
+        self.assertEqual([key + ":2,FR"], self.names("cur"))
+
     def test_a_name_that_is_there_is_not_replaced(self) -> None:
         key = self.box.add(maildir_message("", "cur"))
         (self.path / "cur" / (key + ":2,F")).write_bytes(b"another")
