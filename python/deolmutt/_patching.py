@@ -53,12 +53,13 @@ class _Stores:
 
     def _parted(self, path: str) -> tuple[str, Trail]:
         """The mailbox that a path is in, and the folders on the way there from it."""
-        trail: Trail = TOP
-        while True:
-            above, name = os.path.split(path)
-            if len(name) < 2 or not name.startswith(".") or not (above in self._trees or is_maildir(above)):
-                return path, trail
-            path, trail = above, (name[1:], *trail)
+        above, name = os.path.split(path)
+        if path not in self._trees and len(name) > 1 and name.startswith("."):
+            root, trail = self._parted(above)
+            tree = self._trees.get(root)
+            if is_maildir(above) or (tree is not None and tree.folder(trail) is not None):
+                return root, (*trail, name[1:])
+        return path, TOP
 
     @staticmethod
     def _load(path: str, create: bool) -> Tree:

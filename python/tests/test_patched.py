@@ -74,6 +74,16 @@ class PatchedTest(Case):
             # One whose own name begins with a dot is in no other.
             self.assertEqual(0, len(mailbox.Maildir(self.folder / ".mail")))
 
+    def test_each_path_has_one_mailbox(self) -> None:
+        with deolmutt.patched(self.folder):
+            inner = mailbox.Maildir(self.folder / "a").add_folder("b").add_folder("c")
+            key = inner.add(MESSAGE)
+            self.assertEqual([key], mailbox.Maildir(self.folder / "a/.b/.c", create=False).keys())
+            # Also one that was opened before the one above it.
+            key = mailbox.Maildir(self.folder / "d/.e").add(MESSAGE)
+            self.assertEqual(0, len(mailbox.Maildir(self.folder / "d")))
+            self.assertEqual([key], mailbox.Maildir(self.folder / "d/.e").keys())
+
     def test_the_class_by_another_name_and_a_class_below_it(self) -> None:
         with deolmutt.patched(self.folder):
             self.assertIsInstance(NamedBefore(self.folder / "a"), deolmutt.Maildir)
