@@ -19,6 +19,12 @@ class MemoryMaildir(Maildir, mailbox.Maildir):  # type: ignore[misc]
 
     _path: str
 
+    def __init__(self, dirname: StrPath, factory: Optional[Factory] = None, create: bool = True) -> None:
+        """As code makes another mailbox by the class of one that it has. Of a path elsewhere, and after the context, it is made as ever."""
+        above = (kind for kind in type(self).__mro__ if issubclass(kind, mailbox.Maildir))
+        self.__class__ = next(kind for kind in above if not issubclass(kind, MemoryMaildir))  # type: ignore[assignment]
+        mailbox.Maildir.__init__(self, dirname, factory, create)
+
     def _at(self, trail: Trail) -> MemoryMaildir:
         found = super()._at(trail)
         assert isinstance(found, MemoryMaildir)

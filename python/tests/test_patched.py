@@ -91,7 +91,11 @@ class PatchedTest(Case):
             box.add(MESSAGE)
             self.assertEqual((1, 1), (box.added, len(mailbox.Maildir(self.folder / "a"))))
             self.assertIsInstance(box, Counting)
+            for one in (mailbox.Maildir(self.folder / "a"), box):
+                again = type(one)(self.folder / "a", create=False)
+                self.assertEqual((type(one), 1), (type(again), len(again)))
         self.assertEqual([], files_below(self.folder))
+        self.assertIs(Counting, type(type(box)(self.folder / "a")))
 
     def test_to_close_it_does_nothing(self) -> None:
         with deolmutt.patched(self.folder):
