@@ -132,6 +132,7 @@ class Tree:
         """Removes a message: it goes to cur with the flag T, and then it is expunged."""
         contents = self.contents(number)
         message = contents[key]
+        message.check_info()
         if message.place is Place.NEW:
             self.call(Seen(number, message.unique, TRASHED))
         elif TRASHED not in message.flags:

@@ -206,6 +206,8 @@ class DifferenceTest(Case):
             lambda: box.remove("a"),
             lambda: box.__setitem__("a", MESSAGE),
             lambda: box.add(box["a"]),
+            # Its info has a T, and is no list of flags all the same.
+            Maildir.load(make(self.folder / "trashed", {"cur/c:2,T-x": b""})).clear,
         )
         self.assertEqual(["a", "b"], sorted(box.keys()))
         self.assertEqual(("x", "", ""), (box["a"].as_string().strip(), box.get_info("b"), box.get_flags("b")))
