@@ -21,6 +21,7 @@ if not NO_DASK:
     from distributed import progress
 
     from deolmutt.cluster import Row, index, printed
+    from deolmutt.cluster.index import _size_of
 
 CLI = pathlib.Path(os.environ.get("MAILDIR_CLI", TOP / "crates/maildir_cli/out/maildir_cli"))
 PARTITIONS = (1, 300, 20_000, 1 << 24)
@@ -132,6 +133,13 @@ class IndexTest(ClusterCase):
         self.assertEqual(
             [row for row in self.rows_of(trees[0]) if row.unique != "6.a"], self.client.compute(bag).result()
         )
+
+    def test_a_file_that_is_gone_by_the_look_at_its_size(self) -> None:
+        file = self.file("u", b"x")
+        with os.scandir(self.folder) as entries:
+            [entry] = entries
+        file.unlink()
+        self.assertEqual((True, 0), (entry.is_file(), _size_of(entry)))
 
     def tree(self, name: str) -> pathlib.Path:
         path = self.folder / name

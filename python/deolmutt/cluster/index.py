@@ -300,7 +300,15 @@ def _files(directory: str) -> Iterator[Entry]:
         with os.scandir(os.path.join(directory, place.value)) as found:
             for entry in found:
                 if not entry.name.startswith((".", ":")) and entry.is_file():
-                    yield Entry(place, entry.name, entry.stat().st_size)
+                    yield Entry(place, entry.name, _size_of(entry))
+
+
+def _size_of(file: "os.DirEntry[str]") -> int:
+    """The size of a file, or 0 of one whose name is gone by now: it is looked for by then."""
+    try:
+        return file.stat().st_size
+    except FileNotFoundError:
+        return 0
 
 
 def _rows_of_files(directory: str, part: Sequence[Tuple[str, str]]) -> List[Row]:
