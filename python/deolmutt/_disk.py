@@ -11,7 +11,6 @@ from typing import Iterator, NamedTuple, Optional, Union
 from ._message import Message, message_of
 from ._names import fresh_unique
 from ._numbers import PLACES
-from ._running import flush_directory
 from ._tree import TOP, Trail
 from .calls import Place
 from .lines import encoded
@@ -147,12 +146,6 @@ def write_file(path: str, body: bytes, date: float) -> None:
         finally:
             with suppress(FileNotFoundError):
                 os.unlink(fresh)
-
-
-def flush_folder(directory: str) -> None:
-    """Flushes the names in a folder to the disk."""
-    for path in new_and_cur(directory):
-        flush_directory(path)
 
 
 def _place(fresh: str, path: str) -> None:

@@ -29,11 +29,6 @@ def is_unique(name: str) -> bool:
     return len(encoded(name)) <= _UNIQUE_BYTES
 
 
-def _host() -> str:
-    """This host's name, without the slash and the colon, which a file's name gives a meaning."""
-    name = socket.gethostname().replace("/", r"\057").replace(":", r"\072")
-    plain = re.sub(r"[^!-~]", "_", name)[:_HOST_BYTES]
-    return plain or "localhost"
-
-
-_HOST = _host()
+# This host's name, without the slash and the colon, which a file's name gives a meaning.
+_NAME = socket.gethostname().replace("/", r"\057").replace(":", r"\072")
+_HOST = re.sub(r"[^!-~]", "_", _NAME)[:_HOST_BYTES] or "localhost"

@@ -14,6 +14,7 @@ from ._base import Addable, BaseMaildir, Factory, Readable, no_message
 from ._disk import StrPath
 from ._message import Message, check_flags, name_of, wanted_of
 from ._names import fresh_unique, is_unique
+from ._running import flush_directory
 from ._tree import MOST_FOLDERS, TOP, Trail, Tree, loaded_tree, store_name
 from .calls import Clean
 from .errors import BodyTooLong, Closed, WrongThread
@@ -310,7 +311,8 @@ class Maildir(BaseMaildir):
         for key, message in self._tree.contents(number).items():
             path = os.path.join(directory, message.place.value, name_of(key, message.info, self.colon))
             _disk.write_file(path, self.world.read(message.unique), self._tree.date(message))
-        _disk.flush_folder(directory)
+        for path in _disk.new_and_cur(directory):
+            flush_directory(path)
 
     # What the methods share.
 
