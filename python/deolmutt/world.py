@@ -15,9 +15,10 @@ from .calls import Answer, Call, Clean, Copy, Deliver, Entry, Expunge, Flag, Mov
 from .errors import DeolmuttError, Failed, NoFolder, NoJob, NoMemory, NotSettled, Unanswered, WrongThread
 from .lines import decoded, encoded, folder_line
 
-_RECORD = struct.Struct("=4I4Q")
+# The bytes of records and of listings are little-endian on each machine; an answer is a struct of C's.
+_RECORD = struct.Struct("<4I4Q")
+_ENTRY = struct.Struct("<IIQ")
 _ANSWER = struct.Struct("=QQ")
-_ENTRY = struct.Struct("=IIQ")
 _PLACES = {1: Place.NEW, 2: Place.CUR}
 # Where many calls are made at once, so many of them, or of bytes, go to the library together.
 _MOST_TOGETHER = 1024

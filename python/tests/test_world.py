@@ -14,6 +14,7 @@ from support import MESSAGE, TOP, Case, needs_library
 from deolmutt import World, WrongThread, errors, lines
 from deolmutt._numbers import FAILURES, MOST_U64, REFUSALS
 from deolmutt.calls import Answer, Call, Clean, Copy, Deliver, Expunge, Flag, Move, Outcome, Place, Seen, Step
+from deolmutt.world import _ENTRY, _RECORD
 
 HEADER = TOP / "crates/md_ffi/include/deolmutt.h"
 DAY = 86_400
@@ -359,6 +360,9 @@ def in_thread(function: Callable[[], object]) -> object:
 
 
 class NumbersTest(unittest.TestCase):
+    def test_records_and_listings_are_little_endian_on_each_machine(self) -> None:
+        self.assertEqual("<<", _RECORD.format[0] + _ENTRY.format[0])
+
     def test_the_numbers_are_those_of_the_header(self) -> None:
         if not HEADER.is_file():
             self.skipTest(f"{HEADER} is not there")

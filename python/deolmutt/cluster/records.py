@@ -20,7 +20,7 @@ from ..lines import encoded
 from ..world import _ANSWER, _RECORD, World
 
 # The number of a record's folder, and where it is.
-_FOLDER, _FOLDER_AT = struct.Struct("=I"), 4
+_FOLDER, _FOLDER_AT = struct.Struct("<I"), 4
 # What all deliveries have in common.
 _DELIVER = asked(Deliver(0, "", b""))
 _DELIVERED = _ANSWER.pack(1, 0)
