@@ -181,6 +181,8 @@ _ASKED: dict[type, Callable[..., Asked]] = {
 
 def asked(call: Call) -> Asked:
     """What a call asks of the library. Numbers that its types don't hold are refused here."""
+    if type(call) not in _ASKED:
+        raise TypeError(f"no call of deolmutt.calls: {call!r}")
     found = _ASKED[type(call)](call)
     if not (0 <= found.folder < MOST_U32 and 0 <= found.to < MOST_U32):
         raise errors.NoFolder()

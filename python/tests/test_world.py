@@ -178,6 +178,10 @@ class CallTest(Case):
         for job in (0, 1, -1, MOST_U64 + 1):
             self.assert_each_raises(errors.NoJob, lambda: self.world.step(job), lambda: self.world.answer(job))
 
+    def test_what_is_no_call_is_told_from_no_message(self) -> None:
+        for wrong in ("text", None, (0, "n")):
+            self.assertRaises(TypeError, self.world.call, wrong)
+
     def test_bodies_are_bytes(self) -> None:
         self.world.deliver(1, "d", bytearray(b"abc"))
         self.world.deliver(1, "e", memoryview(b"abcd")[::2])
