@@ -21,16 +21,7 @@ one_path call p bytes = record {
 
 -- a call of a number on two names
 abbrev pub two_paths : ℕ → Path → Path → RequestShown
-two_paths call old new = record {
-  call = call;
-  folder = old.folder;
-  place = place_index old.place;
-  to_folder = new.folder;
-  to_place = place_index new.place;
-  reserved = 0;
-  first = length old.name;
-  second = length new.name;
-}
+two_paths call old new = record (one_path call old new.name) { to_folder = new.folder; to_place = place_index new.place }
 
 -- a call as it is shown
 abbrev pub request_shown : Asked → RequestShown

@@ -61,22 +61,10 @@ fn on_two<'a>(call: u32, old: &PathRef<'a>, new: &PathRef<'a>) -> Parts<'a>
     ensures first { result.first.now ≡ old.now.name }
     ensures second { result.second.now ≡ new.now.name }
 {
-    let (name, to_name) = (old.name(), new.name());
-    let shown = RequestShown {
-        call,
-        folder: old.folder(),
-        place: place_number(old.place()),
-        to_folder: new.folder(),
-        to_place: place_number(new.place()),
-        reserved: 0,
-        first: name.len() as u64,
-        second: to_name.len() as u64,
-    };
-    Parts {
-        shown,
-        first: name,
-        second: to_name,
-    }
+    let mut parts = on_one(call, old, new.name());
+    parts.shown.to_folder = new.folder();
+    parts.shown.to_place = place_number(new.place());
+    parts
 }
 
 // A call taken apart.
