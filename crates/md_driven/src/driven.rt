@@ -20,9 +20,6 @@ use md_script::PlayKind;
 use std::alloc::Global;
 use std::marker::Model;
 
-/// Why an answered job is not asked for another call.
-const ANSWERED: Refusal = Refusal::Kind(PlayKind::Core(CoreError::Answered));
-
 /// How far a driven job has come. One that is answered holds nothing but its answer.
 #[derive(Drop)]
 enum Progress {
@@ -73,7 +70,7 @@ impl Driven {
             (λ e. (ask_refusal self.old ≡ Some e) × (self.new ≡ self.old)) }
     {
         if let Progress::Answered(_) = self.progress {
-            return Err(ANSWERED);
+            return Err(Refusal::Kind(PlayKind::Core(CoreError::Answered)));
         }
         if self.asked.is_some() {
             return Err(Refusal::Asked);

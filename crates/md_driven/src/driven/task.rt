@@ -1,6 +1,5 @@
 //! The steps of a driven job's task.
 ghost use Rattle.std.specs.Prelude.{◌≡◌, Ok, IfOk, IfErr, OnErr};
-ghost use Rattle.md_dirs.specs.declared.rows.Row.{Row as RowView};
 ghost use Rattle.md_jobs.specs.Machines.Clean.{cleaning_turn};
 ghost use Rattle.md_jobs.specs.Machines.Deliver.{delivery_turn};
 ghost use Rattle.md_jobs.specs.Machines.Errand.{errand_turn};
@@ -82,41 +81,6 @@ fn step_cleaning(
     Ok(turned.out)
 }
 
-// Shows the call that a delivery asks for at a moment.
-fn show_delivery(
-    alloc: Global,
-    delivery: &Delivery,
-    at: Moment,
-    shown: &mut RequestShown,
-    out: &mut [u8],
-    length: &mut usize,
-) -> Result<(), Refusal>
-    ensures { LaysAsked (Ok (delivery_turn JOB delivery.now at).asked) shown.old shown.new out.old out.new length.old length.new
-        (status_number result) }
-{
-    let Ok(ready) = delivery.ask(alloc, at) else {
-        return Err(NO_MEMORY);
-    };
-    lay_request(&delivery.request(&ready), shown, out, length)
-}
-
-// Shows the call that an errand asks for.
-fn show_errand(
-    alloc: Global,
-    errand: &Errand,
-    shown: &mut RequestShown,
-    out: &mut [u8],
-    length: &mut usize,
-) -> Result<(), Refusal>
-    ensures { LaysAsked (Ok (errand_turn JOB (errand_view errand.now)).asked) shown.old shown.new out.old out.new length.old length.new
-        (status_number result) }
-{
-    let Ok(ready) = errand.ask(alloc) else {
-        return Err(NO_MEMORY);
-    };
-    lay_request(&errand.request(&ready), shown, out, length)
-}
-
 /// Takes a step by the reply to the call that was asked for at a moment, and by the rows that were read. Refused only when out of
 /// memory, and then the task is as it was.
 #[tactic(auto, using(crate::proofs::Wrapping::took_wrapped))]
@@ -151,8 +115,14 @@ pub(super) fn show_task(
         (status_number result) }
 {
     match task {
-        Task::Deliver(delivery) => show_delivery(alloc, delivery, at, shown, out, length),
-        Task::Errand(errand) => show_errand(alloc, errand, shown, out, length),
+        Task::Deliver(delivery) => {
+            let ready = delivery.ask(alloc, at).map_err(|_| NO_MEMORY)?;
+            lay_request(&delivery.request(&ready), shown, out, length)
+        }
+        Task::Errand(errand) => {
+            let ready = errand.ask(alloc).map_err(|_| NO_MEMORY)?;
+            lay_request(&errand.request(&ready), shown, out, length)
+        }
         Task::Clean(cleaning) => lay_request(&cleaning.request(), shown, out, length),
     }
 }
