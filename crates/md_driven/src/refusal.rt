@@ -132,24 +132,13 @@ fn kind_number(kind: PlayKind) -> u32
     }
 }
 
+// In the order of `CoreError`, from 20.
 fn core_number(error: CoreError) -> u32
     ensures { result ≡ core_number error }
 {
     match error {
         CoreError::NoMemory => 4,
-        CoreError::BadName => 20,
-        CoreError::LongUnique => 21,
-        CoreError::DuplicateUnique => 22,
-        CoreError::NameUsed => 23,
-        CoreError::NoFolder => 24,
-        CoreError::SameFolder => 25,
-        CoreError::BadUnique => 26,
-        CoreError::BadTries => 27,
-        CoreError::BadChunk => 28,
-        CoreError::TooManyJobs => 29,
-        CoreError::BodyTooLong => 30,
-        CoreError::NoJob => 31,
-        CoreError::Answered => 32,
+        other => 20 + other as u32,
     }
 }
 
@@ -164,28 +153,13 @@ fn name_number(error: NameError) -> u32
     }
 }
 
+// In the order of `LineFault`, from 70.
 fn fault_number(fault: LineFault) -> u32
     ensures { result ≡ fault_number fault }
 {
     match fault {
         LineFault::NoMemory => 4,
-        LineFault::NoLog => 70,
-        LineFault::BadLine => 71,
-        LineFault::BadNumber => 72,
-        LineFault::BadEscape => 73,
-        LineFault::BadPlace => 74,
-        LineFault::BadName => 75,
-        LineFault::BadReply => 76,
-        LineFault::BadClause => 77,
-        LineFault::BadFlags => 78,
-        LineFault::UnknownFolder => 79,
-        LineFault::SameFolder => 80,
-        LineFault::TooManyFolders => 81,
-        LineFault::SamePath => 82,
-        LineFault::NoSuchPath => 83,
-        LineFault::TooLate => 84,
-        LineFault::NoOrder => 85,
-        LineFault::TooManyOrders => 86,
+        other => 70 + other as u32,
     }
 }
 
