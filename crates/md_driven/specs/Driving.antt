@@ -1,5 +1,5 @@
 -- A job whose directory calls its caller makes: it is asked for its next call, and goes on by what was replied and read.
-use Rattle.std.specs.Prelude.{ℕ, ◌≡◌, ◌⊎◌, List, [], ◌∷◌, ◌++◌, Option, Some, None, Result, Ok, Err, is_some}
+use Rattle.std.specs.Prelude.{ℕ, ◌≡◌, ◌⊎◌, List, [], ◌∷◌, ◌++◌, Option, Some, None, Result, Ok, Err, is_some, if◌then◌else◌}
 use Rattle.md_dirs.specs.declared.rows.Row.{Row}
 use Rattle.md_jobs.specs.Asked.{Asked, shown_call}
 use Rattle.md_jobs.specs.Turn.{Turn}
@@ -46,14 +46,9 @@ ask_refusal d = refusal_to_ask d.standing d.asked
 abbrev pub asked_at : ℕ → Driving → Driving
 asked_at second d = record d { asked = Some (record { clock = second; own = second }); rows = [] }
 
--- a row is heard where a reply is waited for
-abbrev pub refusal_to_hear : Option Moment → Option Refusal
-refusal_to_hear None = Some NotAsked
-refusal_to_hear (Some at) = None
-
--- why it hears no row
+-- why it hears no row: none is read where no reply is waited for
 abbrev pub hear_refusal : Driving → Option Refusal
-hear_refusal d = refusal_to_hear d.asked
+hear_refusal d = if is_some d.asked then None else Some NotAsked
 
 -- one row more was read
 abbrev pub with_row : Row → Driving → Driving

@@ -23,12 +23,15 @@ use Rattle.md_ffi.specs.declared.held.Held.{Held}
 use Rattle.md_driven.specs.declared.refusal.Refusal.{Refusal}
 use Rattle.md_driven.specs.declared.refusal.Refusal.TheVariants.{Kind, Closed, Unanswered}
 
--- a closed handle stays so and refuses, and this is kept; behind an open one the world goes from one run to another, and this holds of the
--- two
+-- a closed handle stays so and refuses, and this is kept; an open one stays open, and this holds of what it held before and holds after
+abbrev pub OnOpen : {X : Type 0} → Option X → Option X → ℕ → Type 0 → (X → X → Type 0) → Type 0
+OnOpen None after status kept holds = (after ≡ None) × (status ≡ refusal_number Closed) × kept
+OnOpen (Some before) None status kept holds = ⊥
+OnOpen (Some before) (Some after) status kept holds = holds before after
+
+-- the same of a world, which goes from one run to another
 abbrev pub OnHeld : Option Held → Option Held → ℕ → Type 0 → (Run → Run → Type 0) → Type 0
-OnHeld None after status kept holds = (after ≡ None) × (status ≡ refusal_number Closed) × kept
-OnHeld (Some before) None status kept holds = ⊥
-OnHeld (Some before) (Some after) status kept holds = holds before.world after.world
+OnHeld before after status kept holds = OnOpen before after status kept (λ old new. holds old.world new.world)
 
 -- the run with one more call, and the number of its job
 unfoldable pub submitted : Run → Asked → List ℕ → List ℕ → List ℕ → Result (Run × ℕ) Refusal
@@ -46,7 +49,7 @@ Ends (Ok done) old new status gave kept = ((new ≡ done.0) × (status ≡ 0) ×
 Ends (Err refusal) old new status gave kept = (new ≡ old) × ((status ≡ refusal_number refusal) ⊎ (status ≡ 4)) × kept
 
 -- the number of a free: of a closed handle it is refused
-abbrev pub free_number : Option Held → ℕ
+abbrev pub free_number : {X : Type 0} → Option X → ℕ
 free_number None = refusal_number Closed
 free_number (Some held) = 0
 

@@ -1,25 +1,13 @@
 -- What a call by a handle does to the driven job behind it.
-use Rattle.std.specs.Prelude.{ℕ, ◌≡◌, ◌⊎◌, ◌==◌, Option, Some, None, Err, if◌then◌else◌}
+use Rattle.std.specs.Prelude.{ℕ, ◌≡◌, ◌⊎◌, Option, Some, None, Err}
 use Rattle.md_jobs.specs.declared.step.DirReply.{DirReply}
-use Rattle.md_jobs.specs.declared.step.DirReply.TheVariants as reply
 use Rattle.md_jobs.specs.declared.step.StepOut.{StepOut}
 use Rattle.md_driven.specs.Driving.{Driving, requested, TookReply}
 use Rattle.md_driven.specs.Numbers.{refusal_number}
 use Rattle.md_driven.specs.Shown.{step_shown}
 use Rattle.md_driven.specs.declared.refusal.Refusal.{Refusal}
-use Rattle.md_driven.specs.declared.refusal.Refusal.TheVariants.{BadReply, Closed}
+use Rattle.md_driven.specs.declared.refusal.Refusal.TheVariants.{BadReply}
 use Rattle.md_driven.specs.declared.shown.StepShown.{StepShown}
-
--- a closed handle stays so and refuses, and this is kept; behind an open one the job goes on, and this holds of it before and after
-abbrev pub OnDriven : Option Driving → Option Driving → ℕ → Type 0 → (Driving → Driving → Type 0) → Type 0
-OnDriven None after status kept holds = (after ≡ None) × (status ≡ refusal_number Closed) × kept
-OnDriven (Some before) None status kept holds = ⊥
-OnDriven (Some before) (Some after) status kept holds = holds before after
-
--- the number of a free: of a closed handle it is refused
-abbrev pub free_number : Option Driving → ℕ
-free_number None = refusal_number Closed
-free_number (Some driving) = 0
 
 -- refused so, with the job as it was, or done
 abbrev pub Unless : Option Refusal → Driving → Driving → ℕ → Type 0 → Type 0

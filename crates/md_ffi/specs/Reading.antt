@@ -1,18 +1,18 @@
 -- What is read of a world, as C has it.
-use Rattle.std.specs.Prelude.{ℕ, ◌++◌, ◌<◌, ◌^◌, List, Option, Some, None, Result, Ok, Err, length, ok_or, flat_map, nat_lt, slice_get, if◌then◌else◌}
+use Rattle.std.specs.Prelude.{ℕ, ◌++◌, ◌<◌, ◌^◌, List, Result, Ok, Err, length, ok_or, flat_map, nat_lt, slice_get, if◌then◌else◌}
 use Rattle.std.specs.Option.{option_map}
 use Rattle.std.specs.FinMap as finmap
 use Rattle.std.specs.Int.{w32, w64, to_le_bytes}
 use Rattle.md_dirs.specs.Path.{place_index}
 use Rattle.md_dirs.specs.Rows.{rows_of}
 use Rattle.md_dirs.specs.declared.rows.Row.{Row}
-use Rattle.md_dirs.specs.declared.paths.Place.{Place}
 use Rattle.md_jobs.specs.declared.error.CoreError.TheVariants.{NoFolder}
 use Rattle.md_core.specs.Mailbox.{Entry as Message, mailbox_of}
 use Rattle.md_core.specs.Runs.{Run, dirs_of}
 use Rattle.md_listing.specs.Law.{names_at, listing_of}
 use Rattle.md_listing.specs.declared.entry.Entry.{Entry}
 use Rattle.md_script.specs.declared.error.PlayKind.TheVariants.{Core}
+use Rattle.md_text.specs.Bind.{◌>>=◌}
 use Rattle.md_driven.specs.Shown.{place_at}
 use Rattle.md_driven.specs.declared.refusal.Refusal.{Refusal}
 use Rattle.md_driven.specs.declared.refusal.Refusal.TheVariants.{Kind, NoPlace, NotThere}
@@ -48,12 +48,8 @@ listed run folder =
 unfoldable pub message_at : Run → List ℕ → Result (List ℕ) Refusal
 message_at run unique = ok_or (option_map (λ (m : Message). m.bytes) (finmap.get (mailbox_of (dirs_of run)) unique)) NotThere
 
--- the name at a position of a directory, if it is there
-abbrev pub name_in : Run → ℕ → ℕ → Option Place → Result (List ℕ) Refusal
-name_in run folder at None = Err NoPlace
-name_in run folder at (Some place) =
-    ok_or (option_map (λ (row : Row). row.name) (slice_get (rows_of (dirs_of run) folder place) at)) NotThere
-
--- the name at a position of the directory of a number
+-- the name at a position of the directory of a number, if both are there
 unfoldable pub name_at : Run → ℕ → ℕ → ℕ → Result (List ℕ) Refusal
-name_at run folder place at = name_in run folder at (place_at place)
+name_at run folder place at =
+    ok_or (place_at place) NoPlace >>= (λ place.
+    ok_or (option_map (λ (row : Row). row.name) (slice_get (rows_of (dirs_of run) folder place) at)) NotThere)

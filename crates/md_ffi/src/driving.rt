@@ -4,10 +4,9 @@ ghost use Rattle.md_core.specs.Runs.{answer_of};
 ghost use Rattle.md_script.specs.declared.error.PlayKind.TheVariants.{NoMemory};
 ghost use Rattle.md_ffi.specs.Beginning.{begun, Begins};
 ghost use Rattle.md_driven.specs.Driving.{ask_refusal, asked_at, hear_refusal, requested, with_row, LaysAsked};
-ghost use Rattle.md_ffi.specs.Handled.{free_number, Goes, OnDriven, TakesOr, Unless};
-ghost use Rattle.md_driven.specs.Numbers.{refusal_number};
-ghost use Rattle.md_driven.specs.Shown.{reply_at};
-ghost use Rattle.md_driven.specs.Shown.{answer_shown};
+ghost use Rattle.md_ffi.specs.Doing.{free_number, OnOpen};
+ghost use Rattle.md_ffi.specs.Handled.{Goes, TakesOr, Unless};
+ghost use Rattle.md_driven.specs.Shown.{answer_shown, reply_at};
 ghost use Rattle.md_driven.specs.declared.refusal.Refusal.TheVariants.{Kind};
 
 use crate::asked::{Asked, Brought, call_of};
@@ -65,7 +64,7 @@ pub extern "C" fn md_ffi_drive(
 /// waited for. The job is as it was then.
 #[unsafe(no_mangle)]
 pub extern "C" fn md_ffi_driven_ask(alloc: Global, handle: &mut DrivenHandle, second: u64) -> u32
-    ensures { OnDriven handle.old.slot.held handle.new.slot.held result ⊤
+    ensures { OnOpen handle.old.slot.held handle.new.slot.held result ⊤
         (λ old new. Unless (ask_refusal old) old new result (new ≡ asked_at second old)) }
 {
     let Some(mut driven) = handle.take(alloc) else {
@@ -89,7 +88,7 @@ pub extern "C" fn md_ffi_driven_request(
     length: &mut usize,
 ) -> u32
     ensures same { handle.new.slot.held ≡ handle.old.slot.held }
-    ensures shown { OnDriven handle.old.slot.held handle.new.slot.held result
+    ensures shown { OnOpen handle.old.slot.held handle.new.slot.held result
         ((shown.new ≡ shown.old) × (out.new ≡ out.old) × (length.new ≡ length.old))
         (λ job _. LaysAsked (requested job) shown.old shown.new out.old out.new length.old length.new result) }
 {
@@ -111,7 +110,7 @@ pub extern "C" fn md_ffi_driven_row(
     stamp: u64,
     size: u64,
 ) -> u32
-    ensures { OnDriven handle.old.slot.held handle.new.slot.held result ⊤
+    ensures { OnOpen handle.old.slot.held handle.new.slot.held result ⊤
         (λ old new. Goes (hear_refusal old) old new result (new ≡ with_row (record { name = name.now; stamp = stamp; size = size }) old)) }
 {
     let Some(mut driven) = handle.take(alloc) else {
@@ -134,7 +133,7 @@ pub extern "C" fn md_ffi_driven_take(
     reply: u32,
     step: &mut StepShown,
 ) -> u32
-    ensures { OnDriven handle.old.slot.held handle.new.slot.held result (step.new ≡ step.old)
+    ensures { OnOpen handle.old.slot.held handle.new.slot.held result (step.new ≡ step.old)
         (λ old new. TakesOr (reply_at reply) old new step.old step.new result) }
 {
     let Some(mut driven) = handle.take(alloc) else {
@@ -163,7 +162,7 @@ pub extern "C" fn md_ffi_driven_answer(
     answer: &mut AnswerShown,
 ) -> u32
     ensures same { handle.new.slot.held ≡ handle.old.slot.held }
-    ensures answer { OnDriven handle.old.slot.held handle.new.slot.held result (answer.new ≡ answer.old)
+    ensures answer { OnOpen handle.old.slot.held handle.new.slot.held result (answer.new ≡ answer.old)
         (λ job _. (result ≡ 0) × (answer.new ≡ answer_shown (answer_of (Some job.standing)))) }
 {
     let Some(driven) = handle.take(alloc) else {
