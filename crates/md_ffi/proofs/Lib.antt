@@ -5,5 +5,4 @@ pub mod Packed
 pub mod Records
 pub mod Refused
 pub mod Slots
-pub mod Unanswered
 pub mod Values

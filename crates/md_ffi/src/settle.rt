@@ -4,49 +4,22 @@ ghost use Rattle.md_core.specs.Settling.{first_unanswered, settle_error, settled
 ghost use Rattle.md_ffi.specs.Doing.{OnHeld, Settles};
 
 use crate::handle::Handle;
-use md_core::{JobId, SettleError, SettleRefused, World};
+use core::mem::replace_with;
+use md_core::{SettleError, SettleRefused, World};
 use md_dirs::IndexDirs;
 use md_driven::{NO_MEMORY, Refusal};
 use std::alloc::Global;
-use std::mem;
 
-// The number of the first job that has no answer.
-#[tactic(auto, using(crate::proofs::Unanswered::starts, crate::proofs::Unanswered::goes_on, crate::proofs::Unanswered::found, crate::proofs::Unanswered::ended))]
-fn first_working(world: &World<IndexDirs>) -> Option<JobId>
-    ensures { result ≡ first_unanswered world.now }
+// A world that begins again; or the same one, and why it does not.
+fn begun(world: World<IndexDirs>, _nothing: ()) -> (World<IndexDirs>, Result<(), SettleError>)
+    ensures ok { IfOk result.1 (λ _. result.0 ≡ settled world) }
+    ensures answered { OnOk result.1 (first_unanswered world ≡ None) }
+    ensures unchanged { IfErr result.1 (λ _. result.0 ≡ world) }
+    ensures refused { IfErr result.1 (λ e. e ≡ settle_error (first_unanswered world)) }
 {
-    world.interleaves();
-    md_core::laws::each_call_has_its_job();
-    for job in 0..world.jobs() {
-        if world.answer(job + 1).is_none() {
-            return Some(job + 1);
-        }
-    }
-    None
-}
-
-// Settles a world in its place. A world of no folders stands in for it meanwhile, which may itself be out of memory.
-fn settle(alloc: Global, world: &mut World<IndexDirs>) -> Result<(), SettleError>
-    ensures ok { IfOk result (λ _. world.new ≡ settled world.old) }
-    ensures answered { OnOk result (first_unanswered world.old ≡ None) }
-    ensures unchanged { IfErr result (λ _. world.new ≡ world.old) }
-    ensures refused { IfErr result (λ e. e ≡ settle_error (first_unanswered world.old)) }
-{
-    if let Some(job) = first_working(world) {
-        return Err(SettleError::Unanswered(job));
-    }
-    let Ok(empty) = World::load(alloc, IndexDirs::new(alloc, 0)) else {
-        return Err(SettleError::NoMemory);
-    };
-    match mem::replace(world, empty).settle() {
-        Ok(begun) => {
-            *world = begun;
-            Ok(())
-        }
-        Err(SettleRefused { error, world: same }) => {
-            *world = same;
-            Err(error)
-        }
+    match world.settle() {
+        Ok(begun) => (begun, Ok(())),
+        Err(SettleRefused { error, world }) => (world, Err(error)),
     }
 }
 
@@ -64,7 +37,7 @@ pub extern "C" fn md_ffi_settle(alloc: Global, handle: &mut Handle, job: &mut u6
     let Some(mut held) = handle.take(alloc) else {
         return Refusal::Closed.number();
     };
-    let outcome = settle(alloc, &mut held.world);
+    let outcome = replace_with(&mut held.world, (), begun);
     handle.hold(held);
     match outcome {
         Ok(()) => 0,
