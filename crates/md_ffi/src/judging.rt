@@ -20,7 +20,7 @@ fn record(finding: &Finding) -> [u8; 16]
 }
 
 // Findings as bytes, one after another.
-#[tactic(auto, using(crate::proofs::Packed::one_more))]
+#[tactic(auto, using(crate::proofs::Listed::bytes_more))]
 fn packed(alloc: Global, findings: &[Finding]) -> Result<Vec<u8>, AllocError>
     ensures { IfOk result (λ bytes. bytes.items ≡ findings_bytes findings.now) }
 {
