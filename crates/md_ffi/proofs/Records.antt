@@ -1,11 +1,11 @@
 -- Calls of records, one more after those that were made.
-use Rattle.std.proofs.Common.{ℕ, ◌≡◌, ◌≢◌, ◌==◌, List, [], ◌∷◌, ◌++◌, Some, None, Ok, true, false, length, refl, sym, ap, subst, ◌∙◌, true≢false}
+use Rattle.std.proofs.Common.{ℕ, ◌≡◌, ◌≢◌, ◌≤◌, ◌-◌, ◌==◌, List, [], ◌∷◌, ◌++◌, Some, None, Ok, true, false, length, take, drop, refl, sym, ap, subst, ◌∙◌, true≢false}
 use Rattle.std.proofs.lemmas.Bool.{eqb-true}
 use Rattle.std.proofs.lemmas.List.{nil_from_length}
 use Rattle.md_jobs.specs.declared.answer.Answer.{Answer}
 use Rattle.md_core.specs.Runs.{Run}
 use Rattle.md_ffi.specs.Calling.{Comes}
-use Rattle.md_ffi.specs.Records.{record_in, Answered, Record}
+use Rattle.md_ffi.specs.Records.{record_in, Answered, CallsAll, Halts, Record}
 use Rattle.md_driven.specs.Shown.{answer_shown}
 use Rattle.md_driven.specs.declared.shown.AnswerShown.{AnswerShown}
 
@@ -30,6 +30,13 @@ answered-more now (x ∷ xs) bytes left old mid new before r is a shown shows co
   before.5,
   answered-more now xs before.0.rest left before.4 mid new before.6 r is a shown shows comes,
 )
+
+-- so many calls were made, and this is why no more are
+pub halted : (left : List ℕ) (between : Run) {now done status : ℕ} {bytes : List ℕ} {old new : Run} {before after : List AnswerShown}
+    → done ≤ length before → Answered now (take done after) bytes old left between → drop done after ≡ drop done before
+    → Halts now left (length before - done) between new status → CallsAll now bytes old new before after done status
+halted left between within answered kept halts =
+    record { left = left; between = between; within = within; answered = answered; kept = kept; halts = halts }
 
 pub not-empty : (xs : List ℕ) → (length xs == 0) ≡ false → xs ≢ []
 not-empty xs is e = true≢false (sym (ap (λ (ys : List ℕ). length ys == 0) e) ∙ is)

@@ -13,6 +13,7 @@ use md_driven::{AnswerShown, Refusal};
 use std::alloc::Global;
 
 // A record: what is asked, the bytes that it brings, and what follows it.
+#[derive(Clone, Copy)]
 struct Record<'a> {
     asked: Asked,
     brought: Brought<'a>,
@@ -106,20 +107,16 @@ fn run(
         if *done == answers.len() {
             return Refusal::Room.number();
         }
-        let Record {
-            asked,
-            brought,
-            rest,
-        } = match read_record(left) {
+        let next = match read_record(left) {
             Ok(record) => record,
             Err(refusal) => return refusal.number(),
         };
-        match call(alloc, world, &asked, brought, now, None) {
+        match call(alloc, world, &next.asked, next.brought, now, None) {
             Ok(answer) => answers[*done] = AnswerShown::of(Some(answer)),
             Err(unanswered) => return unanswered.number(),
         }
         *done += 1;
-        left = rest;
+        left = next.rest;
     }
     0
 }

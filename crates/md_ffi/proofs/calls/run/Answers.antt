@@ -4,7 +4,7 @@ use Rattle.md_driven.specs.Numbers.{refusal_number}
 use Rattle.md_ffi.specs.Records.{recorded, Answered}
 use Rattle.md_driven.specs.declared.shown.AnswerShown.{AnswerShown}
 use Rattle.md_driven.proofs.Laid.{ends_alike_after}
-use Rattle.md_ffi.proofs.Records.{answered-more, empty, not-empty}
+use Rattle.md_ffi.proofs.Records.{answered-more, empty, halted, not-empty}
 use Rattle.md_ffi.proofs.calls.run.Goals as goal
 
 pub loop-left-init : goal.loop-left-init
@@ -14,14 +14,8 @@ pub returns-then-done-answers : goal.returns-then-done-answers
 returns-then-done-answers c =
     let before = c.loop-left.invariant in
     let some = not-empty c.loop-left.left.now (sym c.is_empty.ensures ∙ c.loop-left-test.true) in
-    record {
-      left = c.loop-left.left.now;
-      between = c.loop-left.world;
-      within = before.within;
-      answered = before.answered;
-      kept = before.kept;
-      halts = inr (inl (some, omega (arith, c.if-done-answers.true, c.loop-left.auto.answers), refl, c.number.ensures));
-    }
+    halted c.loop-left.left.now c.loop-left.world before.within before.answered before.kept
+    (inr (inl (some, omega (arith, c.if-done-answers.true, c.loop-left.auto.answers), refl, c.number.ensures)))
 
 pub returns-in-Err : goal.returns-in-Err
 returns-in-Err c =
@@ -29,14 +23,8 @@ returns-in-Err c =
     let some = not-empty c.loop-left.left.now (sym c.is_empty.ensures ∙ c.loop-left-test.true) in
     let room : 0 < length c.args.answers.now - c.loop-left.done = omega (arith, before.within, c.if-done-answers.false, c.loop-left.auto.answers) in
     let status = c.number-in-Err.ensures ∙ ap refusal_number c.in-Err.ensures.record.1 in
-    record {
-      left = c.loop-left.left.now;
-      between = c.loop-left.world;
-      within = before.within;
-      answered = before.answered;
-      kept = before.kept;
-      halts = inr (inr (inl (some, room, c.in-Err.ensures.record.0, refl, status)));
-    }
+    halted c.loop-left.left.now c.loop-left.world before.within before.answered before.kept
+    (inr (inr (inl (some, room, c.in-Err.ensures.record.0, refl, status))))
 
 pub returns-in-Err-call : goal.returns-in-Err-call
 returns-in-Err-call c =
@@ -44,14 +32,8 @@ returns-in-Err-call c =
     let room : 0 < length c.args.answers.now - c.loop-left.done = omega (arith, before.within, c.if-done-answers.false, c.loop-left.auto.answers) in
     let r = c.in-Ok.record in
     let it = recorded r.asked r.brought.unique.now r.brought.first.now r.brought.second.now r.rest.now in
-    record {
-      left = c.loop-left.left.now;
-      between = c.loop-left.world;
-      within = before.within;
-      answered = before.answered;
-      kept = before.kept;
-      halts = inr (inr (inr (room, it, c.in-Ok.ensures.record, c.in-Err-call.unanswered, c.in-Err-call.ensures, c.number-in-Err-call.ensures)));
-    }
+    halted c.loop-left.left.now c.loop-left.world before.within before.answered before.kept
+    (inr (inr (inr (room, it, c.in-Ok.ensures.record, c.in-Err-call.unanswered, c.in-Err-call.ensures, c.number-in-Err-call.ensures))))
 
 pub loop-left-preserved : goal.loop-left-preserved
 loop-left-preserved c =
@@ -72,11 +54,5 @@ loop-left-preserved c =
 pub returns : goal.returns
 returns c =
     let before = c.loop-left.invariant in
-    record {
-      left = c.loop-left.left.now;
-      between = c.loop-left.world;
-      within = before.within;
-      answered = before.answered;
-      kept = before.kept;
-      halts = inl (empty c.loop-left.left.now (sym c.is_empty.ensures ∙ c.loop-left-test.false), refl, refl);
-    }
+    halted c.loop-left.left.now c.loop-left.world before.within before.answered before.kept
+    (inl (empty c.loop-left.left.now (sym c.is_empty.ensures ∙ c.loop-left-test.false), refl, refl))
