@@ -63,13 +63,6 @@ fn read_files(alloc: Global, records: &[u8]) -> Result<Vec<ImageFile>, Refusal>
     Ok(files)
 }
 
-// Out of memory is one refusal, wherever it was met.
-fn refused(kind: PlayKind) -> Refusal
-    ensures { result ≡ Kind kind }
-{
-    Refusal::Kind(kind)
-}
-
 // The store over folders and the files of records, which hashes names by a seed.
 fn held_of(
     alloc: Global,
@@ -86,7 +79,7 @@ fn held_of(
     match open_store::<IndexDirs>(alloc, seed, folders, files) {
         Ok(world) => Ok(Box::new(alloc, Held { world }).map_err(|_| NO_MEMORY)?),
         Err(PlayKind::NoMemory) => Err(NO_MEMORY),
-        Err(kind) => Err(refused(kind)),
+        Err(kind) => Err(Refusal::Kind(kind)),
     }
 }
 
