@@ -1,7 +1,6 @@
-pub mod DrivenSlots
 pub mod Filed
 pub mod Listed
 pub mod Records
 pub mod Refused
-pub mod Slots
+pub mod Steps
 pub mod Values

@@ -1,35 +1,11 @@
 -- The machine values of a `Loose`. Assumes `Logic`.
-use Rattle.std.proofs.Common.{◌≡◌, ℕ, List, [], ◌∷◌, ◌++◌, refl, sym, subst, true≢false}
+use Rattle.md_ffi.proofs.Steps.{◌≡◌, List, [], ◌∷◌, ◌++◌, refl, sym, subst, ℕ, true≢false, IsTrue, is_some, ghosts, Option, None, Some, box_owns, handle_tells, Al, Good, Ura, bare, dnil, impl, tnil, Val, vptr, vstruct, of_list, vcons, vnil, has_ty, WT, Fml, never, fst∗, ‵, ◌$◌, move, drop, fsplit, fjoin, feq_i, fpick, feq_l, Item, Goal, Seq, Step, step, fpack, sem, Logic, RawPtr, layout, Laws, RattleType, Valss, ptr_val, block_ptr, Ptr, null_ptr, in_a_block, nothing, shape, within, heap_laws}
 use mathlib.Core.Bool.{Bool, true, false, ◌&&◌}
 use lib.Dec.{T}
-use seplogic.Ra.Ura.{Ura}
-use mir.Syntax.{impl, tnil, dnil}
-use mir.Raw.{raw as bare}
-use mir.Val.{Val, vptr, vstruct, vcons, vnil, of_list, has_ty, WT}
-use base.Fml.{Fml}
-use base.Logic.{never, fst∗}
-use types.Logic.{Logic, sem}
-use types.Kit.{Item, Goal, Seq, Step, step, ‵, ◌$◌, move, drop, fsplit, fjoin, fpick, fpack, feq_i, feq_l}
-use denote.RattleType.{RattleType, Valss}
-use denote.Builtin.{RawPtr}
 use denote.Memory.{lone}
-use denote.RawPtr.{Ptr, block_ptr, null_ptr, ptr_val, in_a_block}
-use denote.Steps.{nothing}
-use denote.Param.{layout}
-use denote.Param.Laws.{Laws}
-use denote.Struct.Struct.{within}
-use denote.Struct.Owning.{shape}
 use Rattle.core.specs.declared.alloc.Allocator.{Ghosts}
-use Rattle.core.proofs.alloc.Calls.{Al, handle_tells}
-use Rattle.core.proofs.cell.Inside.{Good}
-use Rattle.std_alloc.specs.Box.Ownership.{box_owns}
 use Rattle.std_alloc.proofs.ResultValues.{and_tt}
-use Rattle.std.specs.Prelude.{IsTrue, is_some}
 use Rattle.std.specs.contracts.alloc.Global as heap
-use Rattle.std.proofs.alloc.Global.TheLaws as heap_laws
-use Rattle.std.specs.contracts.impls.GlobalAllocator.TheImpl.{ghosts}
-use Rattle.std.specs.declared.option.Option.{Option}
-use Rattle.std.specs.declared.option.Option.TheVariants.{None, Some}
 use Rattle.md_ffi.specs.contracts.loose.Loose as loose
 
 -- the heap, in which all that a handle holds lies
@@ -37,7 +13,7 @@ abbrev pub Heap : RattleType
 Heap = heap.the_row
 
 abbrev pub heap_handle : Al
-heap_handle = record { row = Heap; laws = heap_laws.the_row_laws; g = ghosts; d = impl [] tnil dnil; drops = impl [] tnil dnil }
+heap_handle = record { row = Heap; laws = heap_laws; g = ghosts; d = impl [] tnil dnil; drops = impl [] tnil dnil }
 
 abbrev pub both : Val → Val → Val
 both v w = vstruct (vcons v (vcons w vnil))

@@ -1,40 +1,17 @@
 -- `into_loose` hands over what the slot owns.
-use Rattle.std.proofs.Common.{◌≡◌, List, [], ◌∷◌, ◌++◌, refl, sym, subst}
-use mir.Val.{Val, vptr}
-use base.Logic.{SProp, ent, emp, id⊢}
-use prog.Wp.{WpFn}
-use types.Kit.{‵, raw, ◌⊛◌, ◌$◌, ◌∵◌, !, qed, by, move, keep, split, fsplit, fjoin, suffices, use0}
-use types.Run.{stop, fld, of_opd, no_more, and_then, returns, enter}
-use types.ByLocal.{alloc_all, pass_all, free_all, look_at, get, get_in, sets}
-use types.Part.{agg, sub, whole}
-use contract.Monad.{fact, fact_i}
-use contract.Running.{tables}
-use denote.Exit.{yes}
-use denote.RattleType.{owns}
-use denote.Signature.{types_at, plain}
-use denote.RawPtr.{block_ptr}
-use denote.Steps.{nothing, heard}
-use denote.Triple.Entry.{alive}
-use denote.Triple.Walked.{Stays, stay_dropped, walk_of}
-use Rattle.core.proofs.alloc.Calls.{Goes-blank}
-use Rattle.std.specs.Prelude.{IsTrue, is_some}
-use Rattle.std.specs.declared.option.Option.{Option}
-use Rattle.std.specs.declared.option.Option.TheVariants.{Some}
-use Rattle.std.proofs.alloc.Global.TheLaws as heap_laws
-use Rattle.std.specs.contracts.impls.GlobalAllocator.TheImpl.{ghosts}
-use Rattle.std.proofs.raw_atomic.Walks.{proved_at, leaves}
+use Rattle.md_ffi.proofs.Steps.{◌≡◌, List, [], ◌∷◌, ◌++◌, refl, sym, subst, proved_at, leaves, IsTrue, is_some, ghosts, Option, Some, Goes-blank, Val, vptr, SProp, emp, ent, id⊢, WpFn, fact, fact_i, tables, alloc_all, pass_all, free_all, look_at, get, sets, get_in, ‵, raw, ◌⊛◌, ◌$◌, ◌∵◌, !, qed, by, move, keep, split, fsplit, fjoin, use0, suffices, agg, sub, whole, no_more, and_then, returns, enter, stop, fld, of_opd, yes, owns, block_ptr, types_at, plain, nothing, heard, alive, Stays, stay_dropped, walk_of, heap_laws}
+use Rattle.md_ffi.specs.contracts.held.Held.{the_row as Held}
+use Rattle.md_ffi.specs.contracts.slot.Slot.{the_row as Slot}
 use Rattle.md_ffi.proofs.Values.{Heap, both, loose_good, loose_in, held_out}
-use Rattle.md_ffi.proofs.Slots.{Held, Slot}
-use Rattle.md_ffi.specs.contracts.slot.Slot.into_loose.{ended, clauses}
-use Rattle.md_ffi.specs.contracts.slot.Slot.into_loose.Key.{name as #self}
+use Rattle.md_ffi.specs.contracts.slot.Slot.into_loose as its
 use Rattle.md_ffi.proofs.slot.Slot.into_loose.Statement.{statement}
 use Rattle.md_ffi.proofs.slot.Slot.into_loose.Code as code
 
 pub into_loose_spec : {M : Type 1} → statement M
 into_loose_spec 𝓤 𝓛 𝓜 𝓡 wired =
-    let H = 𝓛.H in let 𝓣 = tables 𝓤 H 𝓜 𝓡 𝓡.env in let LZ = heap_laws.the_row_laws in let En = ended in let c = clauses 𝓛 𝓜.mem 𝓡.returns in let fn = code.function in
+    let H = 𝓛.H in let 𝓣 = tables 𝓤 H 𝓜 𝓡 𝓡.env in let LZ = heap_laws in let En = its.ended in let c = its.clauses 𝓛 𝓜.mem 𝓡.returns in let fn = code.function in
     let hs : Stays En.signature.params En.kept = (stay_dropped (plain (λ _. Slot)) yes, tt) in
-    proved_at 𝓛 En hs c 𝓜 𝓡 (Goes-blank 𝓛 0 (plain (λ _. Slot)) yes (λ κs x f. tt), tt) #self fn (code.unfolded 𝓤 H 𝓜 𝓡 wired) (λ z are.
+    proved_at 𝓛 En hs c 𝓜 𝓡 (Goes-blank 𝓛 0 (plain (λ _. Slot)) yes (λ κs x f. tt), tt) its.Key.name fn (code.unfolded 𝓤 H 𝓜 𝓡 wired) (λ z are.
     let v = z.0.3.0 in let a = v.alloc in let Post : Val → SProp 𝓤 = (walk_of 𝓛 En hs c).post z in let Run : List Val → SProp 𝓤 = λ ws. WpFn 𝓤 H 𝓣.C 𝓣.Λ fn ws Post in
     qed 𝓛 ((raw (alive 𝓛 En.signature z.0.0 z.0.1) ⊛ ‵ (owns (types_at En.signature.params z.0.0) z.0.3 z.0.4)) ∷ raw (fact 𝓤 (IsTrue (is_some v.held))) ∷ []) ∵ move ! (1 ∷ []) $ heard ! (IsTrue (is_some v.held)) (λ some. split ! $ move ! (1 ∷ []) $ fsplit ! $
     held_out Held Heap LZ ghosts ! v.at a v.held some z.0.4.0 (λ (y : Option Held.Denot). Slot.own_val (record { at = v.at; alloc = a; held = y }) z.0.4.0) (λ x. refl) (λ x held b o h e ws fits. let w : Val = both (vptr b o) h in let typed = loose_good Held Heap LZ ghosts b o h fits in
