@@ -8,25 +8,17 @@
 #define RESERVED 12
 #define LENGTHS 16
 
-static int is_zero(const uint8_t *at, size_t count) {
-    while (count > 0 && at[count - 1] == 0)
-        count--;
-    return count == 0;
-}
-
 /* How many bytes of records stand before the first whose reserved word isn't 0. Where they end amid one, that is all of them: the proved
    function says so. */
 static size_t before_reserved(const uint8_t *records, size_t length) {
-    size_t left = length, at, byte;
+    size_t left = length, at;
     while (left >= HEAD) {
         const uint8_t *head = records + (length - left);
-        if (!is_zero(head + RESERVED, 4))
+        if (little(head + RESERVED, 4) != 0)
             return length - left;
         left -= HEAD;
         for (at = LENGTHS; at < LENGTHS + 24; at += 8) {
-            uint64_t bytes = 0;
-            for (byte = 8; byte > 0; byte--)
-                bytes = bytes << 8 | head[at + byte - 1];
+            uint64_t bytes = little(head + at, 8);
             if (bytes > left)
                 return length;
             left -= (size_t)bytes;
