@@ -1,4 +1,4 @@
-//! The pointer of a driven job's handle, and what it owns behind it.
+//! The pointer of a driven job's handle, and what it owns behind it. `Slot` is no type with a parameter, since none crosses to C.
 ghost use Rattle.std.specs.Prelude.{◌≡◌, Option, Some, None, is_some, IsTrue};
 ghost use Rattle.std.specs.Coded.{codes};
 ghost use Rattle.std.specs.contracts.impls.GlobalAllocator.TheImpl.{ghosts};
