@@ -1,7 +1,7 @@
 -- Bytes as a column of a line shows them, and a string of JSON.
-use Rattle.std.specs.Prelude.{ℕ, Bool, false, not, ◌&&◌, ◌||◌, ◌==◌, ◌+◌, ◌/◌, ◌%◌, nat_lt, nat_le, List}
+use Rattle.std.specs.Prelude.{◌≡◌, ◌<◌, Option, Some, ℕ, Bool, false, not, ◌&&◌, ◌||◌, ◌==◌, ◌+◌, ◌/◌, ◌%◌, nat_lt, nat_le, List}
 use Rattle.std.specs.Prelude.{[], ◌∷◌, ◌++◌, length, if◌then◌else◌, codes}
-use Rattle.std.specs.List.{flat_map}
+use Rattle.std.specs.List.{All, flat_map}
 use Rattle.std.specs.Str.Lossy.{utf8_valid_len}
 
 -- whether bytes are UTF-8
@@ -42,6 +42,10 @@ escape text b =
 -- bytes as a column shows them
 abbrev pub escaped : List ℕ → List ℕ
 escaped bytes = flat_map (escape (is_shown bytes)) bytes
+
+-- What was read of a column is what it shows: where it shows bytes, these.
+abbrev pub ReadsBack : List ℕ → Option (List ℕ) → Type 0
+ReadsBack column read = (bytes : List ℕ) → All (λ b. b < 256) bytes → column ≡ escaped bytes → read ≡ Some bytes
 
 -- a byte of a string of JSON
 abbrev pub json_escape : Bool → ℕ → List ℕ

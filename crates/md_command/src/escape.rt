@@ -1,7 +1,7 @@
 //! Bytes as a column of a line, or a string of JSON, shows them.
-ghost use Rattle.std.specs.Prelude.{◌≡◌, ◌++◌, ◌<◌, OnOk};
-ghost use Rattle.std.specs.List.{flat_map};
-ghost use Rattle.md_command.specs.Escapes.{escape, escaped, hex, digit_of, has_controls, is_text, json_escape, json_string};
+ghost use Rattle.std.specs.Prelude.{◌≡◌, ◌++◌, ◌<◌, length, option_map, IfOk, IfSome, OnOk};
+ghost use Rattle.md_command.specs.Escapes.{escape, escaped, hex, digit_of, has_controls, is_text, json_escape, json_string, ReadsBack};
+ghost use Rattle.md_command.specs.Unescaping.{first_shown, first_escaped, byte_of, meant_by, value_of};
 
 use std::alloc::{AllocError, Global};
 
@@ -11,7 +11,11 @@ use std::alloc::{AllocError, Global};
 pub fn push_escaped(text: &mut Vec<u8>, bytes: &[u8]) -> Result<(), AllocError>
     ensures { OnOk result (text.new.items ≡ text.old.items ++ escaped bytes.now) }
 {
-    push_bytes(text, bytes, is_text(bytes) && !has_controls(bytes))
+    let are_shown = is_text(bytes) && !has_controls(bytes);
+    for byte in bytes {
+        push_byte(text, *byte, are_shown)?;
+    }
+    Ok(())
 }
 
 // Whether two of the bytes are a control character from U+0080 to U+009F in UTF-8.
@@ -40,18 +44,9 @@ pub fn is_text(bytes: &[u8]) -> bool
     }
 }
 
-// Appends the bytes of a column, of which those past ASCII are shown as they are or not.
-fn push_bytes(text: &mut Vec<u8>, bytes: &[u8], are_text: bool) -> Result<(), AllocError>
-    ensures { OnOk result (text.new.items ≡ text.old.items ++ flat_map (escape are_text) bytes.now) }
-{
-    for byte in bytes {
-        push_byte(text, *byte, are_text)?;
-    }
-    Ok(())
-}
-
-fn push_byte(text: &mut Vec<u8>, byte: u8, are_text: bool) -> Result<(), AllocError>
-    ensures { OnOk result (text.new.items ≡ text.old.items ++ escape are_text byte) }
+// Appends a byte of a column, where those past ASCII are shown as they are or not.
+fn push_byte(text: &mut Vec<u8>, byte: u8, are_shown: bool) -> Result<(), AllocError>
+    ensures { OnOk result (text.new.items ≡ text.old.items ++ escape are_shown byte) }
 {
     match byte {
         b'\\' => text.extend_from_slice(b"\\\\"),
@@ -59,7 +54,7 @@ fn push_byte(text: &mut Vec<u8>, byte: u8, are_text: bool) -> Result<(), AllocEr
         b'\n' => text.extend_from_slice(b"\\n"),
         b'\r' => text.extend_from_slice(b"\\r"),
         b' '..=b'~' => Ok(text.push(byte)?),
-        128.. if are_text => Ok(text.push(byte)?),
+        128.. if are_shown => Ok(text.push(byte)?),
         _ => push_hex(text, b"\\x", byte),
     }
 }
@@ -69,21 +64,15 @@ fn push_byte(text: &mut Vec<u8>, byte: u8, are_text: bool) -> Result<(), AllocEr
 pub fn push_string(text: &mut Vec<u8>, bytes: &[u8]) -> Result<(), AllocError>
     ensures { OnOk result (text.new.items ≡ text.old.items ++ json_string bytes.now) }
 {
+    let are_text = is_text(bytes);
     text.extend_from_slice(b"\"")?;
-    push_json_bytes(text, bytes, is_text(bytes))?;
-    text.extend_from_slice(b"\"")
-}
-
-// Appends the bytes of a string of JSON, of which those past ASCII are characters or not.
-fn push_json_bytes(text: &mut Vec<u8>, bytes: &[u8], are_text: bool) -> Result<(), AllocError>
-    ensures { OnOk result (text.new.items ≡ text.old.items ++ flat_map (json_escape are_text) bytes.now) }
-{
     for byte in bytes {
         push_json_byte(text, *byte, are_text)?;
     }
-    Ok(())
+    text.extend_from_slice(b"\"")
 }
 
+// Appends a byte of a string of JSON, where those past ASCII are characters or not.
 fn push_json_byte(text: &mut Vec<u8>, byte: u8, are_text: bool) -> Result<(), AllocError>
     ensures { OnOk result (text.new.items ≡ text.old.items ++ json_escape are_text byte) }
 {
@@ -116,58 +105,55 @@ fn digit_of(number: u8) -> u8
     }
 }
 
-// How far an escape is read.
-#[derive(Clone, Copy, PartialEq)]
-enum Reading {
-    /// No escape has begun.
-    Outside,
-    /// Its backslash was read.
-    Begun,
-    /// `\x` was read.
-    Hex,
-    /// `\x` and this digit were read.
-    Digit(u8),
-}
-
 /// The bytes that a column shows so. None where a backslash begins none of `\\`, `\t`, `\n`, `\r` and `\xHH`, with digits as `push_escaped`
 /// has them. What needs no escape may have one.
-pub fn unescaped(alloc: Global, column: &[u8]) -> Result<Option<Vec<u8>>, AllocError> {
+pub fn unescaped(alloc: Global, column: &[u8]) -> Result<Option<Vec<u8>>, AllocError>
+    ensures { IfOk result (λ read. ReadsBack column.now (option_map (λ bytes. bytes.items) read)) }
+{
     let mut bytes = Vec::with_capacity(alloc, column.len())?;
-    let mut reading = Reading::Outside;
-    for byte in column {
-        let Some((next, read)) = read_byte(reading, *byte) else {
-            return Ok(None);
-        };
-        reading = next;
-        if let Some(byte) = read {
-            bytes.push(byte)?;
-        }
+    let mut rest = column;
+    while let Some((byte, more)) = first_shown(rest) {
+        bytes.push(byte)?;
+        rest = more;
     }
-    if reading != Reading::Outside {
-        return Ok(None);
-    }
-    Ok(Some(bytes))
+    Ok(rest.is_empty().then_some(bytes))
 }
 
-// How far an escape is read after one more byte, and the byte that it ended at. None where it is no escape.
-fn read_byte(reading: Reading, byte: u8) -> Option<(Reading, Option<u8>)> {
-    match reading {
-        Reading::Outside if byte == b'\\' => Some((Reading::Begun, None)),
-        Reading::Outside => Some((Reading::Outside, Some(byte))),
-        Reading::Begun => match byte {
-            b'x' => Some((Reading::Hex, None)),
-            _ => Some((Reading::Outside, Some(meant_by(byte)?))),
-        },
-        Reading::Hex => Some((Reading::Digit(value_of(byte)?), None)),
-        Reading::Digit(high) => Some((
-            Reading::Outside,
-            Some(high.wrapping_mul(16) | value_of(byte)?),
-        )),
+// The byte that a column begins with, as it is or by an escape, and what is behind it. None where neither is there.
+fn first_shown(column: &[u8]) -> Option<(u8, &[u8])>
+    ensures value { option_map (λ first. (first.0, first.1.now)) result ≡ first_shown column.now }
+    ensures shorter { IfSome result (λ first. length first.1.now < length column.now) }
+{
+    match column {
+        [b'\\', escape @ ..] => first_escaped(escape),
+        [byte, rest @ ..] => Some((*byte, rest)),
+        [] => None,
     }
+}
+
+// The byte of an escape whose backslash was read, and what is behind it.
+fn first_escaped(escape: &[u8]) -> Option<(u8, &[u8])>
+    ensures value { option_map (λ first. (first.0, first.1.now)) result ≡ first_escaped escape.now }
+    ensures shorter { IfSome result (λ first. length first.1.now < length escape.now) }
+{
+    match escape {
+        [b'x', high, low, rest @ ..] => Some((byte_of(*high, *low)?, rest)),
+        [letter, rest @ ..] => Some((meant_by(*letter)?, rest)),
+        [] => None,
+    }
+}
+
+// The byte of two digits.
+fn byte_of(high: u8, low: u8) -> Option<u8>
+    ensures { result ≡ byte_of high low }
+{
+    Some(value_of(high)? * 16 + value_of(low)?)
 }
 
 // The byte that a backslash and a letter stand for.
-fn meant_by(letter: u8) -> Option<u8> {
+fn meant_by(letter: u8) -> Option<u8>
+    ensures { result ≡ meant_by letter }
+{
     match letter {
         b'\\' => Some(b'\\'),
         b't' => Some(b'\t'),
@@ -177,7 +163,10 @@ fn meant_by(letter: u8) -> Option<u8> {
     }
 }
 
-fn value_of(digit: u8) -> Option<u8> {
+fn value_of(digit: u8) -> Option<u8>
+    ensures value { result ≡ value_of digit }
+    ensures low { IfSome result (λ value. value < 16) }
+{
     match digit {
         b'0'..=b'9' => Some(digit - b'0'),
         b'a'..=b'f' => Some(digit - b'a' + 10),

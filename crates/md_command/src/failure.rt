@@ -1,8 +1,8 @@
 //! A trouble with what the system said of it, and the line that says both.
-ghost use Rattle.std.specs.Prelude.{◌≡◌, ◌++◌, IfOk, OnOk};
+ghost use Rattle.std.specs.Prelude.{◌≡◌, ◌++◌, string_bytes, IfOk, IfSome, OnOk};
 ghost use Rattle.std.specs.Option.{option_copied};
 ghost use Rattle.std_io.specs.IoError.{error_kind};
-ghost use Rattle.md_command.specs.Lines.{failure_line as line_of, cause_text};
+ghost use Rattle.md_command.specs.Lines.{failure_line as line_of, cause_text, subject};
 ghost use Rattle.md_command.specs.Troubles.{trouble_by};
 ghost use Rattle.md_command.specs.declared.trouble.Trouble.TheVariants.{NoMemory};
 
@@ -24,19 +24,13 @@ pub struct Failure {
 
 impl Failure {
     /// The same of this path.
-    pub fn at(self, alloc: Global, path: &str) -> Failure
-        ensures { result.trouble ≡ self.trouble }
+    pub fn at(mut self, alloc: Global, path: &str) -> Failure
+        ensures trouble { result.trouble ≡ self.trouble }
+        ensures cause { result.cause ≡ self.cause }
+        ensures path { IfSome result.path (λ said. string_bytes said ≡ path.now) }
     {
-        let Failure {
-            trouble,
-            cause,
-            path: _,
-        } = self;
-        Failure {
-            trouble,
-            cause,
-            path: String::from_str(alloc, path).ok(),
-        }
+        self.path = String::from_str(alloc, path).ok();
+        self
     }
 
     /// A trouble, and what the system said of it. Without rights, and without memory, that is the trouble.
@@ -93,7 +87,8 @@ impl From<CoreError> for Failure {
     }
 }
 
-/// The line that says of something why it is not done: `deolmutt: WHAT: WHY`, and what the system said behind another colon.
+/// The line that says of something why it is not done: `deolmutt: WHAT: WHY`, and what the system said behind another colon. A failure that
+/// has a path is of that.
 pub(crate) fn failure_line(
     alloc: Global,
     what: &[u8],
@@ -102,12 +97,22 @@ pub(crate) fn failure_line(
     ensures { IfOk result (λ line. line.items ≡ line_of what.now failure.now) }
 {
     let mut line = Vec::from_slice(alloc, b"deolmutt: ")?;
-    push_escaped(&mut line, what)?;
+    push_escaped(&mut line, subject(what, failure.path.as_ref()))?;
     line.extend_from_slice(b": ")?;
     line.extend_from_slice(failure.trouble.text().as_bytes())?;
     push_cause(&mut line, failure.cause.as_ref())?;
     line.extend_from_slice(b"\n")?;
     Ok(line)
+}
+
+// What a line is of: a path, if there is one, or else what was to be done.
+fn subject<'a>(what: &'a [u8], path: Option<&'a String>) -> &'a [u8]
+    ensures { result.now ≡ subject what.now (option_copied path.entry) }
+{
+    match path {
+        Some(path) => path.as_bytes(),
+        None => what,
+    }
 }
 
 // Appends a colon and what the system said, if it said anything.

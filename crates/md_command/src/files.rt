@@ -1,4 +1,6 @@
 //! Files that are read: those of a directory, each of which is a message.
+ghost use Rattle.std.specs.Prelude.{◌≡◌, ◌++◌, codes, IfOk};
+
 use crate::failure::Failure;
 use crate::lines::{Line, Lines, message};
 use crate::session::{Host, Session};
@@ -6,7 +8,7 @@ use crate::trouble::Trouble;
 use std::alloc::{AllocError, Global};
 use std::fs::OpenOptions;
 use std::io;
-use std::io::{Error, Read};
+use std::io::Read;
 
 // The most bytes of a name.
 const MOST_NAME: usize = 65_536;
@@ -18,12 +20,10 @@ pub fn names_of<R: Host>(session: &Session<'_, R>, path: &str) -> Result<Vec<Vec
     let whole = format!(in session.alloc; "{path}/")?;
     match session.host.open_dir(whole.as_str()) {
         Ok(dir) => sorted_names(session.alloc, path, dir),
-        Err(error) => Err(no_directory(session, path, &error)),
+        Err(error) => {
+            Err(Failure::of(session.alloc, Trouble::NoDirectory, &error).at(session.alloc, path))
+        }
     }
-}
-
-fn no_directory<R: Host>(session: &Session<'_, R>, path: &str, error: &Error) -> Failure {
-    Failure::of(session.alloc, Trouble::NoDirectory, error).at(session.alloc, path)
 }
 
 // The names that a reader of the directory of this path gives, each ended by a NUL.
@@ -56,7 +56,9 @@ fn push_name(alloc: Global, names: &mut Vec<Vec<u8>>, line: &[u8]) -> Result<(),
 }
 
 /// The path of a name in a directory.
-pub fn path_in(alloc: Global, dir: &str, name: &[u8]) -> Result<Vec<u8>, AllocError> {
+pub fn path_in(alloc: Global, dir: &str, name: &[u8]) -> Result<Vec<u8>, AllocError>
+    ensures { IfOk result (λ path. path.items ≡ dir.now ++ codes "/" ++ name.now) }
+{
     let mut path = Vec::from_slice(alloc, dir.as_bytes())?;
     path.push(b'/')?;
     path.extend_from_slice(name)?;

@@ -61,10 +61,8 @@ impl<R: Read + Drop> Lines<R> {
             if self.from >= self.until && !self.fill()? {
                 break;
             }
-            let (piece, is_last) = cut(
-                part(self.chunk.as_slice(), self.from, self.until),
-                self.end,
-            );
+            let left = part(self.chunk.as_slice(), self.from, self.until);
+            let (piece, is_last) = cut(left, self.end);
             self.from = self.from.saturating_add(piece.len());
             if kind == Line::TooLong || piece.len() > most.saturating_sub(line.len()) {
                 line.clear();
@@ -133,9 +131,5 @@ fn cut(bytes: &[u8], end: u8) -> (&[u8], bool) {
 
 // The bytes from one position to another, and none where there are no such.
 fn part(bytes: &[u8], from: usize, until: usize) -> &[u8] {
-    if from <= until && until <= bytes.len() {
-        &bytes[from..until]
-    } else {
-        &[]
-    }
+    bytes.get(from..until).unwrap_or(&[])
 }

@@ -7,11 +7,7 @@ use std::io::Write;
 
 /// Writes bytes to standard output, whole. Refused as `Unwritten`, `NoRights` or `NoMemory` of it; a part may then be written.
 pub fn print<R: Host>(session: &Session<'_, R>, bytes: &[u8]) -> Result<(), Failure> {
-    match io::writer(session.host).write_all(bytes) {
-        Ok(()) => Ok(()),
-        Err(error) => {
-            let failure = Failure::of(session.alloc, Trouble::Unwritten, &error);
-            Err(failure.at(session.alloc, "standard output"))
-        }
-    }
+    io::writer(session.host).write_all(bytes).map_err(|error| {
+        Failure::of(session.alloc, Trouble::Unwritten, &error).at(session.alloc, "standard output")
+    })
 }

@@ -2,9 +2,10 @@
 ghost use Rattle.std.specs.Prelude.{◌≡◌, IfOk};
 ghost use Rattle.md_command.specs.Lines.{progress_line as line_of};
 
+use crate::number::push_number;
 use crate::session::{Host, Session};
-use itoa::Buffer;
 use std::alloc::{AllocError, Global};
+use std::io::IsTerminal;
 
 // Takes the place of what was said, since a line feed may be far.
 const BLANK: &[u8] = b"                              \r";
@@ -37,7 +38,7 @@ impl Progress {
             return;
         }
         self.second = now;
-        if session.is_on_terminal() {
+        if session.errors.is_terminal() {
             self.say(session);
         }
     }
@@ -61,8 +62,8 @@ impl Progress {
 fn progress_line(alloc: Global, count: u64) -> Result<Vec<u8>, AllocError>
     ensures { IfOk result (λ line. line.items ≡ line_of count) }
 {
-    let mut buffer = Buffer::new();
-    let mut line = Vec::from_slice(alloc, buffer.format(count).as_bytes())?;
+    let mut line = Vec::new(alloc);
+    push_number(&mut line, count)?;
     line.extend_from_slice(b" messages\r")?;
     Ok(line)
 }

@@ -7,7 +7,7 @@ use crate::status::Status;
 use crate::trouble::Trouble;
 use std::alloc::Global;
 use std::fs::Files;
-use std::io::{Eprint, Input, IsTerminal, Print, Stderr};
+use std::io::{Eprint, Input, Print, Stderr};
 use std::time::Clock;
 
 /// What a command needs of the system.
@@ -26,19 +26,10 @@ pub struct Session<'r, R: Host> {
 }
 
 impl<'r, R: Host> Session<'r, R> {
-    /// Whether standard error is a terminal.
-    pub(crate) fn is_on_terminal(&self) -> bool {
-        self.errors.is_terminal()
-    }
-
     /// Says on standard error what failed and why, and gives the status of it. Where memory for the line is wanting, that is said.
     pub fn tell(&self, what: &[u8], failure: &Failure) -> Status
         ensures { result ≡ status_of failure.now.trouble }
     {
-        let what = match &failure.path {
-            Some(path) => path.as_bytes(),
-            None => what,
-        };
         match failure_line(self.alloc, what, failure) {
             Ok(line) => self.say(line.as_slice()),
             Err(_) => self.say(b"deolmutt: out of memory\n"),
