@@ -1,15 +1,20 @@
 -- Why a job on a disk has not done what it was for: which answers and which causes are troubles.
-use Rattle.std.specs.Prelude.{Option, None, Some}
+use Rattle.std.specs.Prelude.{Bool, true, false, Option, None, Some, Result, Ok, Err}
+use Rattle.std_io.specs.declared.io.error.Error.{Error}
+use Rattle.std_io.specs.IoError.{error_kind}
 use Rattle.std_io.specs.declared.io.kind.ErrorKind.{ErrorKind}
 use Rattle.std_io.specs.declared.io.kind.ErrorKind.TheVariants as kind
 use Rattle.md_disk.specs.declared.cause.Cause.{Cause}
 use Rattle.md_disk.specs.declared.cause.Cause.TheVariants as cause
 use Rattle.md_jobs.specs.declared.answer.Answer.{Answer}
 use Rattle.md_jobs.specs.declared.answer.Answer.TheVariants as answer
+use Rattle.md_name.specs.declared.error.NameError.{NameError}
+use Rattle.md_name.specs.declared.error.NameError.TheVariants as name
+use Rattle.md_command.specs.Troubles.{trouble_by}
 use Rattle.md_command.specs.declared.trouble.Trouble.{Trouble}
 use Rattle.md_command.specs.declared.trouble.Trouble.TheVariants.{NotThere, NotTrashed, OtherInfo, NotText}
 use Rattle.md_command.specs.declared.trouble.Trouble.TheVariants.{NotAFile, TwoNames, NoMaildir, OtherSystem}
-use Rattle.md_command.specs.declared.trouble.Trouble.TheVariants.{NameTaken, Lost, TimedOut, TmpGone, Fault, NoMemory, NoRights}
+use Rattle.md_command.specs.declared.trouble.Trouble.TheVariants.{NameTaken, Lost, TimedOut, TmpGone, Fault, NoName, NoMemory, NoRights}
 
 -- why a job that ended with this answer has not done what it was for, if it has not
 abbrev pub trouble_of : Answer → Option Trouble
@@ -27,6 +32,17 @@ trouble_of answer.TimedOut = Some TimedOut
 trouble_of answer.TmpGone = Some TmpGone
 trouble_of answer.NameTaken = Some NameTaken
 trouble_of answer.Fault = Some Fault
+
+-- why a unique name was not made
+abbrev pub trouble_of_name : NameError → Trouble
+trouble_of_name name.NoMemory = NoMemory
+trouble_of_name _ = NoName
+
+-- why a path is no maildir's, as far as the system told whether it is
+abbrev pub trouble_of_box : Result Bool Error → Option Trouble
+trouble_of_box (Ok true) = None
+trouble_of_box (Ok false) = Some NoMaildir
+trouble_of_box (Err error) = Some (trouble_by NoMaildir (error_kind error))
 
 -- what an error of the system is to a command
 abbrev pub trouble_of_kind : ErrorKind → Trouble

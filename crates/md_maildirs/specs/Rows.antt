@@ -2,19 +2,13 @@
 use Rattle.std.specs.Prelude.{ℕ, ℤ, Bool, List, [], ◌∷◌, ◌++◌, Option, None, Some, option_and_then, if◌then◌else◌, codes}
 use Rattle.std.specs.Fmt.{decimal, signed_decimal}
 use Rattle.md_dirs.specs.declared.paths.Place.{Place}
-use Rattle.md_dirs.specs.declared.paths.Place.TheVariants.{Tmp, New, Cur}
 use Rattle.md_name.specs.Letters.{Set, spelling}
 use Rattle.md_name.specs.Names.{split_of, flags_of, unique_of}
 use Rattle.md_head.specs.declared.shown.Summary.{Summary}
 use Rattle.md_maildirs.specs.declared.row.Headers.{Headers}
 use Rattle.md_maildirs.specs.declared.row.Shape.{Shape}
 use Rattle.md_command.specs.Escapes.{escaped, json_string}
-
--- the name of a place
-abbrev pub place_text : Place → List ℕ
-place_text Tmp = codes "tmp"
-place_text New = codes "new"
-place_text Cur = codes "cur"
+use Rattle.md_text.specs.Places.{place_text}
 
 -- the flags of a name, if its info has any
 abbrev pub flags_in : List ℕ → Option Set
@@ -97,6 +91,10 @@ more_fields_text (Some headers) = header_fields_text headers
 -- a message as an object of JSON, in a line
 abbrev pub object_text : Place → List ℕ → Option Headers → List ℕ
 object_text place name headers = fields_text place name ++ more_fields_text headers ++ codes "}\n"
+
+-- the path of a message of a maildir, by its place and name
+abbrev pub path_text : List ℕ → Place → List ℕ → List ℕ
+path_text maildir place name = maildir ++ codes "/" ++ place_text place ++ codes "/" ++ name
 
 -- a message in columns, in a line
 abbrev pub line_text : Bool → Place → List ℕ → Option Headers → List ℕ

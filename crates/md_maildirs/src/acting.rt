@@ -1,11 +1,15 @@
 //! Errands on the messages that words name.
 //!
 //! What a hint allows is done at once. All else waits, until one reading of the maildir serves many.
+ghost use Rattle.std.specs.Prelude.{◌≡◌, codes, IfOk};
+ghost use Rattle.std.specs.FinSet as set;
+ghost use Rattle.md_maildirs.specs.Errands.{IsFor};
+
 use crate::boxes::maildirs;
 use crate::causes::{errand_failure, trouble_of};
 use crate::change::Change;
 use crate::key::parse_key;
-use crate::names::{fresh, namer};
+use crate::names::{NAMES, fresh, namer};
 use md_command::{Failure, Host, Line, Lines, Progress, Session, Status, Trouble, unescaped};
 use md_disk::{Disk, Namer};
 use md_jobs::{Answer, Purpose};
@@ -15,9 +19,6 @@ use std::mem::replace;
 
 /// How often a message is looked for whose name is gone by the time of the act.
 pub(crate) const TRIES: u64 = 16;
-
-// How many fresh names a copy tries where each is taken.
-const NAMES: u32 = 16;
 
 // So many errands that wait read the maildir each for itself, and more of them once for all.
 const FEW: usize = 3;
@@ -227,26 +228,39 @@ impl<'r, R: Host> Acting<'r, R> {
         Ok(run_errand(session.alloc, &mut self.disk, 0, unique, purpose, tries)?)
     }
 
-    // What an errand is for. A copy's has a fresh name, and there is none without what makes names.
-    fn purpose(&mut self, session: &Session<'_, R>) -> Result<Purpose, Failure> {
-        if let Some(namer) = &mut self.namer {
-            let fresh = fresh(session, namer)?;
-            return Ok(Purpose::Copy { to: 1, fresh });
-        }
-        match &self.act {
-            Act::Seen => Ok(Purpose::Seen(seen())),
-            Act::Flag(change) => Ok(Purpose::Flag {
-                add: change.add,
-                remove: change.remove,
-            }),
-            Act::Move => Ok(Purpose::Move { to: 1 }),
-            Act::Copy => Err(Failure::from(Trouble::NoName)),
-            Act::Expunge => Ok(Purpose::Expunge),
-        }
+    fn purpose(&mut self, session: &Session<'_, R>) -> Result<Purpose, Failure>
+        ensures { IfOk result (λ purpose. IsFor self.old.act purpose) }
+    {
+        let name = match &mut self.namer {
+            Some(namer) => Some(fresh(session, namer)?),
+            None => None,
+        };
+        purpose_of(&self.act, name)
+    }
+}
+
+// What an errand is for. A copy's has a fresh name.
+fn purpose_of(act: &Act, fresh: Option<Bytes>) -> Result<Purpose, Failure>
+    ensures { IfOk result (λ purpose. IsFor act.now purpose) }
+{
+    match act {
+        Act::Seen => Ok(Purpose::Seen(seen())),
+        Act::Flag(change) => Ok(Purpose::Flag {
+            add: change.add,
+            remove: change.remove,
+        }),
+        Act::Move => Ok(Purpose::Move { to: 1 }),
+        Act::Copy => match fresh {
+            Some(fresh) => Ok(Purpose::Copy { to: 1, fresh }),
+            None => Err(Failure::from(Trouble::NoName)),
+        },
+        Act::Expunge => Ok(Purpose::Expunge),
     }
 }
 
 // The flag S alone.
-fn seen() -> Flags {
+fn seen() -> Flags
+    ensures { result ≡ set.from_list (codes "S") }
+{
     Flags::parse(b"S").unwrap_or(Flags::empty())
 }

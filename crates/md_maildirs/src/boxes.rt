@@ -1,4 +1,7 @@
 //! The maildirs of a command.
+ghost use Rattle.std.specs.Prelude.{◌≡◌, true, Ok, Some, IfErr, OnOk};
+ghost use Rattle.md_maildirs.specs.Causes.{trouble_of_box};
+
 use md_command::{Failure, Host, Session, Status, Trouble};
 use md_disk::{Calls, Disk, Folders, has_cur, is_maildir, make_maildir};
 use std::io;
@@ -43,7 +46,10 @@ fn must_be<R: Host>(
     session: &Session<'_, R>,
     path: &str,
     told: io::Result<bool>,
-) -> Result<(), Failure> {
+) -> Result<(), Failure>
+    ensures there { OnOk result (told ≡ Ok true) }
+    ensures refused { IfErr result (λ failure. Some failure.trouble ≡ trouble_of_box told) }
+{
     let failure = match told {
         Ok(true) => return Ok(()),
         Ok(false) => Failure::from(Trouble::NoMaildir),

@@ -52,11 +52,8 @@ pub(crate) fn trouble_caused(cause: Cause) -> Trouble
 pub(crate) fn trouble_told(trouble: Trouble, cause: Option<Cause>) -> Trouble
     ensures { result ≡ told_by trouble cause }
 {
-    match trouble {
-        Trouble::Fault => match cause {
-            Some(cause) => trouble_caused(cause),
-            None => Trouble::Fault,
-        },
+    match (trouble, cause) {
+        (Trouble::Fault, Some(cause)) => trouble_caused(cause),
         _ => trouble,
     }
 }
@@ -82,11 +79,9 @@ pub(crate) fn errand_failure(alloc: Global, trouble: Trouble, cause: Option<Caus
     ensures { result.trouble ≡ errand_told trouble cause }
 {
     match (trouble, cause) {
-        (Trouble::Fault, Some(Cause::System(ErrorKind::CrossesDevices))) => Failure {
-            trouble: Trouble::OtherSystem,
-            cause: None,
-            path: None,
-        },
+        (Trouble::Fault, Some(Cause::System(ErrorKind::CrossesDevices))) => {
+            Failure::from(Trouble::OtherSystem)
+        }
         _ => failure_caused(alloc, trouble, cause),
     }
 }

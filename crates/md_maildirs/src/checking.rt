@@ -1,31 +1,25 @@
 //! What breaks the format of a maildir, printed.
 use crate::boxes::maildirs;
 use crate::causes::failure_caused;
-use crate::row::place_name;
 use md_command::{Failure, Host, Session, Status, Trouble, print, push_escaped};
-use md_disk::{Disk, check_folders};
+use md_disk::check_folders;
 use md_jobs::DirReply;
 use md_system::Flaw;
+use md_text::place_text;
 use std::alloc::{AllocError, Global};
 
 /// Prints a line for each flaw of a maildir: what it is, the place and the name, with tabs between. It is refused as `Flawed` after that,
 /// where there is one, and before where there is no such maildir or a directory can't be read.
 pub fn checked<R: Host>(session: &Session<'_, R>, maildir: &str) -> Result<Status, Failure> {
-    print_flaws(session, &maildirs(session, &[maildir])?)
-}
-
-fn print_flaws<R: Host>(session: &Session<'_, R>, disk: &Disk<'_, R>) -> Result<Status, Failure> {
-    let (reply, flaws) = check_folders(session.alloc, disk)?;
+    let disk = maildirs(session, &[maildir])?;
+    let (reply, flaws) = check_folders(session.alloc, &disk)?;
     if reply != DirReply::Ok {
         return Err(failure_caused(session.alloc, Trouble::Fault, disk.system.cause()));
     }
     if flaws.is_empty() {
         return Ok(Status::Done);
     }
-    print(
-        session,
-        lines_of(session.alloc, flaws.as_slice())?.as_slice(),
-    )?;
+    print(session, &lines_of(session.alloc, &flaws)?)?;
     Err(Failure::from(Trouble::Flawed))
 }
 
@@ -42,7 +36,7 @@ fn push_flaw(alloc: Global, text: &mut Vec<u8>, flaw: &Flaw) -> Result<(), Alloc
     let kind = flaw.kind;
     text.extend_from_slice(format!(in alloc; "{kind}")?.as_bytes())?;
     text.extend_from_slice(b"\t")?;
-    text.extend_from_slice(place_name(flaw.place).as_bytes())?;
+    text.extend_from_slice(place_text(flaw.place))?;
     text.extend_from_slice(b"\t")?;
     push_escaped(text, flaw.name.as_slice())?;
     text.extend_from_slice(b"\n")

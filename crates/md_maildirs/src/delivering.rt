@@ -1,23 +1,21 @@
 //! Messages that are delivered.
+ghost use Rattle.std.specs.Prelude.{◌≡◌, None};
+ghost use Rattle.md_command.specs.declared.trouble.Trouble.TheVariants.{Unprinted};
+
 use crate::boxes::{must_be_maildir, target};
 use crate::causes::{failure_caused, trouble_of};
 use crate::messages::Messages;
-use crate::names::{fresh, namer};
+use crate::names::{NAMES, fresh, namer};
 use md_command::{
     Failure, Host, Lines, Progress, Session, Status, Trouble, message, message_of, names_of,
     path_in, print, push_escaped,
 };
 use md_dirs::Bytes;
 use md_disk::{Disk, Namer};
-use md_jobs::Answer;
 use md_system::deliver;
-use std::io::Read;
 
 // Bytes of a message that are written at once.
 const CHUNK: u64 = 65_536;
-
-// How many names are made where each is taken.
-const NAMES: u32 = 16;
 
 /// How messages are delivered.
 #[derive(Drop)]
@@ -43,14 +41,26 @@ pub enum MailSource<'a> {
 /// Delivers what is on standard input, a message or those of an mbox (mboxrd), or the regular files of a directory in order of their names,
 /// each of at most 16 MiB. It ends at the first that is not delivered; a file that is no message is passed over. Where the name of one that
 /// was delivered can't be printed, that is told, and the others are delivered. Refused before the first where there is no such maildir,
-/// and where no unique name can be made.
+/// and where no unique name can be made. However it ends, a directory that could not be flushed is told.
 pub fn delivered<R: Host>(
     session: &Session<'_, R>,
     maildir: &str,
     how: &Delivering<'_>,
 ) -> Result<Status, Failure> {
     let mut sending = Sending::new(session, maildir, how)?;
-    sending.send_from(session, how.source)
+    let sent = match how.source {
+        MailSource::Message => sending.send_input(session),
+        MailSource::Mailbox => sending.send_mailbox(session),
+        MailSource::Files(path) => sending.send_files(session, path),
+    };
+    sending.progress.end(session);
+    if sending.disk.system.is_unflushed() {
+        session.tell(
+            sending.folder.as_bytes(),
+            &Failure::from(Trouble::Unflushed),
+        );
+    }
+    sent
 }
 
 // The lines of standard input.
@@ -86,32 +96,6 @@ impl<'r, R: Host> Sending<'r, R> {
             prints: how.prints,
             progress: Progress::new(session),
         })
-    }
-
-    // Delivers what a source has. However that ends, it is told if the directory could not be flushed.
-    fn send_from(
-        &mut self,
-        session: &Session<'_, R>,
-        source: MailSource<'_>,
-    ) -> Result<Status, Failure> {
-        let sent = self.send_each(session, source);
-        self.progress.end(session);
-        if self.disk.system.is_unflushed() {
-            session.tell(self.folder.as_bytes(), &Failure::from(Trouble::Unflushed));
-        }
-        sent
-    }
-
-    fn send_each(
-        &mut self,
-        session: &Session<'_, R>,
-        source: MailSource<'_>,
-    ) -> Result<Status, Failure> {
-        match source {
-            MailSource::Message => self.send_rest(session, input(session)?),
-            MailSource::Mailbox => self.send_all(session, input(session)?),
-            MailSource::Files(path) => self.send_files(session, path),
-        }
     }
 
     // Delivers a message. The status is of what was done after that.
@@ -151,31 +135,26 @@ impl<'r, R: Host> Sending<'r, R> {
         }
     }
 
-    // Delivers all that is read as a message.
-    fn send_rest<L: Read + Drop>(
-        &mut self,
-        session: &Session<'_, R>,
-        lines: Lines<L>,
-    ) -> Result<Status, Failure> {
-        match message(session.alloc, lines) {
+    // Delivers standard input as a message.
+    fn send_input(&mut self, session: &Session<'_, R>) -> Result<Status, Failure> {
+        match message(session.alloc, input(session)?) {
             Ok(message) => self.send(session, message.as_slice()),
             Err(failure) => Err(failure.at(session.alloc, "standard input")),
         }
     }
 
     // Delivers the messages of an mbox, until one is not read or not delivered. Its number says which ones were.
-    fn send_all<L: Read + Drop>(
-        &mut self,
-        session: &Session<'_, R>,
-        lines: Lines<L>,
-    ) -> Result<Status, Failure> {
-        let mut messages = Messages::new(session.alloc, lines);
+    fn send_mailbox(&mut self, session: &Session<'_, R>) -> Result<Status, Failure> {
+        let mut messages = Messages::new(session.alloc, input(session)?);
         let mut worst = Status::Done;
         for count in 1..u64::MAX {
             match self.send_next(session, &mut messages) {
                 Ok(Some(status)) => worst = worst.worse(status),
                 Ok(None) => break,
-                Err(failure) => return Ok(worst.worse(told(session, count, &failure)?)),
+                Err(failure) => {
+                    let name = format!(in session.alloc; "message {count}")?;
+                    return Ok(worst.worse(session.tell(name.as_bytes(), &failure)));
+                }
             }
         }
         Ok(worst)
@@ -200,10 +179,10 @@ impl<'r, R: Host> Sending<'r, R> {
     }
 
     // Delivers the next message of an mbox. None past the last.
-    fn send_next<L: Read + Drop>(
+    fn send_next(
         &mut self,
         session: &Session<'_, R>,
-        messages: &mut Messages<L>,
+        messages: &mut Messages<R::Reader>,
     ) -> Result<Option<Status>, Failure> {
         let Some(draft) = messages.next_message(session.alloc)? else {
             return Ok(None);
@@ -224,25 +203,12 @@ fn print_name<R: Host>(session: &Session<'_, R>, name: &[u8]) -> Result<(), Fail
 }
 
 // That a name was not printed, with what the system said of it.
-fn unprinted(failure: Failure) -> Failure {
-    let Failure {
-        trouble: _,
-        cause,
-        path: _,
-    } = failure;
+fn unprinted(failure: Failure) -> Failure
+    ensures { result ≡ record { trouble = Unprinted; cause = failure.cause; path = None } }
+{
     Failure {
         trouble: Trouble::Unprinted,
-        cause,
+        cause: failure.cause,
         path: None,
     }
-}
-
-// Says that the message of this number is not delivered, nor any after it.
-fn told<R: Host>(
-    session: &Session<'_, R>,
-    count: u64,
-    failure: &Failure,
-) -> Result<Status, Failure> {
-    let name = format!(in session.alloc; "message {count}")?;
-    Ok(session.tell(name.as_bytes(), failure))
 }

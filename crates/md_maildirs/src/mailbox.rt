@@ -21,10 +21,7 @@ pub(crate) fn is_from_line(line: &[u8]) -> bool
 fn is_empty_line(line: &[u8]) -> bool
     ensures { result ≡ is_empty line.now }
 {
-    match line {
-        [byte] => *byte == b'\n',
-        _ => false,
-    }
+    matches!(line, [b'\n'])
 }
 
 /// A line as the message has it.

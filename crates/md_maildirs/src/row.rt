@@ -1,18 +1,16 @@
 //! The line of a message in a listing.
 ghost use Rattle.std.specs.Prelude.{◌≡◌, ◌++◌, OnOk};
 ghost use Rattle.std.specs.Option.{option_copied};
-ghost use Rattle.std.specs.Fmt.{decimal};
-ghost use Rattle.md_name.specs.Letters.{spelling};
-ghost use Rattle.md_maildirs.specs.Rows.{message_text, object_text, line_text, place_text, flags_in, letters_text};
-ghost use Rattle.md_maildirs.specs.Rows.{flags_text, json_flags_text, columns_text, header_columns_text, value_text, seconds_text};
-ghost use Rattle.md_maildirs.specs.Rows.{fields_text, more_fields_text, header_fields_text};
-ghost use Rattle.md_maildirs.specs.Rows.{number_fields_text, value_fields_text, named_field};
+ghost use Rattle.md_maildirs.specs.Rows.{message_text, object_text, line_text, flags_in, flags_text, json_flags_text, columns_text};
+ghost use Rattle.md_maildirs.specs.Rows.{header_columns_text, value_text, seconds_text, fields_text, more_fields_text};
+ghost use Rattle.md_maildirs.specs.Rows.{header_fields_text, number_fields_text, value_fields_text, named_field};
 
 use itoa::Buffer;
-use md_command::{push_escaped, push_string};
+use md_command::{push_escaped, push_number, push_string};
 use md_dirs::{Bytes, Place};
 use md_head::Summary;
 use md_name::{Flags, split, unique_part};
+use md_text::place_text;
 use std::alloc::AllocError;
 
 /// What the headers of a message say, and its size in bytes.
@@ -82,7 +80,7 @@ fn push_line(
 fn push_columns(text: &mut Vec<u8>, place: Place, name: &[u8]) -> Result<(), AllocError>
     ensures { OnOk result (text.new.items ≡ text.old.items ++ columns_text place name.now) }
 {
-    text.extend_from_slice(place_name(place).as_bytes())?;
+    text.extend_from_slice(place_text(place))?;
     text.extend_from_slice(b"\t")?;
     push_flags(text, flags_of(name))?;
     text.extend_from_slice(b"\t")?;
@@ -92,15 +90,9 @@ fn push_columns(text: &mut Vec<u8>, place: Place, name: &[u8]) -> Result<(), All
 fn push_flags(text: &mut Vec<u8>, flags: Option<Flags>) -> Result<(), AllocError>
     ensures { OnOk result (text.new.items ≡ text.old.items ++ flags_text flags) }
 {
-    match flags {
-        None => text.extend_from_slice(b"?"),
-        Some(flags) => push_letters(text, flags),
-    }
-}
-
-fn push_letters(text: &mut Vec<u8>, flags: Flags) -> Result<(), AllocError>
-    ensures { OnOk result (text.new.items ≡ text.old.items ++ letters_text (spelling flags)) }
-{
+    let Some(flags) = flags else {
+        return text.extend_from_slice(b"?");
+    };
     let before = text.len();
     flags.write_onto(text)?;
     if text.len() == before {
@@ -127,7 +119,7 @@ fn push_header_columns(text: &mut Vec<u8>, headers: Option<&Headers>) -> Result<
         return text.extend_from_slice(b"\t-\t-\t-\t-");
     };
     text.extend_from_slice(b"\t")?;
-    push_size(text, headers.size)?;
+    push_number(text, headers.size)?;
     text.extend_from_slice(b"\t")?;
     push_seconds(text, headers.summary.seconds, b"-")?;
     text.extend_from_slice(b"\t")?;
@@ -143,13 +135,6 @@ fn push_value(text: &mut Vec<u8>, value: Option<&Bytes>) -> Result<(), AllocErro
         Some(value) => push_escaped(text, value.as_slice()),
         None => text.extend_from_slice(b"-"),
     }
-}
-
-fn push_size(text: &mut Vec<u8>, size: u64) -> Result<(), AllocError>
-    ensures { OnOk result (text.new.items ≡ text.old.items ++ decimal size) }
-{
-    let mut buffer = Buffer::new();
-    text.extend_from_slice(buffer.format(size).as_bytes())
 }
 
 fn push_seconds(text: &mut Vec<u8>, seconds: Option<i64>, none: &[u8]) -> Result<(), AllocError>
@@ -169,7 +154,7 @@ fn push_fields(text: &mut Vec<u8>, place: Place, name: &[u8]) -> Result<(), Allo
     ensures { OnOk result (text.new.items ≡ text.old.items ++ fields_text place name.now) }
 {
     text.extend_from_slice(b"{\"place\":\"")?;
-    text.extend_from_slice(place_name(place).as_bytes())?;
+    text.extend_from_slice(place_text(place))?;
     text.extend_from_slice(b"\",\"flags\":")?;
     push_json_flags(text, flags_of(name))?;
     text.extend_from_slice(b",\"unique\":")?;
@@ -211,7 +196,7 @@ fn push_number_fields(text: &mut Vec<u8>, size: u64, seconds: Option<i64>) -> Re
     ensures { OnOk result (text.new.items ≡ text.old.items ++ number_fields_text size seconds) }
 {
     text.extend_from_slice(b",\"size\":")?;
-    push_size(text, size)?;
+    push_number(text, size)?;
     text.extend_from_slice(b",\"date\":")?;
     push_seconds(text, seconds, b"null")
 }
@@ -233,16 +218,5 @@ fn push_field(text: &mut Vec<u8>, begins: &[u8], value: &Option<Bytes>) -> Resul
     match value {
         Some(value) => push_string(text, value.as_slice()),
         None => text.extend_from_slice(b"null"),
-    }
-}
-
-/// The name of a place.
-pub(crate) fn place_name(place: Place) -> &'static str
-    ensures { result.now ≡ place_text place }
-{
-    match place {
-        Place::Tmp => "tmp",
-        Place::New => "new",
-        Place::Cur => "cur",
     }
 }

@@ -1,15 +1,20 @@
 //! Messages that are shown: listings, and the bytes of one.
+ghost use Rattle.std.specs.Prelude.{◌≡◌, IfOk};
+ghost use Rattle.md_maildirs.specs.Rows.{path_text};
+
 use crate::acting::TRIES;
 use crate::boxes::maildirs;
 use crate::causes::failure_caused;
 use crate::key::{Key, parse_key};
-use crate::row::{Headers, Shape, place_name, push_message};
-use md_command::{Failure, Host, Session, Status, Trouble, opened, print};
+use crate::row::{Headers, Shape, push_message};
+use md_command::{Failure, Host, Session, Status, Trouble, opened, path_in, print};
 use md_dirs::Bytes;
 use md_disk::{Disk, Listed, list_folder};
 use md_head::{HeadError, summary};
 use md_jobs::DirReply;
 use md_name::{is_message, unique_part};
+use md_text::place_text;
+use std::alloc::{AllocError, Global};
 use std::fs::OpenFile;
 use std::io;
 use std::io::{ErrorKind, Read};
@@ -81,18 +86,19 @@ fn push_listed<R: Host>(
     Ok(status)
 }
 
-// What the headers of a message say, as far as it can be read. What fails is told, and is the status.
+// What the headers of a message say, as far as it can be read, and nothing where its name is not UTF-8. What fails is told, and is the status.
 fn headers_of<R: Host>(
     session: &Session<'_, R>,
     maildir: &str,
     message: &Listed,
 ) -> Result<(Option<Headers>, Status), Failure> {
-    let Some(path) = path_of(session, maildir, message)? else {
+    let path = path_of(session.alloc, maildir, message)?;
+    let Ok(text) = std::str::from_utf8(path.as_slice()) else {
         return Ok((None, Status::Done));
     };
-    match read_headers(session, path.as_str()) {
+    match read_headers(session, text) {
         Ok(headers) => Ok((headers, Status::Done)),
-        Err(failure) => Ok((None, session.tell(path.as_bytes(), &failure))),
+        Err(failure) => Ok((None, session.tell(path.as_slice(), &failure))),
     }
 }
 
@@ -104,37 +110,28 @@ fn read_headers<R: Host>(session: &Session<'_, R>, path: &str) -> Result<Option<
         Err(error) if error.kind() == ErrorKind::NotFound => return Ok(None),
         Err(error) => return Err(Failure::of(session.alloc, Trouble::Unread, &error)),
     };
-    let size = match file.metadata() {
-        Ok(about) => about.len(),
-        Err(error) => return Err(Failure::of(session.alloc, Trouble::Unread, &error)),
-    };
     match beginning(session, &mut file) {
-        Ok(bytes) => Ok(Some(Headers {
-            size,
-            summary: match summary(session.alloc, bytes.as_slice()) {
-                Ok(summary) => summary,
-                Err(HeadError::NoMemory) => return Err(Failure::from(Trouble::NoMemory)),
-            },
-        })),
+        Ok((size, bytes)) => match summary(session.alloc, bytes.as_slice()) {
+            Ok(summary) => Ok(Some(Headers { size, summary })),
+            Err(HeadError::NoMemory) => Err(Failure::from(Trouble::NoMemory)),
+        },
         Err(error) => Err(Failure::of(session.alloc, Trouble::Unread, &error)),
     }
 }
 
-// The path of a message as it was listed. None where the name is not UTF-8.
-fn path_of<R: Host>(
-    session: &Session<'_, R>,
-    maildir: &str,
-    message: &Listed,
-) -> Result<Option<String>, Failure> {
-    let Ok(name) = std::str::from_utf8(message.name.as_slice()) else {
-        return Ok(None);
-    };
-    let place = place_name(message.place);
-    Ok(Some(format!(in session.alloc; "{maildir}/{place}/{name}")?))
+// The path of a message as it was listed.
+fn path_of(alloc: Global, maildir: &str, message: &Listed) -> Result<Vec<u8>, AllocError>
+    ensures { IfOk result (λ path. path.items ≡ path_text maildir.now message.now.place message.now.name) }
+{
+    let mut path = path_in(alloc, maildir, place_text(message.place))?;
+    path.push(b'/')?;
+    path.extend_from_slice(message.name.as_slice())?;
+    Ok(path)
 }
 
-// The bytes that a message begins with.
-fn beginning<R: Host>(session: &Session<'_, R>, file: &mut R::File) -> io::Result<Vec<u8>> {
+// The size of a message, and the bytes that it begins with.
+fn beginning<R: Host>(session: &Session<'_, R>, file: &mut R::File) -> io::Result<(u64, Vec<u8>)> {
+    let size = file.metadata()?.len();
     let mut bytes = Vec::new(session.alloc);
     let mut chunk = vec![in session.alloc; 0; CHUNK]?;
     for _ in 0..u64::MAX {
@@ -144,7 +141,7 @@ fn beginning<R: Host>(session: &Session<'_, R>, file: &mut R::File) -> io::Resul
         }
         bytes.extend_from_slice(&chunk[..count])?;
     }
-    Ok(bytes)
+    Ok((size, bytes))
 }
 
 /// Prints the bytes of a message, 64 KiB at a time. Refused where there is no such maildir; what else fails is told, and is the status.
