@@ -44,10 +44,9 @@ impl Remarks {
 
     /// What a finding costs, by its number from 0.
     pub(crate) fn grade(&self, finding: usize) -> Grade {
-        match self.all.get(finding) {
-            Some(remark) => remark.grade,
-            None => Grade::Lost,
-        }
+        self.all
+            .get(finding)
+            .map_or(Grade::Lost, |remark| remark.grade)
     }
 
     /// The actor and the call of a finding, by its number from 0.
@@ -144,14 +143,9 @@ fn without_names(call: &[u8]) -> &[u8] {
     if !call.starts_with(b"list ") {
         return call;
     }
-    let mut spaces = 0u32;
-    for (at, byte) in call.iter().enumerate() {
-        if *byte == SPACE {
-            spaces = spaces.saturating_add(1);
-        }
-        if spaces == 4 {
-            return &call[..at];
-        }
+    let mut spaces = call.iter().enumerate().filter(|(_, byte)| **byte == SPACE);
+    match spaces.nth(3) {
+        Some((at, _)) => call.get(..at).unwrap_or(call),
+        None => call,
     }
-    call
 }

@@ -1,8 +1,7 @@
 //! Steps by numbers, as far as directories answer them, and which of them have to do with one another.
 use md_log::{Deed, Naming, Reply, Ticks};
-
-/// So many steps or names are looked at in about the time of a try.
-pub(super) const LOOKS_A_TRY: usize = 32;
+use std::alloc::{AllocError, Global};
+use std::collections::BTreeSet;
 
 /// The number of a path.
 pub(super) type Name = usize;
@@ -11,7 +10,7 @@ pub(super) type Name = usize;
 pub(super) const ALL: Name = usize::MAX;
 
 /// A path: the number of its directory, and its own.
-#[derive(Clone, Copy, PartialEq, Eq)]
+#[derive(Clone, Copy, PartialEq, Eq, PartialOrd, Ord)]
 pub(super) struct Spot {
     pub(super) directory: usize,
     pub(super) name: Name,
@@ -55,7 +54,7 @@ const NO_SPOT: Spot = Spot {
 };
 
 /// An answer, which fits everywhere.
-pub(super) const ANSWER: Asked = Asked {
+pub(super) static ANSWER: Asked = Asked {
     deal: Deal::Answer,
     reply: Reply::Ok,
     old: NO_SPOT,
@@ -67,6 +66,17 @@ pub(super) const ANSWER: Asked = Asked {
 };
 
 impl Asked {
+    /// A call on these paths.
+    pub(super) fn on(deal: Deal, reply: Reply, old: Spot, new: Spot) -> Self {
+        Asked {
+            deal,
+            reply,
+            old,
+            new,
+            ..ANSWER
+        }
+    }
+
     /// Whether the call makes a path be there or go.
     pub(super) fn is_change(&self) -> bool {
         match self.deal {
@@ -97,10 +107,7 @@ impl Asked {
 
     /// Whether both are readings of one directory by one actor.
     pub(super) fn is_read_with(&self, other: &Asked) -> bool {
-        match (self.deal, other.deal) {
-            (Deal::List, Deal::List) => self.reader == other.reader,
-            _ => false,
-        }
+        self.is_reading() && other.is_reading() && self.reader == other.reader
     }
 
     /// Whether two calls answer and do the same in either order, wherever both can be made.
@@ -116,26 +123,29 @@ impl Asked {
     }
 }
 
-/// What a call on one path is defined to reply.
-pub(super) fn defined_at(deed: Deed, is_there: bool) -> Reply {
-    match (deed, is_there) {
-        (Deed::Create, true) => Reply::Exists,
-        (Deed::Create, false) => Reply::Ok,
-        (_, true) => Reply::Ok,
-        (_, false) => Reply::NotFound,
-    }
-}
-
-/// What a call on two paths is defined to reply.
-pub(super) fn defined_between(naming: Naming, is_old_there: bool, is_new_there: bool) -> Reply {
-    match (naming, is_old_there, is_new_there) {
-        (_, false, _) => Reply::NotFound,
-        (Naming::Link, true, true) => Reply::Exists,
-        _ => Reply::Ok,
-    }
-}
-
 /// Whether two paths are one, or one of them is of a directory that the other stands for.
 fn meets(one: Spot, two: Spot) -> bool {
     one.directory == two.directory && (one.name == two.name || one.name == ALL || two.name == ALL)
+}
+
+/// Marks the parts of readings that stand alone. Where two of a reader overlap, none of that reader does. Then two overlap of which one
+/// begins next after the other, since no part ends before it begins.
+pub(super) fn mark_alone(alloc: Global, steps: &mut [Asked]) -> Result<(), AllocError> {
+    let mut parts = BTreeSet::new(alloc);
+    for (at, step) in steps.iter().enumerate() {
+        if step.is_reading() {
+            parts.insert((step.reader, step.ticks.begin, at, step.ticks.end))?;
+        }
+    }
+    let mut mixed = BTreeSet::new(alloc);
+    for (part, next) in parts.iter().zip(parts.iter().skip(1)) {
+        let ((reader, _, _, end), (next_reader, begin, _, _)) = (*part, *next);
+        if reader == next_reader && begin <= end {
+            mixed.insert(reader)?;
+        }
+    }
+    for step in steps.iter_mut() {
+        step.is_alone = !mixed.contains(&step.reader);
+    }
+    Ok(())
 }

@@ -1,43 +1,75 @@
-//! The steps that aren't placed yet, and which of them may come next.
-use super::asked::Asked;
-use super::coming::Coming;
+//! The steps that aren't placed yet, which of them may come next, and which of these go first or touch a path.
+use super::asked::{Asked, Deal, Spot};
+use super::numbers::Numbers;
 use super::search::Way;
-use std::alloc::{AllocError, Global};
+use std::alloc::AllocError;
 use std::collections::BTreeSet;
+
+/// Steps that may come next.
+#[derive(Drop)]
+pub(super) struct Coming {
+    way: Way,
+    /// The steps, in the order of the log.
+    pub(super) all: BTreeSet<usize>,
+    /// Those that go first where they fit, since they change nothing: on the wide way parts of readings alone, which leave the later
+    /// stretches as free as they can.
+    pub(super) first: BTreeSet<usize>,
+    /// The paths that they name, `ALL` for a reading of a directory, each with the number of a step that names it.
+    pub(super) touching: BTreeSet<(Spot, usize)>,
+}
+
+impl Coming {
+    fn add(&mut self, at: usize, step: &Asked) -> Result<(), AllocError> {
+        self.all.insert(at)?;
+        if step.is_idle() && (self.way == Way::Narrow || step.is_reading()) {
+            self.first.insert(at)?;
+        }
+        if !matches!(step.deal, Deal::Answer) {
+            self.touching.insert((step.old, at))?;
+            self.touching.insert((step.new, at))?;
+        }
+        Ok(())
+    }
+
+    fn remove(&mut self, at: usize, step: &Asked) {
+        self.all.remove(&at);
+        self.first.remove(&at);
+        self.touching.remove(&(step.old, at));
+        self.touching.remove(&(step.new, at));
+    }
+}
 
 /// The steps that are left. One may come next where none that is left ended before it began.
 #[derive(Drop)]
 pub(super) struct Left<'a> {
-    steps: &'a [Asked],
+    numbers: &'a Numbers<'a>,
     by_begin: BTreeSet<(u64, usize)>,
     by_end: BTreeSet<(u64, usize)>,
-    /// Those that may come next: all that begin up to a tick.
+    /// Those that may come next: they begin up to the tick at which the first of all ends.
     pub(super) coming: Coming,
-    until: u64,
+    first_end: u64,
 }
 
-impl Left<'_> {
-    /// No step is left.
-    pub(super) fn new<'a>(alloc: Global, way: Way, steps: &'a [Asked]) -> Left<'a> {
-        Left {
-            steps,
+impl<'a> Left<'a> {
+    /// All steps are left.
+    pub(super) fn new(numbers: &'a Numbers<'a>, way: Way) -> Result<Self, AllocError> {
+        let alloc = numbers.alloc;
+        let mut left = Left {
+            numbers,
             by_begin: BTreeSet::new(alloc),
             by_end: BTreeSet::new(alloc),
-            coming: Coming::new(alloc, way),
-            until: 0,
+            coming: Coming {
+                way,
+                all: BTreeSet::new(alloc),
+                first: BTreeSet::new(alloc),
+                touching: BTreeSet::new(alloc),
+            },
+            first_end: 0,
+        };
+        for at in 0..numbers.steps.len() {
+            left.put_back(at)?;
         }
-    }
-
-    /// All steps are left.
-    pub(super) fn fill(&mut self) -> Result<(), AllocError> {
-        for (at, step) in self.steps.iter().enumerate() {
-            self.give_back(at, step)?;
-        }
-        self.let_come()
-    }
-
-    pub(super) fn is_empty(&self) -> bool {
-        self.by_end.is_empty()
+        Ok(left)
     }
 
     /// The step that ends first, which must come before all those that don't come yet.
@@ -46,58 +78,42 @@ impl Left<'_> {
         Some(*at)
     }
 
-    pub(super) fn take(&mut self, at: usize, step: &Asked) -> Result<(), AllocError> {
+    pub(super) fn take(&mut self, at: usize) -> Result<(), AllocError> {
+        let step = self.numbers.step(at);
         self.by_begin.remove(&(step.ticks.begin, at));
         self.by_end.remove(&(step.ticks.end, at));
         self.coming.remove(at, step);
-        self.let_come()
+        self.update_coming()
     }
 
-    pub(super) fn put_back(&mut self, at: usize, step: &Asked) -> Result<(), AllocError> {
-        self.give_back(at, step)?;
-        self.let_go();
-        Ok(())
-    }
-
-    fn give_back(&mut self, at: usize, step: &Asked) -> Result<(), AllocError> {
+    pub(super) fn put_back(&mut self, at: usize) -> Result<(), AllocError> {
+        let step = self.numbers.step(at);
         self.by_begin.insert((step.ticks.begin, at))?;
         self.by_end.insert((step.ticks.end, at))?;
-        if step.ticks.begin <= self.until {
+        if step.ticks.begin <= self.first_end {
             self.coming.add(at, step)?;
         }
-        Ok(())
+        self.update_coming()
     }
 
-    /// The first end may be later than it was: more may come.
-    fn let_come(&mut self) -> Result<(), AllocError> {
+    /// Where the first end is later than it was, more may come, and where it is earlier, fewer.
+    fn update_coming(&mut self) -> Result<(), AllocError> {
         let Some((end, _)) = self.by_end.first().copied() else {
             return Ok(());
         };
-        for (begin, at) in self.by_begin.range((self.until, 0)..) {
-            if *begin > end {
+        let (from, to) = (end.min(self.first_end), end.max(self.first_end));
+        for (begin, at) in self.by_begin.range((from, usize::MAX)..) {
+            if *begin > to {
                 break;
             }
-            if let Some(step) = self.steps.get(*at) {
+            let step = self.numbers.step(*at);
+            if *begin <= end {
                 self.coming.add(*at, step)?;
-            }
-        }
-        self.until = end;
-        Ok(())
-    }
-
-    /// The first end may be earlier than it was: fewer may come.
-    fn let_go(&mut self) {
-        let Some((end, _)) = self.by_end.first().copied() else {
-            return;
-        };
-        for (begin, at) in self.by_begin.range((end, usize::MAX)..) {
-            if *begin > self.until {
-                break;
-            }
-            if let Some(step) = self.steps.get(*at) {
+            } else {
                 self.coming.remove(*at, step);
             }
         }
-        self.until = end;
+        self.first_end = end;
+        Ok(())
     }
 }

@@ -1,5 +1,6 @@
 //! The places of an order: the step that was tried at each, and the steps that are asleep there.
 use super::asked::Asked;
+use super::numbers::Numbers;
 use std::alloc::{AllocError, Global};
 
 /// What is known of a place.
@@ -24,83 +25,64 @@ pub(super) struct Position {
     asleep: usize,
 }
 
+/// The places so far, of which there is always a last.
 #[derive(Drop)]
 pub(super) struct Places {
-    /// The moment of the first place.
-    begin: usize,
-    positions: Vec<Position>,
+    pub(super) last: Position,
+    earlier: Vec<Position>,
     /// Of each place, the steps that were tried there, or at an earlier place with the same outcome.
     asleep: Vec<usize>,
 }
 
 impl Places {
-    /// No place. The first has this moment, and each other the one after that of the place before it.
-    pub(super) fn new(alloc: Global, begin: usize) -> Self {
+    /// The first place.
+    pub(super) fn new(alloc: Global) -> Self {
         Places {
-            begin,
-            positions: Vec::new(alloc),
+            last: Position {
+                tried: None,
+                sight: Sight::New,
+                asleep: 0,
+            },
+            earlier: Vec::new(alloc),
             asleep: Vec::new(alloc),
         }
     }
 
-    pub(super) fn len(&self) -> usize {
-        self.positions.len()
-    }
-
-    pub(super) fn last(&self) -> Option<Position> {
-        self.positions.last().copied()
-    }
-
-    /// Opens the first place.
-    pub(super) fn open_first(&mut self) -> Result<(), AllocError> {
-        self.open(0)
+    /// How many steps are placed: one at each place before the last.
+    pub(super) fn placed(&self) -> usize {
+        self.earlier.len()
     }
 
     /// Opens the place after the one at which a step is put. There those stay asleep that have nothing to do with the step.
-    pub(super) fn open_after(
-        &mut self,
-        position: Position,
-        steps: &[Asked],
-        step: &Asked,
-    ) -> Result<(), AllocError> {
+    pub(super) fn open(&mut self, numbers: &Numbers<'_>, step: &Asked) -> Result<(), AllocError> {
         let many = self.asleep.len();
-        for place in position.asleep..many {
+        for place in self.last.asleep..many {
             if let Some(other) = self.asleep.get(place).copied()
-                && let Some(asked) = steps.get(other)
-                && asked.is_apart(step)
+                && numbers.step(other).is_apart(step)
             {
                 self.asleep.push(other)?;
             }
         }
-        self.open(many)
-    }
-
-    fn open(&mut self, asleep: usize) -> Result<(), AllocError> {
-        self.positions.push(Position {
+        self.earlier.push(self.last)?;
+        self.last = Position {
             tried: None,
             sight: Sight::New,
-            asleep,
-        })?;
+            asleep: many,
+        };
         Ok(())
     }
 
-    pub(super) fn close(&mut self) {
-        if let Some(closed) = self.positions.pop() {
-            self.asleep.truncate(closed.asleep);
-        }
-    }
-
-    /// Says of the last place which step was tried last, and what is known.
-    pub(super) fn note(&mut self, tried: Option<usize>, sight: Sight) {
-        if let Some(position) = self.positions.last_mut() {
-            position.tried = tried;
-            position.sight = sight;
-        }
+    /// Closes the last place, and says which step was put at the one before it.
+    pub(super) fn close(&mut self) -> Option<usize> {
+        let before = self.earlier.pop()?;
+        self.asleep.truncate(self.last.asleep);
+        self.last = before;
+        before.tried
     }
 
     /// The steps that are asleep at the last place.
-    pub(super) fn asleep(&self, position: Position) -> &[usize] {
-        self.asleep.get(position.asleep..).unwrap_or(&[])
+    pub(super) fn asleep(&self) -> &[usize] {
+        self.asleep.get(self.last.asleep..).unwrap_or(&[])
     }
 
     /// A step falls asleep at the last place.
@@ -109,26 +91,11 @@ impl Places {
         Ok(())
     }
 
-    /// The moment of the last place.
-    pub(super) fn now(&self) -> usize {
-        self.begin
-            .saturating_add(self.positions.len().saturating_sub(1))
-    }
-
-    /// The moment of the place before the last one.
-    pub(super) fn before(&self) -> Option<usize> {
-        let before = self.positions.len().checked_sub(2)?;
-        self.begin.checked_add(before)
-    }
-
-    /// The steps that were tried last at the places.
+    /// The steps that are placed.
     pub(super) fn order(&self, alloc: Global) -> Result<Vec<usize>, AllocError> {
-        let mut order = Vec::new(alloc);
-        for position in self.positions.iter() {
-            if let Some(at) = position.tried {
-                order.push(at)?;
-            }
-        }
-        Ok(order)
+        self.earlier
+            .iter()
+            .filter_map(|position| position.tried)
+            .collect(alloc)
     }
 }

@@ -11,13 +11,16 @@
 //! - A step that changes nothing, and fits, can be put here in each order that begins so. If it was tried, the place is dead.
 //! - A step that was tried is asleep until one comes that has to do with it: before that it would come to the same (Godefroid,
 //!   "Partial-Order Methods for the Verification of Concurrent Systems", section 5; the needed steps are his persistent sets).
-use super::asked::{Asked, LOOKS_A_TRY};
+mod needed;
+
 use super::left::Left;
-use super::needed::{Needed, Outlook};
-use super::places::{Places, Position, Sight};
-use super::trial::Trial;
+use super::numbers::Numbers;
+use super::places::{Places, Sight};
+use super::trial::{LOOKS_A_TRY, Trial};
 use super::{NoOrder, Unplaced};
-use std::alloc::{AllocError, Global};
+use indexmap::IndexSet;
+use needed::Outlook;
+use std::alloc::AllocError;
 
 /// Which steps are tried at a place.
 #[derive(Clone, Copy, PartialEq, Eq)]
@@ -28,139 +31,134 @@ pub(super) enum Way {
     Narrow,
 }
 
+impl Way {
+    /// How many tries are made at most: so many, and as many more for each step, and for each 32 names that readings show.
+    fn most_tries(self, numbers: &Numbers<'_>) -> usize {
+        let (least, a_step) = match self {
+            Way::Wide => (10_000usize, 16usize),
+            Way::Narrow => (100_000, 128),
+        };
+        let names = numbers.shown.len() / LOOKS_A_TRY;
+        let many = numbers.steps.len().saturating_add(names);
+        a_step.saturating_mul(many).saturating_add(least)
+    }
+}
+
 #[derive(Drop)]
 pub(super) struct Search<'a> {
-    alloc: Global,
+    numbers: &'a Numbers<'a>,
     way: Way,
     trial: Trial<'a>,
-    steps: &'a [Asked],
     left: Left<'a>,
     places: Places,
-    needed: Needed,
+    /// The needed steps of a place, in the order in which they were found.
+    needed: IndexSet<usize>,
     /// How many steps were placed at most, and the first step that could have come next there.
     deepest: usize,
     stuck: usize,
-    tries: usize,
 }
 
-impl Search<'_> {
-    /// A search for an order of these steps, of which the first is placed at this moment.
-    pub(super) fn new<'a>(
-        alloc: Global,
-        way: Way,
-        trial: Trial<'a>,
-        steps: &'a [Asked],
-        begin: usize,
-    ) -> Search<'a> {
-        Search {
-            alloc,
+impl<'a> Search<'a> {
+    /// A search that has placed no step.
+    pub(super) fn new(numbers: &'a Numbers<'a>, way: Way) -> Result<Self, AllocError> {
+        Ok(Search {
+            numbers,
             way,
-            trial,
-            steps,
-            left: Left::new(alloc, way, steps),
-            places: Places::new(alloc, begin),
-            needed: Needed::new(alloc),
+            trial: Trial::new(numbers),
+            left: Left::new(numbers, way)?,
+            places: Places::new(numbers.alloc),
+            needed: IndexSet::new(numbers.alloc),
             deepest: 0,
             stuck: 0,
-            tries: 0,
-        }
-    }
-
-    /// The numbers of the steps in the order that is found. It ends after so many tries.
-    pub(super) fn find(&mut self, most: usize) -> Result<Vec<usize>, NoOrder> {
-        let why = match self.run(most) {
-            Ok(None) => match self.places.order(self.alloc) {
-                Ok(order) => return Ok(order),
-                Err(AllocError) => Unplaced::NoMemory,
-            },
-            Ok(Some(why)) => why,
-            Err(AllocError) => Unplaced::NoMemory,
-        };
-        Err(NoOrder {
-            step: self.stuck,
-            why,
         })
     }
 
-    fn run(&mut self, most: usize) -> Result<Option<Unplaced>, AllocError> {
-        self.left.fill()?;
-        self.mark_deepest();
-        self.places.open_first()?;
+    /// The numbers of the steps in the order that is found.
+    pub(super) fn find(&mut self) -> Result<Vec<usize>, NoOrder> {
+        let found = self.run();
+        let step = self.stuck;
+        found.map_err(|why| NoOrder { step, why })
+    }
+
+    fn run(&mut self) -> Result<Vec<usize>, Unplaced> {
+        let most = self.way.most_tries(self.numbers);
+        self.mark_deepest(0);
         for _ in 0..u64::MAX {
-            if self.left.is_empty() {
-                return Ok(None);
+            if self.left.coming.all.is_empty() {
+                return Ok(self.places.order(self.numbers.alloc)?);
             }
-            if self.tries > most {
+            if self.trial.tries > most {
                 break;
             }
-            if !self.go_on()? {
-                return Ok(Some(Unplaced::NoOrder));
-            }
+            self.go_on()?;
         }
-        Ok(Some(Unplaced::TooManyOrders))
+        Err(Unplaced::TooManyOrders)
     }
 
     /// Notes how far the search came, if it never came further.
-    fn mark_deepest(&mut self) {
-        let depth = self.places.len();
-        if depth >= self.deepest
+    fn mark_deepest(&mut self, placed: usize) {
+        if placed >= self.deepest
             && let Some(first) = self.left.coming.all.first()
         {
             self.stuck = *first;
-            self.deepest = depth.saturating_add(1);
+            self.deepest = placed.saturating_add(1);
         }
     }
 
-    /// Looks at the last place, tries its next step, or goes back. False where there is no order.
-    fn go_on(&mut self) -> Result<bool, AllocError> {
-        let Some(position) = self.places.last() else {
-            return Ok(false);
-        };
-        match position.sight {
-            Sight::New => self.begin(position),
-            Sight::Wanted => self.look(position),
+    /// The moment of the last place.
+    fn now(&self) -> usize {
+        self.numbers.begin.saturating_add(self.places.placed())
+    }
+
+    /// Looks at the last place, tries its next step, or goes back.
+    fn go_on(&mut self) -> Result<(), Unplaced> {
+        match self.places.last.sight {
+            Sight::New => self.begin(),
+            Sight::Wanted => self.look(),
             Sight::Dead => self.go_back_one(),
-            Sight::Unseen | Sight::Alive => match self.next(position) {
-                Some(at) => {
-                    self.attempt(position, at)?;
-                    Ok(true)
-                }
+            Sight::Unseen | Sight::Alive => match self.next() {
+                Some(at) => self.attempt(at),
                 None => self.go_back_one(),
             },
         }
     }
 
     /// Tries a step that goes first at the last place, if one fits.
-    fn begin(&mut self, position: Position) -> Result<bool, AllocError> {
-        let now = self.places.now();
-        let first = self
-            .needed
-            .find_first(&mut self.trial, self.steps, &self.left, now)?;
-        self.count_needed();
-        match first {
-            Some(at) if self.places.asleep(position).contains(&at) => { self.go_back_one() }
-            Some(at) => {
-                self.attempt(position, at)?;
-                Ok(true)
-            }
+    fn begin(&mut self) -> Result<(), Unplaced> {
+        match self.find_first()? {
+            Some(at) if self.places.asleep().contains(&at) => self.go_back_one(),
+            Some(at) => self.attempt(at),
             None => {
-                let sight = match self.way {
+                self.places.last.sight = match self.way {
                     Way::Wide => Sight::Unseen,
                     Way::Narrow => Sight::Wanted,
                 };
-                self.places.note(None, sight);
-                Ok(true)
+                Ok(())
             }
         }
     }
 
+    /// The first step of the log that may come next, goes first, and fits.
+    fn find_first(&mut self) -> Result<Option<usize>, AllocError> {
+        let now = self.now();
+        let mut found = None;
+        for at in self.left.coming.first.iter() {
+            if self.trial.misfit(self.numbers.step(*at), now)?.is_none() {
+                found = Some(*at);
+                break;
+            }
+        }
+        self.trial.count_names();
+        Ok(found)
+    }
+
     /// The first step of the log after the one that was tried last which may come next, and isn't asleep.
-    fn next(&mut self, position: Position) -> Option<usize> {
-        let from = match position.tried {
+    fn next(&mut self) -> Option<usize> {
+        let from = match self.places.last.tried {
             None => 0,
             Some(at) => at.saturating_add(1),
         };
-        let asleep = self.places.asleep(position);
+        let asleep = self.places.asleep();
         let mut passed = 0;
         let mut found = None;
         for at in self.left.coming.all.range(from..) {
@@ -170,131 +168,68 @@ impl Search<'_> {
             }
             passed = asleep.len().saturating_add(passed);
         }
-        self.count(passed);
+        self.trial.count(passed);
         found
     }
 
-    /// Tries a step at the last place.
-    fn attempt(&mut self, position: Position, at: usize) -> Result<(), AllocError> {
-        let now = self.places.now();
-        self.tries = self.tries.saturating_add(1);
-        self.places.note(Some(at), position.sight);
-        let Some(step) = self.steps.get(at) else {
-            return Ok(());
-        };
-        match self.trial.misfit(step, now)? {
-            None => self.put(position, at, step, now),
-            Some(_) => {
-                if position.sight == Sight::Unseen {
-                    self.places.note(Some(at), Sight::Wanted);
-                }
-                Ok(())
+    /// Tries a step at the last place. If it fits it is put there, and the next place is opened.
+    fn attempt(&mut self, at: usize) -> Result<(), Unplaced> {
+        let now = self.now();
+        let step = self.numbers.step(at);
+        self.places.last.tried = Some(at);
+        if self.trial.misfit(step, now)?.is_some() {
+            if self.places.last.sight == Sight::Unseen {
+                self.places.last.sight = Sight::Wanted;
             }
+            return Ok(());
         }
-    }
-
-    /// So many steps were looked at.
-    fn count(&mut self, looks: usize) {
-        self.tries = self.tries.saturating_add(looks / LOOKS_A_TRY);
-    }
-
-    fn count_needed(&mut self) {
-        let tries = self.needed.take_tries();
-        self.tries = self.tries.saturating_add(tries);
-        let looks = self.trial.take_looks();
-        self.count(looks);
+        self.trial.count(self.places.asleep().len());
+        self.trial.make(step, now)?;
+        self.left.take(at)?;
+        let placed = self.places.placed().saturating_add(1);
+        self.mark_deepest(placed);
+        Ok(self.places.open(self.numbers, step)?)
     }
 
     /// Looks for the needed steps of the last place, and goes back where it is dead. On the narrow way it tries one of them.
-    fn look(&mut self, position: Position) -> Result<bool, AllocError> {
-        let now = self.places.now();
-        let asleep = self.places.asleep(position);
-        let outlook = self
-            .needed
-            .look(&mut self.trial, self.steps, &self.left, asleep, now)?;
-        self.count_needed();
-        match outlook {
-            Outlook::Open(at) => {
-                match self.way {
-                    Way::Wide => self.places.note(position.tried, Sight::Alive),
-                    Way::Narrow => self.attempt(position, at)?,
-                }
-                Ok(true)
+    fn look(&mut self) -> Result<(), Unplaced> {
+        match self.outlook()? {
+            Outlook::Open(at) if self.way == Way::Narrow => self.attempt(at),
+            Outlook::Open(_) => {
+                self.places.last.sight = Sight::Alive;
+                Ok(())
             }
             Outlook::Tried => self.go_back_one(),
             Outlook::Dead(moment) => self.go_back(moment),
         }
     }
 
-    /// Puts a step at the last place, and opens the next.
-    fn put(
-        &mut self,
-        position: Position,
-        at: usize,
-        step: &Asked,
-        now: usize,
-    ) -> Result<(), AllocError> {
-        let asleep = self.places.asleep(position).len();
-        self.count(asleep);
-        self.trial.make(step, now)?;
-        self.left.take(at, step)?;
-        self.mark_deepest();
-        self.places.open_after(position, self.steps, step)
-    }
-
     /// Takes back the step before the last place.
-    fn go_back_one(&mut self) -> Result<bool, AllocError> {
-        let before = self.places.before();
-        self.go_back(before)
+    fn go_back_one(&mut self) -> Result<(), Unplaced> {
+        self.go_back(Some(usize::MAX))
     }
 
-    /// Closes the last places, and takes back their steps, back to the one of a moment, which is not tried there again. False where there
-    /// is no such moment.
-    fn go_back(&mut self, moment: Option<usize>) -> Result<bool, AllocError> {
-        let Some(moment) = moment else {
-            return Ok(false);
-        };
-        for _ in 0..self.places.len() {
-            let Some(at) = self.take_back()? else {
-                return Ok(false);
+    /// Takes back the steps of the last places, back to one of a moment or earlier, which is not tried there again. If it changes nothing,
+    /// no other is tried there. There is no order where there is no such step.
+    fn go_back(&mut self, moment: Option<usize>) -> Result<(), Unplaced> {
+        for _ in 0..self.places.placed() {
+            let Some(at) = self.places.close() else {
+                break;
             };
-            if self.places.now() <= moment {
-                self.rule_out(at)?;
-                return Ok(true);
+            let now = self.now();
+            let step = self.numbers.step(at);
+            self.trial.undo(step, now);
+            self.left.put_back(at)?;
+            if Some(now) <= moment {
+                self.places.let_sleep(at)?;
+                self.places.last.sight = if step.is_idle() {
+                    Sight::Dead
+                } else {
+                    Sight::Wanted
+                };
+                return Ok(());
             }
         }
-        Ok(false)
-    }
-
-    /// Closes the last place, and takes back the step before it.
-    fn take_back(&mut self) -> Result<Option<usize>, AllocError> {
-        self.places.close();
-        let Some(
-            Position {
-                tried: Some(at),
-                ..
-            },
-        ) = self.places.last()
-        else {
-            return Ok(None);
-        };
-        let now = self.places.now();
-        if let Some(step) = self.steps.get(at) {
-            self.trial.undo(step, now);
-            self.left.put_back(at, step)?;
-        }
-        Ok(Some(at))
-    }
-
-    /// A step was tried in vain at the last place. If it changes nothing, no other is tried there.
-    fn rule_out(&mut self, at: usize) -> Result<(), AllocError> {
-        self.places.let_sleep(at)?;
-        let is_idle = match self.steps.get(at) {
-            None => false,
-            Some(step) => step.is_idle(),
-        };
-        let sight = if is_idle { Sight::Dead } else { Sight::Wanted };
-        self.places.note(Some(at), sight);
-        Ok(())
+        Err(Unplaced::NoOrder)
     }
 }
