@@ -39,14 +39,16 @@ fn push_part(out: &mut Vec<u8>, words: &[u8]) -> Result<(), AllocError> {
     push_shown(out, words)
 }
 
-// Words as a terminal may show them: a control byte is `\xNN`, and so is each byte past ASCII where the words are not UTF-8.
+// Words as a terminal may show them: a control byte is `\xNN`, and so is each byte of a control character past ASCII, and each byte past ASCII
+// where the words are not UTF-8.
 fn push_shown(out: &mut Vec<u8>, words: &[u8]) -> Result<(), AllocError> {
     let are_text = is_text(words);
     let mut last = 0u8;
-    for byte in words.iter().copied() {
+    for (at, byte) in words.iter().copied().enumerate() {
+        let next = words.get(at.saturating_add(1)).copied().unwrap_or(0);
         // The control characters from U+0080 to U+009F are two bytes in UTF-8.
-        let is_second = last == 0xc2 && byte < 0xa0;
-        if byte.is_ascii_control() || byte >= 0x80 && (!are_text || is_second) {
+        let is_control = byte == 0xc2 && next < 0xa0 || last == 0xc2 && byte < 0xa0;
+        if byte.is_ascii_control() || byte >= 0x80 && (!are_text || is_control) {
             push_hex(out, b"\\x", byte)?;
         } else {
             out.push(byte)?;
