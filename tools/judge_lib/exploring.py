@@ -21,6 +21,9 @@ from .stopping import NAMES, SIDES, Stepped
 from .strace_lines import LOOKS
 
 _SECONDS_AFTER_WAITING = 30
+# How the name of a run's folder begins, and the directory in it that has the maildirs.
+PREFIX = "explore-"
+BASE = "work"
 # After which calls a command stops: those on names and readings, or looks too.
 STOPS = {"names": NAMES, "looks": f"{NAMES} {LOOKS}"}
 
@@ -156,8 +159,8 @@ def run_once(pairing: Pairing, prefix: str) -> Tuple[Played, Log]:
 @contextmanager
 def rooms(setup: str) -> Iterator[Tuple[str, str]]:
     """A directory with the maildirs that are made for a run, and one beside it."""
-    with tempfile.TemporaryDirectory(prefix="explore-") as top:
-        base, room = os.path.join(top, "work"), os.path.join(top, "room")
+    with tempfile.TemporaryDirectory(prefix=PREFIX) as top:
+        base, room = os.path.join(top, BASE), os.path.join(top, "room")
         os.mkdir(base)
         os.mkdir(room)
         make_ready(setup, base)

@@ -15,7 +15,7 @@ from pathlib import Path
 from typing import Any, NamedTuple
 
 from judge_lib.claims import read_claims
-from judge_lib.exploring import STOPS, Bounds, Pairing, explore
+from judge_lib.exploring import BASE, PREFIX, STOPS, Bounds, Pairing, explore
 from judge_lib.judge_run import judge
 from judge_lib.outcomes import ran_here, repeated
 from judge_lib.refused import Refused
@@ -31,7 +31,7 @@ MADE = re.compile(r"\d{9,}\.[A-Za-z0-9_]+\.[A-Za-z0-9-]+")
 SESSION = re.compile(r"<\d+><[^<>\s]+>")
 # How many bytes Dovecot sent, which has the digits of its times in it.
 SENT = re.compile(r"\bout=\d+")
-FOLDER = re.compile(re.escape(f"{tempfile.gettempdir()}/explore-") + r"\w+/work/")
+FOLDER = re.compile(re.escape(os.path.join(tempfile.gettempdir(), PREFIX)) + r"\w+" + re.escape(os.path.join(os.sep, BASE, "")))
 FIXED_NAME = "1000.M{}P7.host"
 FIXED_SESSION = "<7><session>"
 FIXED_SENT = "out=N"

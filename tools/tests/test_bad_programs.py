@@ -103,7 +103,7 @@ class BadPrograms(RoomTest):
         environment = {**os.environ, "DEOLMUTT": shutil.which("true"), "TMPDIR": str(self.room)}
         words = [sys.executable, TOOLS / "explore", "--setup", "mkdir -p box/tmp box/new box/cur", "touch box/tmp/u; exec sleep 1000", "ls box/new"]
         with subprocess.Popen(words, cwd=self.room, env=environment, start_new_session=True) as tool:
-            self.wait_for(lambda: list(self.room.glob("explore-*/work/box/tmp/u")))
+            self.wait_for(lambda: list(self.room.glob("explore-*/*/box/tmp/u")))
             tool.terminate()
             self.assertEqual(tool.wait(SECONDS), 130)
         self.wait_for(lambda: not self.left())
