@@ -264,8 +264,8 @@ class World(Handle):
     def settle(self) -> None:
         """Begins anew over the same directories, with no job, so that 10,000 calls may come again.
 
-        A name that is gone may be used again then. It takes about as long as loading. Refused as
-        `Unanswered` where a job has no answer, and as `NotSettled` by a library without it.
+        A name that is gone may be used again then. It takes no memory and looks at no message.
+        Refused as `Unanswered` where a job has no answer, and as `NotSettled` by a library without it.
         """
         if not hasattr(self._library, "deolmutt_settle"):
             raise NotSettled()

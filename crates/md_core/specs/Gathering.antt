@@ -67,8 +67,7 @@ pub record KeepsUsed (s : State) (before after : Used) : Type 0 where
   pub since : StillUsed s before.since after.since
   pub covers : Covers s after
 
--- What is kept of a call whose names are tried: they are used from now on where the one that it makes was not, and are as they were where it
--- was.
+-- What is kept of a call whose names are tried: they are used from now on if the one that it makes was not, and are as they were if it was.
 abbrev pub KeepsTried : State → Call → Used → Used → Bool → Type 0
 KeepsTried s call before after true = (makes_used s before call ≡ false) × KeepsMade s call before after
 KeepsTried s call before after false = (makes_used s before call ≡ true) × KeepsUsed s before after

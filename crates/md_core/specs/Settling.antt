@@ -1,18 +1,11 @@
 -- What a world is once it has settled: it begins again, with its directories and its clock as they are.
 use Rattle.std.specs.Prelude.{ℕ, ◌+◌, [], Option, Some, None, option_map, position}
-use Rattle.md_core.specs.declared.world.settle.SettleError.{SettleError}
-use Rattle.md_core.specs.declared.world.settle.SettleError.TheVariants.{Unanswered, NoMemory}
 use Rattle.md_core.specs.Machine.{is_working}
 use Rattle.md_core.specs.Runs.{Run, machine_of, dirs_of, jobs_of, failures_of, calls_made_of}
 
 -- the first job without an answer, by its number
 abbrev pub first_unanswered : Run → Option ℕ
 first_unanswered r = option_map (λ at. at + 1) (position is_working (jobs_of r))
-
--- why a world does not settle: the first job without an answer, or, where each has one, memory that ran out
-abbrev pub settle_error : Option ℕ → SettleError
-settle_error None = NoMemory
-settle_error (Some job) = Unanswered job
 
 -- the run that a settled world begins with: the directories, their counts and the clock as they are now, no call and no event
 abbrev pub settled : Run → Run

@@ -13,5 +13,5 @@ pub use world::World;
 pub use world::call::CallError;
 pub use world::load::LoadRefused;
 pub use world::run::RunStop;
-pub use world::settle::{SettleError, SettleRefused};
+pub use world::settle::{SettleRefused, Unanswered};
 pub use world::submit::SubmitRefused;

@@ -362,8 +362,8 @@ uint32_t deolmutt_clean(deolmutt_world *world, uint32_t folder, uint64_t now, de
 uint32_t deolmutt_job_answer(const deolmutt_world *world, uint64_t job, deolmutt_answer *answer);
 
 /* The world begins again: the same folders, messages and clock, with no job, so that it takes 10,000 calls more. Of the names that were
-   used only those are still used that its files have. *job is 0. Refused: DEOLMUTT_UNANSWERED, with *job the first job that has no answer
-   yet; NO_MEMORY. */
+   used only those are still used that its files have. *job is 0. It takes no memory. Refused: DEOLMUTT_UNANSWERED, with *job the first job
+   that has no answer yet. */
 uint32_t deolmutt_settle(deolmutt_world *world, uint64_t *job);
 
 /* The messages of a folder, in order of unique name. Each is `u32 place, u32 length of the name, u64 bytes of the message`, little-endian,

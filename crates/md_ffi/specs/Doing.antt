@@ -79,8 +79,7 @@ Steps old new event refusal before after status =
     ((status ≡ 0) × (refusal ≡ None) × Takes old new event after)
     ⊎ ((status ≡ refused_step refusal) × (new ≡ old) × (after ≡ before))
 
--- A world settles where each job has its answer, and begins again, or is out of memory and as it was. Else it is as it was, and the first
--- job that has no answer is named.
+-- A world settles if each job has its answer, and begins again. Else it is as it was, and the first job that has no answer is named.
 unfoldable pub Settles : Run → Run → Option ℕ → ℕ → ℕ → Type 0
-Settles old new None status job = (((new ≡ settled old) × (status ≡ 0)) ⊎ ((new ≡ old) × (status ≡ 4))) × (job ≡ 0)
+Settles old new None status job = (new ≡ settled old) × (status ≡ 0) × (job ≡ 0)
 Settles old new (Some first) status job = (new ≡ old) × (status ≡ refusal_number Unanswered) × (job ≡ first)

@@ -171,7 +171,7 @@ impl From<LineError> for CallError {
 /// ```
 #[derive(Clone, Copy, Debug, PartialEq, Eq)]
 pub struct Unanswered {
-    /// Why: a job has no answer, or memory was refused.
+    /// Why: a job has no answer.
     pub refusal: Refusal,
     /// The first job without an answer.
     pub job: Option<Job>,

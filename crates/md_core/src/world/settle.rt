@@ -1,8 +1,8 @@
 //! Worlds that begin again with their directories.
-ghost use Rattle.std.specs.Prelude.{◌≡◌, ◌<◌, None, IfOk, IfErr, IfSome, IsSome, OnOk, OnErr, length, position};
+ghost use Rattle.std.specs.Prelude.{◌≡◌, ◌<◌, Some, None, IfOk, IfErr, IfSome, OnOk, length, position};
 ghost use Rattle.md_core.specs.Interleaving.{Interleaves};
 ghost use Rattle.md_core.specs.Machine.{is_working};
-ghost use Rattle.md_core.specs.Settling.{first_unanswered, settle_error, settled};
+ghost use Rattle.md_core.specs.Settling.{first_unanswered, settled};
 ghost use Rattle.md_core.specs.Tracing.{trace_of};
 
 use crate::jobs::job::Job;
@@ -14,21 +14,15 @@ use md_jobs::{JobId, Snapshot};
 use md_used::Used;
 use thiserror::Error;
 
-/// Why a world does not settle.
+/// Why a world does not settle: this job has no answer, and each job before it has one.
 #[derive(Clone, Copy, Debug, PartialEq, Eq, Error)]
-pub enum SettleError {
-    /// This job has no answer, and each job before it has one.
-    #[error("job {0} has no answer")]
-    Unanswered(JobId),
-    /// Out of memory. `World::settle` never answers it: it is for those who settle worlds behind other calls, as the library for C.
-    #[error("no memory")]
-    NoMemory,
-}
+#[error("job {0} has no answer")]
+pub struct Unanswered(pub JobId);
 
 /// A world that did not settle, as it was, and why.
 #[derive(Drop)]
 pub struct SettleRefused<D: Dirs> {
-    pub error: SettleError,
+    pub error: Unanswered,
     pub world: World<D>,
 }
 
@@ -44,19 +38,18 @@ impl<D: Dirs> World<D> {
     /// The world with its directories, its mailbox and its clock as they are, with no job and an empty log. It may take 10,000 calls again,
     /// and of the names of earlier deliveries and copies only those are used that the directories hold now.
     ///
-    /// It is refused as `Unanswered`, with the first such job, where a job has no answer, and the world then comes back as it was. It takes no
-    /// memory, looks at no name, and makes no directory call.
+    /// It is refused with the first job that has no answer, if there is one, and the world then comes back as it was. It takes no memory,
+    /// looks at no name, and makes no directory call.
     pub fn settle(self) -> Result<World<D>, SettleRefused<D>>
         ensures ok { IfOk result (λ w. w ≡ settled self) }
         ensures answered { OnOk result (first_unanswered self ≡ None) }
         ensures theorem { IfOk result (λ w. Interleaves (trace_of w)) }
-        ensures refused { IfErr result (λ r. r.error ≡ settle_error (first_unanswered self)) }
-        ensures unanswered { OnErr result (IsSome (first_unanswered self)) }
+        ensures refused { IfErr result (λ r. first_unanswered self ≡ Some r.error.0) }
         ensures world { IfErr result (λ r. r.world ≡ self) }
     {
         if let Some(job) = self.first_unanswered() {
             return Err(SettleRefused {
-                error: SettleError::Unanswered(job),
+                error: Unanswered(job),
                 world: self,
             });
         }

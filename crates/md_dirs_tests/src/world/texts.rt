@@ -4,7 +4,7 @@ use CoreError::{
     Answered, BadChunk, BadName, BadTries, BadUnique, BodyTooLong, DuplicateUnique, LongUnique,
     NameUsed, NoFolder, NoJob, NoMemory, SameFolder, TooManyJobs,
 };
-use md_core::{Call, CallError, CoreError, SettleError, SubmitRefused};
+use md_core::{Call, CallError, CoreError, SubmitRefused, Unanswered};
 use std::alloc::Global;
 
 static ERRORS: [CoreError; 14] = [
@@ -51,17 +51,14 @@ pub(super) fn are_told(alloc: Global) -> Result<bool, CoreError> {
 
 /// Whether refused settles and calls have their texts.
 pub(super) fn refusals_are_told(alloc: Global) -> Result<bool, CoreError> {
-    let settle = SettleError::Unanswered(12);
+    let settle = Unanswered(12);
     let lack = CallError::NoMemory { job: 7 };
     let refused = CallError::Refused(SubmitRefused {
         error: NoFolder,
         call: Call::Clean { folder: 2 },
     });
-    let texts = format!(in alloc; "{settle}, {}, {lack}, {refused}", SettleError::NoMemory)?;
-    Ok(
-        texts.as_str()
-            == "job 12 has no answer, no memory, no memory amid the steps of job 7, no folder",
-    )
+    let texts = format!(in alloc; "{settle}, {lack}, {refused}")?;
+    Ok(texts.as_str() == "job 12 has no answer, no memory amid the steps of job 7, no folder")
 }
 
 #[test]
