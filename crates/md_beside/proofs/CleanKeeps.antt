@@ -64,7 +64,7 @@ module _ (t : Story) (story : IsStory t) (i : ℕ) (c : Call) (of : slice_get t.
     old-own : AreTimely t → Old t k (standing t job c k) → Old t (suc k) (standing t job c (suc k))
     old-own timely old = its t story i c of k x is who (λ c'. Old t (suc k) (standing t job c' (suc k)))
         (old-next t story k job x is who sound-here (one-at k) fits-here (old-back old) (unmade-at timely k x is) (in_time-at timely k x is)
-        (timely.behind k job x c is who of clean))
+        (timely.clocks.behind k job x c is who of clean))
 
     lawful-its : (AreTimely t → Old t k (standing t job c k)) → (b : Clause) → (MayBreak t c b → ⊥) → Breaks b (history t (suc k)) → ⊥
     lawful-its old b not = lawful-here t story k job x is who sound-here (one-at k) fits-here (files-at k (within-story t k x is))

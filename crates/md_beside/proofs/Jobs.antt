@@ -226,7 +226,7 @@ module _ (t : Story) (story : IsStory t) (names : AreOurs t) (lawful : AreLawful
           let works = works-now k x is h i who in
           elim (kind-of c) [
             | inl delivery ↦ delivery-in_time t story i c of delivery (λ k low. (holds-at k low).sound) one_path-at
-                (λ k low. (holds-at k low).deliveries i c of works delivery) (others-at i c of works delivery) timely.near k x is
+                (λ k low. (holds-at k low).deliveries i c of works delivery) (others-at i c of works delivery) timely.clocks.near k x is
                 who late
             | inr (inl errand) ↦ errand-in_time t story k (suc i) x is who h.sound h.one (h.errands i c of works errand) late
             | inr (inr clean) ↦ clean-in_time t story k (suc i) x is who h.sound h.one (h.cleans i c of clean) late

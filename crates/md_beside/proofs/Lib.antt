@@ -40,6 +40,7 @@ pub mod DeliverySays
 pub mod DeliverySteps
 pub mod DeliveryKeeps
 pub mod Jobs
+pub mod Relying
 pub mod RunStories
 pub mod LikeTurns
 pub mod LikeErrands

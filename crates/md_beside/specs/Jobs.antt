@@ -53,14 +53,18 @@ pub record AreLawful (t : Story) : Type 0 where
   pub to_jobs : Others OwesJobs t
   pub to_deliveries : (job : ℕ) (c : Call) → call_at t.calls job ≡ Some c → IsAtWork t job → IsDelivery c → Others OwesDeliveries t
 
+-- no clock is more than 4 hours from that of the directories, and no clean's is ahead of it
+pub record AreNear (t : Story) : Type 0 where
+  pub near : AreApart t 14400
+  pub behind : (k job : ℕ) (x : Step) (c : Call) → step_at t k ≡ Some x → x.who ≡ ours job → call_at t.calls job ≡ Some c → IsClean c
+      → x.at.own ≤ x.at.clock
+
 -- A clean of ours has time between its look and its act: the others make no name of tmp again and write to no file that was left for 36
--- hours, no clean's clock is ahead of the directories', and no clock is more than 4 hours from it.
+-- hours, and clocks are near.
 pub record AreTimely (t : Story) : Type 0 where
   pub unmade : Others (λ h. owed.MadeAgain h → ⊥) t
   pub in_time : Others (λ h. owed.WrittenLate h → ⊥) t
-  pub behind : (k job : ℕ) (x : Step) (c : Call) → step_at t k ≡ Some x → x.who ≡ ours job → call_at t.calls job ≡ Some c → IsClean c
-      → x.at.own ≤ x.at.clock
-  pub near : AreApart t 14400
+  pub clocks : AreNear t
 
 -- the others leave the young files of tmp, and so do the cleans of ours where they have no such time
 pub record AreSparing (t : Story) : Type 0 where

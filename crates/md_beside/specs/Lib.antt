@@ -3,3 +3,4 @@ pub mod Beside
 pub mod Jobs
 pub mod Runs
 pub mod OnDisk
+pub mod Relied

@@ -1,6 +1,7 @@
 //! Laws of our jobs beside other programs, whatever these are. Each function does nothing: its contract is the law.
 ghost use Rattle.md_beside.specs.Jobs.{JobsBeside};
 ghost use Rattle.md_beside.specs.OnDisk.{RunsAreJobs};
+ghost use Rattle.md_beside.specs.Relied.{JobsRely};
 ghost use Rattle.md_beside.specs.Runs.{JobsAreLawful, RunsAreStories};
 
 /// A job of ours keeps its promise beside others of ours, and beside other programs that do what they owe: it takes effect at one moment,
@@ -9,6 +10,13 @@ ghost use Rattle.md_beside.specs.Runs.{JobsAreLawful, RunsAreStories};
 /// kind may break.
 pub fn jobs_keep_their_promises()
     ensures { JobsBeside }
+{}
+
+/// If no step of another program breaks a clause that the calls of our jobs rely on (`relied_on`), and no clock is more than 4 hours from
+/// that of the directories, each job keeps its promise with no further condition: each answer is true, no delivery loses its file in tmp,
+/// and no step breaks a clause, but that a delivery flushes nothing, and a Move and a Copy may miss a message that goes from cur to new.
+pub fn jobs_rely_on_their_clauses()
+    ensures { JobsRely }
 {}
 
 /// Each run of a world is a story, in which no other program takes a step.

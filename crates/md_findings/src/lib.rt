@@ -7,7 +7,6 @@ mod json;
 mod judging;
 mod lines;
 mod page;
-mod relied;
 mod shown;
 mod summary;
 mod text;

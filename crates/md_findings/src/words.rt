@@ -1,7 +1,7 @@
 //! How a log is judged, as words say it.
 
-use crate::relied::relied_on;
 use clap::ArgMatches;
+use md_beside::relied_on;
 use md_command::{Mistake, Trouble};
 use md_judge::{Clause, GRADES, Grade, LAW, OWED};
 use std::alloc::Global;
