@@ -1,1 +1,3 @@
 pub mod Tallying
+pub mod Alike
+pub mod ClearLogs

@@ -5,6 +5,7 @@ mod blame;
 mod fault;
 mod json;
 mod judging;
+pub mod laws;
 mod lines;
 mod page;
 mod shown;
