@@ -1,5 +1,6 @@
 -- What a column shows is read back, a byte at a time.
-use Rattle.std.proofs.Common.{◌≡◌, ◌≢◌, ℕ, ◌+◌, ◌*◌, ◌/◌, ◌%◌, ◌<◌, Bool, true, false, List, [], ◌∷◌, ◌++◌, Option, Some, None, refl, sym, ap, ap₂, subst, ◌∙◌, arith, append_assoc, append-nil, inl, inr}
+use Rattle.std.proofs.Common.{◌≡◌, ◌≢◌, ℕ, zero, suc, ◌+◌, ◌*◌, ◌/◌, ◌%◌, ◌<◌, ◌≤◌, Bool, true, false, List, [], ◌∷◌, ◌++◌, length}
+use Rattle.std.proofs.Common.{Option, Some, None, refl, sym, ap, ap₂, subst, ◌∙◌, arith, append_assoc, append-nil, inl, inr}
 use Rattle.std.specs.Prelude.{nat_le, ◌==◌, ◌&&◌, if◌then◌else◌, codes, option_map, option_and_then}
 use Rattle.std.specs.Option.{unwrap_or}
 use Rattle.std.proofs.lemmas.Bool.{cases_eq}
@@ -7,7 +8,7 @@ use Rattle.std.proofs.lemmas.Bool.Decides.{nat_tests}
 use Rattle.std.proofs.lemmas.List.Elements.{All-head, All-tail}
 use Rattle.std.specs.List.{All, flat_map}
 use Rattle.md_command.specs.Escapes.{escape, hex, digit_of, is_printed, is_shown, ReadsBack}
-use Rattle.md_command.specs.Unescaping.{first_shown, first_escaped, value_of, meant_by, byte_of, before}
+use Rattle.md_command.specs.Unescaping.{first_shown, first_escaped, value_of, meant_by, byte_of, before, onto, read_at_most, unescaped}
 
 digit_back : (n : ℕ) → n < 16 → value_of (digit_of n) ≡ Some n
 digit_back n low = grind (arith, nat_tests)
@@ -28,7 +29,8 @@ module _ (b : ℕ) (low : b < 256) where
     by_digits : first_shown ((codes "\\x" ++ hex b) ++ rest) ≡ Some (b, rest)
     by_digits = ap (before rest) hex_back
 
-    shown_else : b ≢ 92 → (p q : Bool) → first_shown ((if p then b ∷ [] else (if q then b ∷ [] else codes "\\x" ++ hex b)) ++ rest) ≡ Some (b, rest)
+    shown_else : b ≢ 92 → (p q : Bool)
+        → first_shown ((if p then b ∷ [] else (if q then b ∷ [] else codes "\\x" ++ hex b)) ++ rest) ≡ Some (b, rest)
     shown_else other true q = plain other
     shown_else other false true = plain other
     shown_else other false false = by_digits
@@ -66,58 +68,104 @@ shows t rest b low =
       ]
     ]
 
--- what is left of a column that shows bytes, behind those that were read
-pub record Left (t : Bool) (all bytes rest : List ℕ) : Type 0 where
-  pub more : List ℕ
-  pub low : All (λ b. b < 256) more
-  pub parted : bytes ++ more ≡ all
-  pub left : flat_map (escape t) more ≡ rest
+none_read : (first : ℕ × List ℕ) → None ≡ Some first → ⊥
+none_read first read = cc
 
-pub SoFar : List ℕ → List ℕ → List ℕ → Type 0
-SoFar column bytes rest =
-    (t : Bool) (all : List ℕ) → All (λ b. b < 256) all → column ≡ flat_map (escape t) all → Left t all bytes rest
+-- what is behind a byte that was read is shorter
+shorter_before : (rest : List ℕ) (byte : Option ℕ) (b : ℕ) (behind : List ℕ) → before rest byte ≡ Some (b, behind) → rest ≡ behind
+shorter_before rest None b behind read = absurd (none_read (b, behind) read)
+shorter_before rest (Some x) b behind read = ap (λ (read : Option (ℕ × List ℕ)). (unwrap_or read (0, rest)).1) read
 
-pub begins : (column : List ℕ) → SoFar column [] column
-unfolding SoFar
-begins column t all low is = record { more = all; low = low; parted = refl; left = sym is }
+shorter_if : (p : Bool) (few more : List ℕ) (x y : Option ℕ) (b : ℕ) (behind : List ℕ) → length few ≤ length more
+    → (if p then before few x else before more y) ≡ Some (b, behind) → length behind ≤ length more
+shorter_if true few more x y b behind less read = omega (arith, ap length (shorter_before few x b behind read))
+shorter_if false few more x y b behind less read = omega (arith, ap length (shorter_before more y b behind read))
 
-module _ (t : Bool) (all bytes rest : List ℕ) where
-  reads : (more : List ℕ) → All (λ b. b < 256) more → bytes ++ more ≡ all → flat_map (escape t) more ≡ rest
-      → (b : ℕ) (behind : List ℕ) → first_shown rest ≡ Some (b, behind) → Left t all (bytes ++ b ∷ []) behind
-  unfolding Shows
-  reads [] low parted left b behind read =
-      let none : None ≡ Some (b, behind) = ap first_shown left ∙ read in cc
-  reads (x ∷ more) low parted left b behind read =
-      let here = shows t (flat_map (escape t) more) x (All-head (λ b. b < 256) x more low) in
-      let same : Some (x, flat_map (escape t) more) ≡ Some (b, behind) = sym here ∙ ap first_shown left ∙ read in
-      let byte : x ≡ b = ap (λ (read : Option (ℕ × List ℕ)). (unwrap_or read (0, [])).0) same in
-      let others : flat_map (escape t) more ≡ behind = ap (λ (read : Option (ℕ × List ℕ)). (unwrap_or read (0, [])).1) same in
-      record {
-        more = more;
-        low = All-tail (λ b. b < 256) x more low;
-        parted = append_assoc bytes (b ∷ []) more ∙ ap (λ y. bytes ++ y ∷ more) (sym byte) ∙ parted;
-        left = others;
-      }
+escaped_shorter : (column : List ℕ) (b : ℕ) (behind : List ℕ) → first_escaped column ≡ Some (b, behind) → length behind ≤ length column
+escaped_shorter [] b behind read = absurd (none_read (b, behind) read)
+escaped_shorter (c ∷ []) b behind read = omega (arith, ap length (shorter_before [] (meant_by c) b behind read))
+escaped_shorter (c ∷ high ∷ []) b behind read = omega (arith, ap length (shorter_before (high ∷ []) (meant_by c) b behind read))
+escaped_shorter (c ∷ high ∷ low ∷ column) b behind read =
+    let less = shorter_if (c == 120) column (high ∷ low ∷ column) (byte_of high low) (meant_by c) b behind (omega arith) read in
+    omega (arith, less)
 
-  ends : (more : List ℕ) → All (λ b. b < 256) more → bytes ++ more ≡ all → flat_map (escape t) more ≡ rest
-      → first_shown rest ≡ None → (rest ≡ []) × (bytes ≡ all)
-  unfolding Shows
-  ends [] low parted left read = (sym left, sym (append-nil bytes) ∙ parted)
-  ends (x ∷ more) low parted left read =
-      let here = shows t (flat_map (escape t) more) x (All-head (λ b. b < 256) x more low) in
-      let none : Some (x, flat_map (escape t) more) ≡ None = sym here ∙ ap first_shown left ∙ read in cc
+shown_shorter : (p : Bool) (x : ℕ) (column : List ℕ) (b : ℕ) (behind : List ℕ)
+    → (if p then first_escaped column else Some (x, column)) ≡ Some (b, behind) → length behind ≤ length column
+shown_shorter true x column b behind read = escaped_shorter column b behind read
+shown_shorter false x column b behind read =
+    omega (arith, ap (λ (read : Option (ℕ × List ℕ)). length (unwrap_or read (0, column)).1) read)
 
-module _ (column bytes rest : List ℕ) (so_far : SoFar column bytes rest) where
+next_is : (read : Option (ℕ × List ℕ)) (f g : List ℕ → Option (List ℕ))
+    → ((b : ℕ) (behind : List ℕ) → read ≡ Some (b, behind) → f behind ≡ g behind)
+    → option_and_then (λ first. onto (first.0 ∷ []) (f first.1)) read ≡ option_and_then (λ first. onto (first.0 ∷ []) (g first.1)) read
+next_is None f g same = refl
+next_is (Some (b, behind)) f g same = ap (onto (b ∷ [])) (same b behind refl)
+
+-- what else is read in the same way, from more room than its length
+same_room : (n m : ℕ) (column : List ℕ) → length column ≤ n → length column ≤ m → read_at_most n column ≡ read_at_most m column
+unfolding read_at_most
+same_room zero zero [] small less = refl
+same_room zero (suc m) [] small less = refl
+same_room (suc n) zero [] small less = refl
+same_room (suc n) (suc m) [] small less = refl
+same_room zero m (b ∷ column) small less = absurd (omega arith)
+same_room (suc n) zero (b ∷ column) small less = absurd (omega arith)
+same_room (suc n) (suc m) (x ∷ column) small less =
+    next_is (first_shown (x ∷ column)) (read_at_most n) (read_at_most m) (λ b behind read.
+    let shorter = shown_shorter (x == 92) x column b behind read in
+    same_room n m behind (omega (arith, shorter)) (omega (arith, shorter)))
+
+-- a byte is read, and then those of what is behind it
+pub reads_first : (rest : List ℕ) (b : ℕ) (behind : List ℕ) → first_shown rest ≡ Some (b, behind)
+    → unescaped rest ≡ onto (b ∷ []) (unescaped behind)
+unfolding read_at_most unescaped
+reads_first [] b behind read = absurd (none_read (b, behind) read)
+reads_first (x ∷ column) b behind read =
+    let shorter = shown_shorter (x == 92) x column b behind read in
+    ap (option_and_then (λ (first : ℕ × List ℕ). onto (first.0 ∷ []) (read_at_most (length column) first.1))) read
+    ∙ ap (onto (b ∷ [])) (same_room (length column) (length behind) behind shorter (omega arith))
+
+-- where no byte is read, the column ends, or shows nothing
+pub reads_none : (rest : List ℕ) → first_shown rest ≡ None → unescaped rest ≡ (if length rest == 0 then Some [] else None)
+unfolding read_at_most unescaped
+reads_none [] none = refl
+reads_none (x ∷ column) none =
+    let more : (suc (length column) == 0) ≡ false = grind (arith, nat_tests) in
+    ap (option_and_then (λ (first : ℕ × List ℕ). onto (first.0 ∷ []) (read_at_most (length column) first.1))) none
+    ∙ ap (λ test. if test then Some [] else None) (sym more)
+
+pub onto_nothing : (read : Option (List ℕ)) → onto [] read ≡ read
+onto_nothing None = refl
+onto_nothing (Some bytes) = refl
+
+onto_more : (bytes more : List ℕ) (read : Option (List ℕ)) → onto (bytes ++ more) read ≡ onto bytes (onto more read)
+onto_more bytes more None = refl
+onto_more bytes more (Some others) = ap Some (append_assoc bytes more others)
+
+onto_if : (bytes : List ℕ) (p : Bool) → onto bytes (if p then Some [] else None) ≡ (if p then Some bytes else None)
+onto_if bytes true = ap Some (append-nil bytes)
+onto_if bytes false = refl
+
+module _ (column bytes rest : List ℕ) (so_far : onto bytes (unescaped rest) ≡ unescaped column) where
   -- one more byte was read
-  pub goes_on : (b : ℕ) (behind : List ℕ) → first_shown rest ≡ Some (b, behind) → SoFar column (bytes ++ b ∷ []) behind
-  unfolding SoFar
-  goes_on b behind read t all low is =
-      let so = so_far t all low is in reads t all bytes rest so.more so.low so.parted so.left b behind read
+  pub goes_on : (b : ℕ) (behind : List ℕ) → first_shown rest ≡ Some (b, behind)
+      → onto (bytes ++ b ∷ []) (unescaped behind) ≡ unescaped column
+  goes_on b behind read =
+      onto_more bytes (b ∷ []) (unescaped behind) ∙ ap (onto bytes) (sym (reads_first rest b behind read)) ∙ so_far
 
-  -- none is left, and so the column was read whole
-  pub read_back : first_shown rest ≡ None → (read : Option (List ℕ)) → (rest ≡ [] → read ≡ Some bytes) → ReadsBack column read
-  unfolding SoFar
-  read_back none read whole all low is =
-      let so = so_far (is_shown all) all low is in
-      let end = ends (is_shown all) all bytes rest so.more so.low so.parted so.left none in
-      whole end.0 ∙ ap Some end.1
+  -- none is left
+  pub ends : first_shown rest ≡ None → unescaped column ≡ (if length rest == 0 then Some bytes else None)
+  ends none =
+      sym so_far ∙ ap (onto bytes) (reads_none rest none) ∙ onto_if bytes (length rest == 0)
+
+-- what a column shows is read back
+reads_all : (t : Bool) (bytes : List ℕ) → All (λ b. b < 256) bytes → unescaped (flat_map (escape t) bytes) ≡ Some bytes
+unfolding Shows unescaped read_at_most
+reads_all t [] low = refl
+reads_all t (b ∷ bytes) low =
+    let rest = flat_map (escape t) bytes in
+    reads_first (escape t b ++ rest) b rest (shows t rest b (All-head (λ b. b < 256) b bytes low))
+    ∙ ap (onto (b ∷ [])) (reads_all t bytes (All-tail (λ b. b < 256) b bytes low))
+
+pub read_back : (column : List ℕ) → ReadsBack column (unescaped column)
+read_back column bytes low shown = ap unescaped shown ∙ reads_all (is_shown bytes) bytes low

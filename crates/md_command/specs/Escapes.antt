@@ -1,6 +1,6 @@
 -- Bytes as a column of a line shows them, and a string of JSON.
-use Rattle.std.specs.Prelude.{◌≡◌, ◌<◌, Option, Some, ℕ, Bool, false, not, ◌&&◌, ◌||◌, ◌==◌, ◌+◌, ◌/◌, ◌%◌, nat_lt, nat_le, List}
-use Rattle.std.specs.Prelude.{[], ◌∷◌, ◌++◌, length, if◌then◌else◌, codes}
+use Rattle.std.specs.Prelude.{◌≡◌, ◌<◌, Option, Some, ℕ, Bool, false, not, ◌&&◌, ◌||◌, ◌==◌, ◌+◌, ◌/◌, ◌%◌, nat_lt, nat_le}
+use Rattle.std.specs.Prelude.{List, [], ◌∷◌, ◌++◌, length, if◌then◌else◌, codes}
 use Rattle.std.specs.List.{All, flat_map}
 use Rattle.std.specs.Str.Lossy.{utf8_valid_len}
 
@@ -20,10 +20,14 @@ hex b = digit_of (b / 16) ∷ digit_of (b % 16) ∷ []
 abbrev pub is_printed : ℕ → Bool
 is_printed b = nat_le 32 b && nat_le b 126
 
--- some two bytes are a control character from U+0080 to U+009F in UTF-8, where these come behind a byte
+-- whether a byte and the next one are a control character from U+0080 to U+009F in UTF-8
+abbrev pub is_control : ℕ → ℕ → Bool
+is_control b next = b == 194 && nat_lt next 160
+
+-- some two bytes are such a control character, where these come behind a byte
 abbrev pub has_controls : ℕ → List ℕ → Bool
 has_controls last [] = false
-has_controls last (b ∷ bytes) = (last == 194 && nat_lt b 160) || has_controls b bytes
+has_controls last (b ∷ bytes) = is_control last b || has_controls b bytes
 
 -- bytes that a terminal may be shown as they are, from 128 on: they are UTF-8, and none of their characters is a control character
 abbrev pub is_shown : List ℕ → Bool
@@ -42,6 +46,25 @@ escape text b =
 -- bytes as a column shows them
 abbrev pub escaped : List ℕ → List ℕ
 escaped bytes = flat_map (escape (is_shown bytes)) bytes
+
+-- the first byte, and 0 where there is none
+abbrev pub first_of : List ℕ → ℕ
+first_of [] = 0
+first_of (b ∷ bytes) = b
+
+-- a byte as a terminal may show it, where one past ASCII is shown as it is or not
+abbrev pub shown_byte : Bool → ℕ → List ℕ
+shown_byte as_is b = if is_printed b then b ∷ [] else (if nat_le 128 b && as_is then b ∷ [] else codes "\\x" ++ hex b)
+
+-- words behind a byte, in a text that is UTF-8 or not: no byte of a control character past ASCII is shown as it is
+abbrev pub shown_behind : Bool → ℕ → List ℕ → List ℕ
+shown_behind text last [] = []
+shown_behind text last (b ∷ words) =
+    shown_byte (text && not (is_control last b || is_control b (first_of words))) b ++ shown_behind text b words
+
+-- words as a terminal may show them
+abbrev pub shown : List ℕ → List ℕ
+shown words = shown_behind (is_text words) 0 words
 
 -- What was read of a column is what it shows: where it shows bytes, these.
 abbrev pub ReadsBack : List ℕ → Option (List ℕ) → Type 0

@@ -19,7 +19,8 @@ subject what (Some path) = string_bytes path
 -- `deolmutt: WHAT: WHY`, with the bytes of what it is escaped as in a listing
 abbrev pub failure_line : List ℕ → Failure → List ℕ
 failure_line what failure =
-    codes "deolmutt: " ++ escaped (subject what failure.path) ++ codes ": " ++ text_of failure.trouble ++ cause_text failure.cause ++ codes "\n"
+    codes "deolmutt: " ++ escaped (subject what failure.path) ++ codes ": " ++ text_of failure.trouble ++ cause_text failure.cause
+    ++ codes "\n"
 
 -- how many messages are done, in a line that the next one is written over
 abbrev pub progress_line : ℕ → List ℕ

@@ -1,5 +1,6 @@
 -- A column that is read from its beginning, a byte at a time.
-use Rattle.std.specs.Prelude.{ℕ, ◌+◌, ◌-◌, ◌*◌, ◌==◌, ◌&&◌, nat_le, List, [], ◌∷◌, Option, Some, None, option_map, option_and_then, if◌then◌else◌}
+use Rattle.std.specs.Prelude.{ℕ, zero, suc, ◌+◌, ◌-◌, ◌*◌, ◌==◌, ◌&&◌, nat_le, List, [], ◌∷◌, ◌++◌, length}
+use Rattle.std.specs.Prelude.{Option, Some, None, option_map, option_and_then, if◌then◌else◌}
 
 -- the value of a digit of a byte
 abbrev pub value_of : ℕ → Option ℕ
@@ -35,3 +36,19 @@ first_escaped (c ∷ high ∷ low ∷ column) =
 abbrev pub first_shown : List ℕ → Option (ℕ × List ℕ)
 first_shown [] = None
 first_shown (b ∷ column) = if b == 92 then first_escaped column else Some (b, column)
+
+-- bytes in front of those that were read
+abbrev pub onto : List ℕ → Option (List ℕ) → Option (List ℕ)
+onto front read = option_map (λ bytes. front ++ bytes) read
+
+-- the bytes that a column shows, where these are so many at most: its first one, and those of what is behind it
+unfoldable pub read_at_most : ℕ → List ℕ → Option (List ℕ)
+read_at_most zero [] = Some []
+read_at_most zero (b ∷ column) = None
+read_at_most (suc n) [] = Some []
+read_at_most (suc n) (b ∷ column) =
+    option_and_then (λ first. onto (first.0 ∷ []) (read_at_most n first.1)) (first_shown (b ∷ column))
+
+-- The bytes that a column shows, if it shows any. Each takes a byte of the column at least, so that they are no more than its bytes.
+unfoldable pub unescaped : List ℕ → Option (List ℕ)
+unescaped column = read_at_most (length column) column

@@ -1,7 +1,8 @@
 //! Bytes as a column of a line, or a string of JSON, shows them.
 ghost use Rattle.std.specs.Prelude.{◌≡◌, ◌++◌, ◌<◌, length, option_map, IfOk, IfSome, OnOk};
-ghost use Rattle.md_command.specs.Escapes.{escape, escaped, hex, digit_of, has_controls, is_text, json_escape, json_string, ReadsBack};
-ghost use Rattle.md_command.specs.Unescaping.{first_shown, first_escaped, byte_of, meant_by, value_of};
+ghost use Rattle.md_command.specs.Escapes.{escape, escaped, hex, digit_of, is_control, has_controls, is_text, json_escape, json_string};
+ghost use Rattle.md_command.specs.Escapes.{shown, shown_byte, first_of, ReadsBack};
+ghost use Rattle.md_command.specs.Unescaping.{unescaped, first_shown, first_escaped, byte_of, meant_by, value_of};
 
 use std::alloc::{AllocError, Global};
 
@@ -18,14 +19,14 @@ pub fn push_escaped(text: &mut Vec<u8>, bytes: &[u8]) -> Result<(), AllocError>
     Ok(())
 }
 
-// Whether two of the bytes are a control character from U+0080 to U+009F in UTF-8.
+// Whether two of the bytes are a control character.
 fn has_controls(bytes: &[u8]) -> bool
     ensures { result ≡ has_controls 0 bytes.now }
 {
     let mut rest = bytes;
     let mut last = 0;
     while let Some((byte, more)) = rest.split_first() {
-        if last == 0xc2 && *byte < 0xa0 {
+        if is_control(last, *byte) {
             return true;
         }
         last = *byte;
@@ -34,8 +35,15 @@ fn has_controls(bytes: &[u8]) -> bool
     false
 }
 
-/// Whether bytes are UTF-8.
-pub fn is_text(bytes: &[u8]) -> bool
+// Whether a byte and the next one are a control character from U+0080 to U+009F in UTF-8.
+fn is_control(byte: u8, next: u8) -> bool
+    ensures { result ≡ is_control byte next }
+{
+    byte == 0xc2 && next < 0xa0
+}
+
+// Whether bytes are UTF-8.
+fn is_text(bytes: &[u8]) -> bool
     ensures { result ≡ is_text bytes.now }
 {
     match std::str::from_utf8(bytes) {
@@ -56,6 +64,45 @@ fn push_byte(text: &mut Vec<u8>, byte: u8, are_shown: bool) -> Result<(), AllocE
         b' '..=b'~' => Ok(text.push(byte)?),
         128.. if are_shown => Ok(text.push(byte)?),
         _ => push_hex(text, b"\\x", byte),
+    }
+}
+
+/// Appends words as a terminal may show them: a control byte is `\xHH`, and so is each byte of a control character past ASCII, and each
+/// byte past ASCII where the words are not UTF-8. If memory runs out, the text may have a part of it.
+pub fn push_shown(text: &mut Vec<u8>, words: &[u8]) -> Result<(), AllocError>
+    ensures { OnOk result (text.new.items ≡ text.old.items ++ shown words.now) }
+{
+    let are_text = is_text(words);
+    let mut rest = words;
+    let mut last = 0;
+    while let Some((byte, more)) = rest.split_first() {
+        let next = first_of(more);
+        let is_shown = are_text && !(is_control(last, *byte) || is_control(*byte, next));
+        push_shown_byte(text, *byte, is_shown)?;
+        last = *byte;
+        rest = more;
+    }
+    Ok(())
+}
+
+// Appends a byte of such words, where one past ASCII is shown as it is or not.
+fn push_shown_byte(text: &mut Vec<u8>, byte: u8, is_shown: bool) -> Result<(), AllocError>
+    ensures { OnOk result (text.new.items ≡ text.old.items ++ shown_byte is_shown byte) }
+{
+    match byte {
+        b' '..=b'~' => Ok(text.push(byte)?),
+        128.. if is_shown => Ok(text.push(byte)?),
+        _ => push_hex(text, b"\\x", byte),
+    }
+}
+
+// The first byte, and 0 where there is none.
+fn first_of(bytes: &[u8]) -> u8
+    ensures { result ≡ first_of bytes.now }
+{
+    match bytes {
+        [byte, ..] => *byte,
+        [] => 0,
     }
 }
 
@@ -86,8 +133,8 @@ fn push_json_byte(text: &mut Vec<u8>, byte: u8, are_text: bool) -> Result<(), Al
     }
 }
 
-/// Appends a mark, and a byte by its two digits.
-pub fn push_hex(text: &mut Vec<u8>, mark: &[u8], byte: u8) -> Result<(), AllocError>
+// Appends a mark, and a byte by its two digits.
+fn push_hex(text: &mut Vec<u8>, mark: &[u8], byte: u8) -> Result<(), AllocError>
     ensures { OnOk result (text.new.items ≡ text.old.items ++ (mark.now ++ hex byte)) }
 {
     text.extend_from_slice(mark)?;
@@ -108,7 +155,8 @@ fn digit_of(number: u8) -> u8
 /// The bytes that a column shows so. None where a backslash begins none of `\\`, `\t`, `\n`, `\r` and `\xHH`, with digits as `push_escaped`
 /// has them. What needs no escape may have one.
 pub fn unescaped(alloc: Global, column: &[u8]) -> Result<Option<Vec<u8>>, AllocError>
-    ensures { IfOk result (λ read. ReadsBack column.now (option_map (λ bytes. bytes.items) read)) }
+    ensures value { IfOk result (λ read. option_map (λ bytes. bytes.items) read ≡ unescaped column.now) }
+    ensures back { IfOk result (λ read. ReadsBack column.now (option_map (λ bytes. bytes.items) read)) }
 {
     let mut bytes = Vec::with_capacity(alloc, column.len())?;
     let mut rest = column;

@@ -13,7 +13,7 @@ mod session;
 mod status;
 mod trouble;
 
-pub use escape::{is_text, push_escaped, push_hex, push_string, unescaped};
+pub use escape::{push_escaped, push_shown, push_string, unescaped};
 pub use failure::Failure;
 pub use files::{message_of, names_of, open_to_read, opened, path_in};
 pub use lines::{Line, Lines, MOST_BYTES, message};
