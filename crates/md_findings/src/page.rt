@@ -65,8 +65,8 @@ impl Page {
 
     fn push(&mut self, shown: &Shown<'_>) -> Result<(), AllocError> {
         match self.form {
-            Form::People => push_long(self.alloc, &mut self.text, shown),
-            Form::Lines => push_short(self.alloc, &mut self.text, shown),
+            Form::People => push_long(&mut self.text, shown),
+            Form::Lines => push_short(&mut self.text, shown),
             Form::Json => push_json(self.alloc, &mut self.text, shown),
             Form::Summary => {
                 self.tally.add(shown.clause, shown.line);

@@ -1,9 +1,8 @@
 //! How often each clause was broken, and where first.
 ghost use Rattle.std.specs.Prelude.{◌≡◌, ◌++◌, ◌∷◌, [], None, map, OnOk};
-ghost use Rattle.std.specs.Fmt.{decimal};
 ghost use Rattle.md_findings.specs.Tallies.{with_finding, added, sum_of, count_line, sum_line, summary};
 
-use itoa::Buffer;
+use md_command::push_number;
 use std::alloc::{AllocError, Global};
 
 /// What was found of a clause.
@@ -130,11 +129,4 @@ fn push_sum(out: &mut Vec<u8>, sum: u64) -> Result<(), AllocError>
     } else {
         out.extend_from_slice(b" findings\n")
     }
-}
-
-fn push_number(out: &mut Vec<u8>, number: u64) -> Result<(), AllocError>
-    ensures { OnOk result (out.new.items ≡ out.old.items ++ decimal number) }
-{
-    let mut buffer = Buffer::new();
-    out.extend_from_slice(buffer.format(number).as_bytes())
 }
