@@ -1,3 +1,4 @@
+pub mod Asked
 pub mod Probes
 pub mod Showing
 pub mod Tallies
