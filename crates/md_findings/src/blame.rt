@@ -3,14 +3,22 @@
 //! A judge says of a wrong line no more than its fault. The first word that is not what docs/JUDGE.md wants there has this fault, so the
 //! words are read once more from left to right. This happens once for a log, and costs a few times what its line did.
 
+ghost use Rattle.std.specs.Prelude.{◌≡◌, ◌++◌, ◌∷◌, [], None, Some, option_map, IfSome, OnOk, string_bytes};
+ghost use Rattle.std.specs.Fmt.{decimal};
+ghost use Rattle.std.specs.Option.{option_copied};
+ghost use Rattle.md_text.specs.Words.{next_word};
+ghost use Rattle.md_findings.specs.Faults.{blame_text, flaw_text};
+ghost use Rattle.md_findings.specs.declared.blame.wanted.Wanted.TheVariants.{Start};
+ghost use Rattle.md_findings.specs.Walks.{folder_in, next_wanted};
+
 mod probe;
 mod wanted;
 
+use itoa::Buffer;
 use md_judge::LineFault;
 use md_text::{Rest, cut, word};
 use probe::Probe;
-use std::alloc::Global;
-use std::fmt::{Display, Error, Formatter, Write};
+use std::alloc::{AllocError, Global};
 use wanted::{START, Wanted, wanted_after};
 
 /// How a word is not what it should be.
@@ -39,24 +47,46 @@ pub(crate) enum Blame {
     },
 }
 
-impl Display for Blame {
-    fn fmt<W: Write>(&self, f: &mut Formatter<W>) -> Result<(), Error> {
-        match *self {
-            Blame::TooMany { number } => write!(f, "there should be no word {number}"),
+impl Flaw {
+    fn text(self) -> &'static str
+        ensures { result.now ≡ flaw_text self }
+    {
+        match self {
+            Flaw::Wrong => "",
+            Flaw::Missing => " is missing, and",
+            Flaw::Empty => " is empty, and",
+        }
+    }
+}
+
+impl Blame {
+    /// Appends what is said of the word.
+    pub(crate) fn push_to(self, said: &mut String) -> Result<(), AllocError>
+        ensures { OnOk result (string_bytes said.new ≡ string_bytes said.old ++ blame_text self) }
+    {
+        match self {
+            Blame::TooMany { number } => push_numbered(said, "there should be no word ", number),
             Blame::Word {
                 number,
                 flaw,
                 wanted,
             } => {
-                let flaw = match flaw {
-                    Flaw::Wrong => "",
-                    Flaw::Missing => " is missing, and",
-                    Flaw::Empty => " is empty, and",
-                };
-                write!(f, "word {number}{flaw} should be {wanted}")
+                push_numbered(said, "word ", number)?;
+                said.push_str(flaw.text())?;
+                said.push_str(" should be ")?;
+                said.push_str(wanted)
             }
         }
     }
+}
+
+// Appends words, and a number behind them.
+fn push_numbered(said: &mut String, words: &str, number: u64) -> Result<(), AllocError>
+    ensures { OnOk result (string_bytes said.new ≡ string_bytes said.old ++ (words.now ++ decimal number)) }
+{
+    said.push_str(words)?;
+    let mut buffer = Buffer::new();
+    said.push_str(buffer.format(number))
 }
 
 /// The word of a line that has this fault. None where the fault is of the line as a whole, or memory for the search is wanting.
@@ -140,7 +170,9 @@ fn folder_word(line: &[u8]) -> Option<Blame> {
 }
 
 // The folder that a word names, as it spells it.
-fn folder_in(wanted: Wanted, word: &[u8]) -> Option<&[u8]> {
+fn folder_in(wanted: Wanted, word: &[u8]) -> Option<&[u8]>
+    ensures { option_map (λ folder. folder.now) result ≡ folder_in wanted word.now }
+{
     match wanted {
         Wanted::Folder => Some(word),
         Wanted::Path => Some(cut(word, b'/').0),
@@ -156,7 +188,9 @@ struct Walk<'a> {
 }
 
 impl<'a> Walk<'a> {
-    fn over(line: &'a [u8]) -> Walk<'a> {
+    fn over(line: &'a [u8]) -> Walk<'a>
+        ensures { (option_copied result.rest ≡ Some line.now) × (result.wants.now ≡ Start ∷ []) }
+    {
         Walk {
             rest: Some(line),
             wants: START,
@@ -164,7 +198,9 @@ impl<'a> Walk<'a> {
     }
 
     // What the next word should be. None where the line should end, or does where it may.
-    fn wanted(&self) -> Option<Wanted> {
+    fn wanted(&self) -> Option<Wanted>
+        ensures { result ≡ next_wanted (option_copied self.now.rest) self.now.wants.now }
+    {
         match self.wants.first() {
             Some(Wanted::Shown) if self.rest.is_none() => None,
             wanted => wanted.copied(),
@@ -172,7 +208,10 @@ impl<'a> Walk<'a> {
     }
 
     // The next word, which should be this.
-    fn next(&mut self, wanted: Wanted) -> Option<&'a [u8]> {
+    fn next(&mut self, wanted: Wanted) -> Option<&'a [u8]>
+        ensures word { IfSome result (λ word. next_word (option_copied self.old.rest) ≡ Some (word.now, option_copied self.new.rest)) }
+        ensures none { result ≡ None → (next_word (option_copied self.old.rest) ≡ None) × (self.new ≡ self.old) }
+    {
         let (word, rest) = word(self.rest)?;
         self.rest = rest;
         self.wants = match self.wants {

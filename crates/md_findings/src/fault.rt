@@ -1,4 +1,6 @@
 //! Why nothing was judged, or printed.
+ghost use Rattle.std.specs.Prelude.{◌≡◌, IfOk, string_bytes};
+ghost use Rattle.md_findings.specs.Faults.{line_of, no_memory, said, text_of};
 
 use crate::blame::{Blame, blamed_word};
 use md_judge::{LineFault, LogFault};
@@ -18,7 +20,9 @@ pub(crate) enum Fault {
 }
 
 impl Fault {
-    pub(crate) fn no_memory(line: u64) -> Self {
+    pub(crate) fn no_memory(line: u64) -> Self
+        ensures { result ≡ no_memory line }
+    {
         let fault = LineFault::NoMemory;
         Fault::Log(LogFault { line, fault })
     }
@@ -35,7 +39,9 @@ impl Fault {
     }
 
     /// The line that is to blame, or 0.
-    pub(crate) fn line(self) -> u64 {
+    pub(crate) fn line(self) -> u64
+        ensures { result ≡ line_of self }
+    {
         match self {
             Fault::Log(fault) | Fault::Word(fault, _) => fault.line,
             Fault::Read(line) => line,
@@ -44,16 +50,21 @@ impl Fault {
     }
 
     /// What is said of it, with the word.
-    pub(crate) fn said(self, alloc: Global) -> Result<String, AllocError> {
-        let text = self.text();
-        match self {
-            Fault::Word(_, blame) => format!(in alloc; "{text}: {blame}"),
-            _ => String::from_str(alloc, text),
+    pub(crate) fn said(self, alloc: Global) -> Result<String, AllocError>
+        ensures { IfOk result (λ text. string_bytes text ≡ said self) }
+    {
+        let mut said = String::from_str(alloc, self.text())?;
+        if let Fault::Word(_, blame) = self {
+            said.push_str(": ")?;
+            blame.push_to(&mut said)?;
         }
+        Ok(said)
     }
 
     /// What is said of it.
-    pub(crate) fn text(self) -> &'static str {
+    pub(crate) fn text(self) -> &'static str
+        ensures { result.now ≡ text_of self }
+    {
         match self {
             Fault::Log(fault) | Fault::Word(fault, _) => fault.fault.text(),
             Fault::Read(_) => "read fault",

@@ -1,7 +1,11 @@
 //! Findings as JSON (RFC 8259), one object a line.
+ghost use Rattle.std.specs.Prelude.{◌≡◌, IfOk, if◌then◌else◌, string_bytes};
+ghost use Rattle.md_command.specs.Escapes.{is_text};
+ghost use Rattle.md_findings.specs.Json.{value_of};
 
 use crate::shown::Shown;
 use base64::engine::general_purpose::STANDARD;
+use md_command::is_text;
 use serde_json::{Value, json};
 use std::alloc::{AllocError, Global};
 
@@ -31,16 +35,16 @@ fn object_of(alloc: Global, shown: &Shown<'_>) -> Result<Value, AllocError> {
     })
 }
 
-fn key_for<'a>(words: &[u8], key: &'a str, base64_key: &'a str) -> &'a str {
-    if str::from_utf8(words).is_ok() {
-        key
-    } else {
-        base64_key
-    }
+fn key_for<'a>(words: &[u8], key: &'a str, base64_key: &'a str) -> &'a str
+    ensures { result ≡ (if is_text words.now then key.entry else base64_key.entry) }
+{
+    if is_text(words) { key } else { base64_key }
 }
 
 /// Words as text, or in base64 where they are none.
-fn text_of(alloc: Global, words: &[u8]) -> Result<String, AllocError> {
+fn text_of(alloc: Global, words: &[u8]) -> Result<String, AllocError>
+    ensures { IfOk result (λ text. string_bytes text ≡ value_of words.now) }
+{
     match str::from_utf8(words) {
         Ok(text) => String::from_str(alloc, text),
         Err(_) => STANDARD.encode(alloc, words),

@@ -1,4 +1,7 @@
 //! A log that is read line by line.
+ghost use Rattle.std.specs.Prelude.{◌≡◌};
+ghost use Rattle.std.specs.IoError.{error_kind};
+ghost use Rattle.md_findings.specs.Faults.{unread};
 
 use crate::fault::Fault;
 use md_command::{Line, Lines};
@@ -39,7 +42,9 @@ fn judge_line(alloc: Global, judge: &mut Judge, line: &[u8]) -> Result<(), Fault
     }
 }
 
-fn unread(number: u64, error: &Error) -> Fault {
+fn unread(number: u64, error: &Error) -> Fault
+    ensures { result ≡ unread number (error_kind error.now) }
+{
     match error.kind() {
         ErrorKind::OutOfMemory => Fault::no_memory(number),
         _ => Fault::Read(number),
