@@ -1,8 +1,8 @@
-pub mod Probes
-pub mod Tallies
 pub mod Asked
 pub mod Faults
 pub mod Json
-pub mod Showing
-pub mod Walks
 pub mod Judged
+pub mod Probes
+pub mod Showing
+pub mod Tallies
+pub mod Walks

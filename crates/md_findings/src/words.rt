@@ -1,9 +1,11 @@
 //! How a log is judged, as words say it.
-ghost use Rattle.std.specs.Prelude.{◌≡◌, Some, option_map, map, IfOk, IfErr, codes};
+ghost use Rattle.std.specs.Prelude.{◌≡◌, ◌≢◌, Some, option_map, map, IfOk, IfErr, codes};
 ghost use Rattle.std.specs.Result.{result_ok};
 ghost use Rattle.clap.specs.Words.{found_of, one_text};
 ghost use Rattle.md_command.specs.declared.mistake.Mistake.TheVariants.{Wrong};
 ghost use Rattle.md_command.specs.declared.trouble.Trouble.TheVariants.{BadGrade};
+ghost use Rattle.md_jobs.specs.declared.call.Call.{Call};
+ghost use Rattle.md_beside.specs.Relied.{command_of, relied};
 ghost use Rattle.md_log.specs.Texts.{clause_named};
 ghost use Rattle.md_findings.specs.Asked.{allowed_named, AreNamed, asks_for, by_rules, form_in, grade_named, HasForms, IsFlag, IsUnnamed, is_among, is_given, is_one_of, least_named, path_in, words_of};
 
@@ -132,7 +134,10 @@ fn read_rules<'a>(alloc: Global, words: &ArgMatches<'a>) -> Result<Rules<'a>, Mi
     }))
 }
 
-fn read_relied<'a>(call: &'a str) -> Result<&'static [Clause], Mistake<'a>> {
+fn read_relied<'a>(call: &'a str) -> Result<&'static [Clause], Mistake<'a>>
+    ensures named { IfOk result (λ clauses. (c : Call) → command_of c ≡ call.now → clauses.now ≡ relied c) }
+    ensures other { IfErr result (λ _. (c : Call) → command_of c ≢ call.now) }
+{
     match relied_on(call) {
         Some(relied) => Ok(relied),
         None => Err(Mistake::Wrong {
