@@ -49,8 +49,8 @@ impl Reading {
     {
         Reading {
             begun,
-            names: IndexSet::new(alloc),
-            uniques: IndexSet::new(alloc),
+            names: no_names(alloc),
+            uniques: no_names(alloc),
         }
     }
 
@@ -73,6 +73,12 @@ impl Reading {
         }
         Ok(())
     }
+}
+
+fn no_names(alloc: Global) -> IndexSet<NameKey<'static>>
+    ensures { (name : List ℕ) → contains bytes_eq result name ≡ false }
+{
+    IndexSet::new(alloc)
 }
 
 /// The readings of directories that are not over, by the number of the directory and the actor.
