@@ -1,13 +1,15 @@
 //! Listings of folders, which are readings of new and cur.
-ghost use Rattle.std.specs.Prelude.{◌≡◌, ℕ, List, Some, None, true, OnOk, IfOk};
+ghost use Rattle.std.specs.Prelude.{◌≡◌, ◌||◌, ℕ, List, Some, None, true, OnOk, IfOk};
 ghost use Rattle.std.specs.List.{list_any};
 ghost use Rattle.std.specs.Option.{option_copied};
+ghost use Rattle.std.specs.Str.{bytes_eq};
+ghost use Rattle.indexmap.specs.IndexSet.{contains};
 ghost use Rattle.md_watch.specs.Listings.{Breaks, Completes, Joins, listing_in, place_of, is_completed_by, is_shown, was_always, is_left_out, is_lacked, is_unlisted, always_during};
 ghost use Rattle.md_watch.specs.Spells.{spell_at};
 ghost use Rattle.md_kept.specs.Tables.{Puts, count_at, value_at};
 
 use crate::presences::Presences;
-use crate::readings::{Part, Reading};
+use crate::readings::{Part, Reading, has};
 use crate::spells::Spells;
 use indexmap::IndexSet;
 use md_dirs::{Bytes, NameKey, Place};
@@ -233,8 +235,7 @@ impl Listing {
         ensures breaks { IfOk result (λ listing. listing.breaks ≡ self.breaks) }
     {
         self.spans.push((reading.begun, now))?;
-        let mut uniques = reading.uniques;
-        self.uniques.append(&mut uniques)?;
+        join_names(&mut self.uniques, reading.uniques)?;
         Ok(self)
     }
 
@@ -286,8 +287,7 @@ impl Listing {
     fn is_shown(&self, reading: &Reading, unique: &[u8]) -> bool
         ensures { result ≡ is_shown self.now reading.now unique.now }
     {
-        let key = NameKey::lent(unique);
-        reading.uniques.contains(&key) || self.uniques.contains(&key)
+        has(&reading.uniques, unique) || has(&self.uniques, unique)
     }
 
     /// Whether a message that is there was there at each moment of the reading, and of those before it.
@@ -305,6 +305,17 @@ impl Listing {
         messages.was_always(folder, unique, true, reading.begun, now)
             && was_during(messages, folder, unique, self.spans.as_slice())
     }
+}
+
+fn join_names(
+    names: &mut IndexSet<NameKey<'static>>,
+    more: IndexSet<NameKey<'static>>,
+) -> Result<(), AllocError>
+    ensures { OnOk result
+        ((name : List ℕ) → contains bytes_eq names.new name ≡ (contains bytes_eq more.entry name || contains bytes_eq names.old name)) }
+{
+    let mut more = more;
+    names.append(&mut more)
 }
 
 /// Whether a message that is there was there at each moment of some spans.

@@ -81,6 +81,13 @@ fn no_names(alloc: Global) -> IndexSet<NameKey<'static>>
     IndexSet::new(alloc)
 }
 
+pub(crate) fn has(names: &IndexSet<NameKey<'static>>, name: &[u8]) -> bool
+    ensures { result ≡ contains bytes_eq names.now name.now }
+{
+    let key = NameKey::lent(name);
+    names.contains(&key)
+}
+
 /// The readings of directories that are not over, by the number of the directory and the actor.
 #[derive(Drop)]
 pub(crate) struct Readings {
@@ -244,8 +251,8 @@ fn lacks(
     match directory {
         None => false,
         Some(directory) => directory.names().iter().any(|name| {
-            !reading.names.contains(name)
-                && names.was_always(number, name.as_slice(), true, reading.begun, now)
+            let name = name.as_slice();
+            !has(&reading.names, name) && names.was_always(number, name, true, reading.begun, now)
         }),
     }
 }
@@ -264,8 +271,8 @@ fn first_lacked<'a>(
             None => true,
             Some((least, _)) => *file < least,
         };
-        let is_shown = reading.names.contains(name);
         let name = name.as_slice();
+        let is_shown = has(&reading.names, name);
         if is_before && !is_shown && names.was_always(number, name, true, reading.begun, now) {
             first = Some((*file, name));
         }

@@ -3,9 +3,9 @@ ghost use Rattle.std.specs.Prelude.{◌≡◌, ◌≢◌, OnOk, IfOk, IfErr};
 ghost use Rattle.md_dirs.specs.State.{bare};
 ghost use Rattle.md_log.specs.declared.error.LineFault.TheVariants.{NoMemory};
 ghost use Rattle.md_law.specs.History.{History, Moment, opening, next};
-ghost use Rattle.md_kept.specs.Changes.{turn_of, adding};
+ghost use Rattle.md_kept.specs.Changes.{turn_of, adding, file_in};
 ghost use Rattle.md_watch.specs.Found.{before_of, after_of};
-ghost use Rattle.md_watch.specs.Watches.{Holds, with_folder, PutsFile, PutsName, IsPathRefused, IsNameRefused, Finds, Touches, Follows};
+ghost use Rattle.md_watch.specs.Watches.{Holds, with_folder, PutsFile, PutsName, IsPathRefused, IsNameRefused, Finds, Touches, Follows, touching};
 
 mod earlier;
 mod finding;
@@ -179,20 +179,7 @@ impl Watch {
     fn touch(&mut self, step: &Step) -> Result<(), AllocError>
         ensures { OnOk result (Touches step.now self.old self.new) }
     {
-        let Call::At { deed, path, reply } = &step.call else {
-            return Ok(());
-        };
-        match (*deed, *reply) {
-            (Deed::Create, Reply::Ok) => {
-                let maker = step.actor.again(self.alloc)?;
-                self.files.make(Some(maker), self.clock)?;
-            }
-            (Deed::Write, Reply::Ok) => self.files.write(self.paths.file_at(path), self.clock),
-            (Deed::Write, Reply::Fault) => self.files.cut(self.paths.file_at(path)),
-            (Deed::Flush, Reply::Ok) => self.files.flush(self.paths.file_at(path)),
-            _ => {}
-        }
-        Ok(())
+        touch(self.alloc, &mut self.files, &self.paths, self.clock, step)
     }
 
     fn follow(&mut self, change: &Change<'_>) -> Result<(), AllocError>
@@ -203,6 +190,32 @@ impl Watch {
         self.messages.follow(change)?;
         self.drafts.follow(change.named)
     }
+}
+
+fn touch(
+    alloc: Global,
+    files: &mut Files,
+    paths: &Paths,
+    clock: u64,
+    step: &Step,
+) -> Result<(), AllocError>
+    ensures { OnOk result
+        (touching (file_in paths.now) clock step.now.actor step.now.call files.old.all.items files.new.all.items) }
+{
+    let Call::At { deed, path, reply } = &step.call else {
+        return Ok(());
+    };
+    match (*deed, *reply) {
+        (Deed::Create, Reply::Ok) => {
+            let maker = step.actor.again(alloc)?;
+            return files.make(Some(maker), clock);
+        }
+        (Deed::Write, Reply::Ok) => files.write(paths.file_at(path), clock),
+        (Deed::Write, Reply::Fault) => files.cut(paths.file_at(path)),
+        (Deed::Flush, Reply::Ok) => files.flush(paths.file_at(path)),
+        _ => {}
+    }
+    Ok(())
 }
 
 /// A path is added that names the file.

@@ -123,8 +123,9 @@ impl Watch {
 
     /// The step by which the message of a path last went.
     fn last_gone(&self, path: &Path) -> Option<usize> {
+        let unique = message_of(path)?;
         let messages = &self.memory.presences.messages;
-        let last = messages.last(path.folder as usize, message_of(path)?)?;
+        let last = messages.last(path.folder as usize, unique)?;
         Some(self.marks.of_step(last))
     }
 

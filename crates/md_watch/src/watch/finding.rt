@@ -87,9 +87,10 @@ impl Watch {
     pub(super) fn is_used_twice(&self, named: Option<Named<'_>>) -> bool
         ensures { result ≡ is_used_twice self.now (lent_as named.entry) }
     {
+        let messages = &self.messages;
         named.is_some_and(|(path, file)| {
             message_of(path).is_some_and(|unique| {
-                self.messages.was(unique) && !self.messages.was_file(unique, file)
+                messages.was(unique) && !messages.was_file(unique, file)
             })
         })
     }
@@ -113,8 +114,9 @@ impl Watch {
     pub(super) fn is_second(&self, named: Option<Named<'_>>) -> bool
         ensures { result ≡ is_second self.now (lent_as named.entry) }
     {
+        let messages = &self.messages;
         named.is_some_and(|(path, _)| {
-            message_of(path).is_some_and(|unique| self.messages.count_in(path.folder, unique) > 1)
+            message_of(path).is_some_and(|unique| messages.count_in(path.folder, unique) > 1)
         })
     }
 
@@ -122,9 +124,10 @@ impl Watch {
     pub(super) fn is_elsewhere(&self, named: Option<Named<'_>>) -> bool
         ensures { result ≡ is_elsewhere self.now (lent_as named.entry) }
     {
+        let messages = &self.messages;
         named.is_some_and(|(path, _)| {
             message_of(path).is_some_and(|unique| {
-                self.messages.count_in(path.folder, unique) < self.messages.count(unique)
+                messages.count_in(path.folder, unique) < messages.count(unique)
             })
         })
     }

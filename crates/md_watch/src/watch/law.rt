@@ -50,11 +50,12 @@ impl Watch {
     pub(super) fn is_back(&self, named: Option<Named<'_>>) -> bool
         ensures { result ≡ is_back self.now (lent_as named.entry) }
     {
+        let messages = &self.messages;
         named.is_some_and(|(path, file)| {
             message_of(path).is_some_and(|unique| {
-                self.messages.count_in(path.folder, unique) == 0
-                    && self.messages.was_in(path.folder, unique)
-                    && !self.messages.was_file_in(path.folder, unique, file)
+                messages.count_in(path.folder, unique) == 0
+                    && messages.was_in(path.folder, unique)
+                    && !messages.was_file_in(path.folder, unique, file)
             })
         })
     }
@@ -63,10 +64,11 @@ impl Watch {
     pub(super) fn is_gone(&self, taken: Option<Named<'_>>) -> bool
         ensures { result ≡ is_gone self.now (lent_as taken.entry) }
     {
+        let messages = &self.messages;
         taken.is_some_and(|(path, file)| {
             message_of(path).is_some_and(|unique| {
-                self.messages.count_in(path.folder, unique) == 0
-                    && self.messages.count_as(unique, file) == 0
+                messages.count_in(path.folder, unique) == 0
+                    && messages.count_as(unique, file) == 0
             })
         })
     }

@@ -16,7 +16,7 @@ ghost use Rattle.md_watch.specs.Spells.{spell_at};
 ghost use Rattle.md_watch.specs.Watches.{Holds};
 
 use super::Watch;
-use crate::readings::Reading;
+use crate::readings::{Reading, has};
 use md_dirs::{NameKey, Place};
 use md_kept::number_of;
 
@@ -46,8 +46,7 @@ impl OpenReading<'_> {
     pub fn shows(&self, name: &[u8]) -> bool
         ensures { result ≡ contains bytes_eq self.now.reading.now.names name.now }
     {
-        let key = NameKey::lent(name);
-        self.reading.names.contains(&key)
+        has(&self.reading.names, name)
     }
 }
 
