@@ -67,8 +67,7 @@ impl Watch {
         let messages = &self.messages;
         taken.is_some_and(|(path, file)| {
             message_of(path).is_some_and(|unique| {
-                messages.count_in(path.folder, unique) == 0
-                    && messages.count_as(unique, file) == 0
+                messages.count_in(path.folder, unique) == 0 && messages.count_as(unique, file) == 0
             })
         })
     }
