@@ -1,5 +1,9 @@
+pub mod Cuts
 pub mod Escapes
+pub mod Failures
+pub mod Files
 pub mod Lines
+pub mod Parts
 pub mod Statuses
 pub mod Troubles
 pub mod Unescaping

@@ -1,7 +1,8 @@
 //! A trouble with what the system said of it, and the line that says both.
-ghost use Rattle.std.specs.Prelude.{◌≡◌, ◌++◌, string_bytes, IfOk, IfSome, OnOk};
+ghost use Rattle.std.specs.Prelude.{◌≡◌, ◌++◌, string_bytes, true, None, IfOk, IfSome, OnOk};
 ghost use Rattle.std.specs.Option.{option_copied};
 ghost use Rattle.std_io.specs.IoError.{error_kind};
+ghost use Rattle.md_command.specs.Failures.{failed, says_all, trouble_of_refusal};
 ghost use Rattle.md_command.specs.Lines.{failure_line as line_of, cause_text, subject};
 ghost use Rattle.md_command.specs.Troubles.{trouble_by};
 ghost use Rattle.md_command.specs.declared.trouble.Trouble.TheVariants.{NoMemory};
@@ -35,7 +36,9 @@ impl Failure {
 
     /// A trouble, and what the system said of it. Without rights, and without memory, that is the trouble.
     pub fn of(alloc: Global, trouble: Trouble, error: &io::Error) -> Failure
-        ensures { result.trouble ≡ trouble_by trouble (error_kind error.now) }
+        ensures trouble { result.trouble ≡ trouble_by trouble (error_kind error.now) }
+        ensures cause { says_all (error_kind error.now) ≡ true → result.cause ≡ None }
+        ensures path { result.path ≡ None }
     {
         match error.kind() {
             ErrorKind::PermissionDenied => Failure::from(Trouble::NoRights),
@@ -50,7 +53,7 @@ impl Failure {
 }
 
 impl From<Trouble> for Failure {
-    ghost from_gives = { λ trouble result. result.trouble ≡ trouble };
+    ghost from_gives = { λ trouble result. result ≡ failed trouble };
 
     fn from(trouble: Trouble) -> Failure {
         Failure {
@@ -62,7 +65,7 @@ impl From<Trouble> for Failure {
 }
 
 impl From<AllocError> for Failure {
-    ghost from_gives = { λ _ result. result.trouble ≡ NoMemory };
+    ghost from_gives = { λ _ result. result ≡ failed NoMemory };
 
     fn from(_error: AllocError) -> Failure {
         Failure::from(Trouble::NoMemory)
@@ -70,7 +73,7 @@ impl From<AllocError> for Failure {
 }
 
 impl<T: Drop> From<AllocFailed<T>> for Failure {
-    ghost from_gives = { λ _ result. result.trouble ≡ NoMemory };
+    ghost from_gives = { λ _ result. result ≡ failed NoMemory };
 
     fn from(_error: AllocFailed<T>) -> Failure {
         Failure::from(Trouble::NoMemory)
@@ -79,6 +82,8 @@ impl<T: Drop> From<AllocFailed<T>> for Failure {
 
 // Jobs are refused only when out of memory.
 impl From<CoreError> for Failure {
+    ghost from_gives = { λ error result. result ≡ failed (trouble_of_refusal error) };
+
     fn from(error: CoreError) -> Failure {
         match error {
             CoreError::NoMemory => Failure::from(Trouble::NoMemory),

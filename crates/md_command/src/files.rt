@@ -1,5 +1,6 @@
 //! Files that are read: those of a directory, each of which is a message.
-ghost use Rattle.std.specs.Prelude.{◌≡◌, ◌++◌, codes, IfOk};
+ghost use Rattle.std.specs.Prelude.{◌≡◌, ◌++◌, codes, map, option_map, IfOk, OnOk};
+ghost use Rattle.md_command.specs.Files.{name_in, names_in, unended};
 
 use crate::failure::Failure;
 use crate::lines::{Line, Lines, message};
@@ -47,12 +48,33 @@ fn sorted_names<D: Read + Drop>(
 }
 
 // Adds a name that is read with its NUL, if it is one of a file.
-fn push_name(alloc: Global, names: &mut Vec<Vec<u8>>, line: &[u8]) -> Result<(), AllocError> {
-    let name = line.strip_suffix(b"\0").unwrap_or(line);
-    if name.is_empty() || name == b".".as_slice() || name == b"..".as_slice() {
+fn push_name(alloc: Global, names: &mut Vec<Vec<u8>>, line: &[u8]) -> Result<(), AllocError>
+    ensures { OnOk result (map (λ name. name.items) names.new.items ≡ map (λ name. name.items) names.old.items ++ names_in line.now) }
+{
+    let Some(name) = name_in(line) else {
         return Ok(());
-    }
+    };
     Ok(names.push(Vec::from_slice(alloc, name)?)?)
+}
+
+// The name that is read with its NUL, if it is one of a file.
+fn name_in(line: &[u8]) -> Option<&[u8]>
+    ensures { option_map (λ name. name.now) result ≡ name_in line.now }
+{
+    match unended(line) {
+        [] | [b'.'] | [b'.', b'.'] => None,
+        name => Some(name),
+    }
+}
+
+// Bytes without the NUL that ends them, if one does.
+fn unended(line: &[u8]) -> &[u8]
+    ensures { result.now ≡ unended line.now }
+{
+    match line {
+        [name @ .., 0] => name,
+        _ => line,
+    }
 }
 
 /// The path of a name in a directory.

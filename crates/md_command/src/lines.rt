@@ -1,4 +1,8 @@
 //! What is read in parts, of which none is longer than wanted.
+ghost use Rattle.std.specs.Prelude.{◌≡◌, ◌≤◌, length, IfOk, IfSome};
+ghost use Rattle.md_command.specs.Cuts.{cut, part};
+ghost use Rattle.md_command.specs.Parts.{IsRead};
+
 use crate::failure::Failure;
 use crate::trouble::Trouble;
 use memchr::memchr;
@@ -54,7 +58,10 @@ impl<R: Read + Drop> Lines<R> {
 
     /// Reads the next line, with the byte that ends it: the last one may have none. One of more than `most` bytes is passed over. An
     /// interrupted read is made again; any other error, and lack of memory, ends the call.
-    pub fn next(&mut self, line: &mut Vec<u8>, most: usize) -> io::Result<Line> {
+    #[tactic(auto, using(crate::proofs::Parts::within))]
+    pub fn next(&mut self, line: &mut Vec<u8>, most: usize) -> io::Result<Line>
+        ensures { IfOk result (λ kind. IsRead kind most line.new.items) }
+    {
         line.clear();
         let mut kind = Line::End;
         for _ in 0..u64::MAX {
@@ -79,7 +86,9 @@ impl<R: Read + Drop> Lines<R> {
     }
 
     /// Reads all that is left. None where it has more bytes than wanted.
-    pub fn rest(&mut self, alloc: Global, most: usize) -> io::Result<Option<Vec<u8>>> {
+    pub fn rest(&mut self, alloc: Global, most: usize) -> io::Result<Option<Vec<u8>>>
+        ensures { IfOk result (λ read. IfSome read (λ bytes. length bytes.items ≤ most)) }
+    {
         let mut bytes = Vec::new(alloc);
         for _ in 0..u64::MAX {
             if self.from >= self.until && !self.fill()? {
@@ -113,7 +122,9 @@ impl<R: Read + Drop> Lines<R> {
 }
 
 /// All that is read, as a message.
-pub fn message<R: Read + Drop>(alloc: Global, mut lines: Lines<R>) -> Result<Vec<u8>, Failure> {
+pub fn message<R: Read + Drop>(alloc: Global, mut lines: Lines<R>) -> Result<Vec<u8>, Failure>
+    ensures { IfOk result (λ message. length message.items ≤ 16777216) }
+{
     match lines.rest(alloc, MOST_BYTES) {
         Ok(Some(message)) => Ok(message),
         Ok(None) => Err(Failure::from(Trouble::TooLong)),
@@ -122,7 +133,9 @@ pub fn message<R: Read + Drop>(alloc: Global, mut lines: Lines<R>) -> Result<Vec
 }
 
 // The bytes up to the first that ends a line and with it, and whether there is one.
-fn cut(bytes: &[u8], end: u8) -> (&[u8], bool) {
+fn cut(bytes: &[u8], end: u8) -> (&[u8], bool)
+    ensures { (result.0.now, result.1) ≡ cut end bytes.now }
+{
     match memchr(end, bytes) {
         Some(at) => (&bytes[..at + 1], true),
         None => (bytes, false),
@@ -130,6 +143,8 @@ fn cut(bytes: &[u8], end: u8) -> (&[u8], bool) {
 }
 
 // The bytes from one position to another, and none where there are no such.
-fn part(bytes: &[u8], from: usize, until: usize) -> &[u8] {
+fn part(bytes: &[u8], from: usize, until: usize) -> &[u8]
+    ensures { result.now ≡ part from until bytes.now }
+{
     bytes.get(from..until).unwrap_or(&[])
 }

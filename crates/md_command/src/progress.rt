@@ -1,5 +1,5 @@
 //! How many messages are done, said on a terminal.
-ghost use Rattle.std.specs.Prelude.{◌≡◌, IfOk};
+ghost use Rattle.std.specs.Prelude.{◌≡◌, ◌+◌, min, IfOk};
 ghost use Rattle.md_command.specs.Lines.{progress_line as line_of};
 
 use crate::number::push_number;
@@ -22,7 +22,9 @@ pub struct Progress {
 
 impl Progress {
     /// None is done.
-    pub fn new<R: Host>(session: &Session<'_, R>) -> Progress {
+    pub fn new<R: Host>(session: &Session<'_, R>) -> Progress
+        ensures { result.count ≡ 0 }
+    {
         Progress {
             count: 0,
             second: second_of(session),
@@ -31,7 +33,9 @@ impl Progress {
     }
 
     /// One more is done. In its first second work is not long, and the terminal is not asked for.
-    pub fn step<R: Host>(&mut self, session: &Session<'_, R>) {
+    pub fn step<R: Host>(&mut self, session: &Session<'_, R>)
+        ensures { self.new.count ≡ min (self.old.count + 1) 18446744073709551615 }
+    {
         self.count = self.count.saturating_add(1);
         let now = second_of(session);
         if now == self.second {
@@ -43,7 +47,9 @@ impl Progress {
         }
     }
 
-    fn say<R: Host>(&mut self, session: &Session<'_, R>) {
+    fn say<R: Host>(&mut self, session: &Session<'_, R>)
+        ensures { self.new.count ≡ self.old.count }
+    {
         if let Ok(line) = progress_line(session.alloc, self.count) {
             session.say(line.as_slice());
             self.has_said = true;
