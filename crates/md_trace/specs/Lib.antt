@@ -1,1 +1,3 @@
+pub mod Growing
 pub mod Notes
+pub mod Steps

@@ -1,15 +1,23 @@
 //! Steps, as a log has them: the directory call with its paths and its reply, and the effect as a comment.
+ghost use Rattle.std.specs.Prelude.{◌++◌, ◌<◌, ◌≤◌, codes, IsSome};
+ghost use Rattle.std.specs.Fmt.{decimal};
+ghost use Rattle.md_trace.specs.Growing.{Grows, most, path_text};
+ghost use Rattle.md_trace.specs.Steps.{change_text, noted_text};
+
 use crate::noted::{Noted, NotedDirs};
 use crate::rows::push_names;
 use crate::text::Log;
 use md_core::{Change, DirCall, DirReply, Event, StepOut};
-use md_dirs::Dirs;
+use md_dirs::{Dirs, Place};
 use md_script::PlayKind;
 use md_text::place_text;
 
 /// `MOMENT job`, the beginning of a line of a job. The moment is the step's own: the clock of a log is the greatest so far, as that of a
 /// store.
-pub(crate) fn push_begin(log: &mut Log, event: Event) {
+pub(crate) fn push_begin(log: &mut Log, event: Event)
+    ensures grows { event.now ≤ most → Grows (decimal event.now ++ codes " job") log.old log.new }
+    ensures refused { most < event.now → IsSome log.new.refused }
+{
     log.push_seconds(event.now);
     log.push(b" job");
 }
@@ -33,7 +41,9 @@ pub(crate) fn push_step<D: Dirs>(log: &mut Log, dirs: &NotedDirs<D>, event: Even
     log.push(b"\n");
 }
 
-fn push_noted(log: &mut Log, noted: &Noted) {
+fn push_noted(log: &mut Log, noted: &Noted)
+    ensures { Grows (noted_text log.old noted.now) log.old log.new }
+{
     match noted {
         Noted::One(path) => log.push_path(path.folder, path.place, path.name.as_slice()),
         Noted::Two { old, new } => {
@@ -70,20 +80,24 @@ fn reply_text(reply: DirReply) -> &'static [u8] {
 }
 
 /// `# effect` and the change: `add PATH SIZE`, `rename PATH PATH`, `remove PATH` or `same`.
-pub(crate) fn push_effect(log: &mut Log, change: &Change) {
+pub(crate) fn push_effect(log: &mut Log, change: &Change)
+    ensures { Grows (codes "# effect " ++ change_text log.old change.now ++ codes "\n") log.old log.new }
+{
     log.push(b"# effect ");
+    push_change(log, change);
+    log.push(b"\n");
+}
+
+fn push_change(log: &mut Log, change: &Change)
+    ensures { Grows (change_text log.old change.now) log.old log.new }
+{
     match change {
         Change::Add {
             folder,
             place,
             name,
             size,
-        } => {
-            log.push(b"add");
-            log.push_path(*folder, *place, name.as_slice());
-            log.push(b" ");
-            log.push_number(*size);
-        }
+        } => push_add(log, *folder, *place, name.as_slice(), *size),
         Change::Rename {
             folder,
             place,
@@ -92,19 +106,30 @@ pub(crate) fn push_effect(log: &mut Log, change: &Change) {
             to_place,
             to_name,
         } => {
-            log.push(b"rename");
-            log.push_path(*folder, *place, name.as_slice());
+            push_at(log, b"rename", *folder, *place, name.as_slice());
             log.push_path(*to_folder, *to_place, to_name.as_slice());
         }
         Change::Remove {
             folder,
             place,
             name,
-        } => {
-            log.push(b"remove");
-            log.push_path(*folder, *place, name.as_slice());
-        }
+        } => push_at(log, b"remove", *folder, *place, name.as_slice()),
         Change::Same => log.push(b"same"),
     }
-    log.push(b"\n");
+}
+
+fn push_add(log: &mut Log, folder: u32, place: Place, name: &[u8], size: u64)
+    ensures { Grows (codes "add" ++ path_text log.old folder place name.now ++ codes " " ++ decimal size) log.old log.new }
+{
+    push_at(log, b"add", folder, place, name);
+    log.push(b" ");
+    log.push_number(size);
+}
+
+// A word, and the path that it is of.
+fn push_at(log: &mut Log, word: &[u8], folder: u32, place: Place, name: &[u8])
+    ensures { Grows (word.now ++ path_text log.old folder place name.now) log.old log.new }
+{
+    log.push(word);
+    log.push_path(folder, place, name);
 }

@@ -1,4 +1,11 @@
 //! A log that grows.
+ghost use Rattle.std.specs.Prelude.{◌≡◌, ◌<◌, ◌≤◌, ◌++◌, [], None, Some, IfOk, IfErr, IsErr, IsSome, length};
+ghost use Rattle.std.specs.Fmt.{decimal};
+ghost use Rattle.md_text.specs.Places.{place_text};
+ghost use Rattle.md_script.specs.declared.error.PlayKind.{PlayKind};
+ghost use Rattle.md_script.specs.declared.error.PlayKind.TheVariants.{NoMemory};
+ghost use Rattle.md_trace.specs.Growing.{Grows, most, escape_name, name_text, folder_in, message_text, path_text, refusal_of, kept_text};
+
 use itoa::Buffer;
 use md_core::Answer;
 use md_dirs::Place;
@@ -44,7 +51,11 @@ impl Log {
     }
 
     /// A line of the script is run from here on.
-    pub(crate) fn begin_line(&mut self, number: u64) {
+    pub(crate) fn begin_line(&mut self, number: u64)
+        ensures begun { self.old.refused ≡ None → (self.new.line ≡ number) × (self.new.before ≡ length self.old.text.items) }
+        ensures same { (self.new.text ≡ self.old.text) × ((self.new.folders ≡ self.old.folders) × (self.new.refused ≡ self.old.refused)) }
+        ensures stays { (kind : PlayKind) → self.old.refused ≡ Some kind → self.new ≡ self.old }
+    {
         if self.refused.is_none() {
             self.line = number;
             self.before = self.text.len();
@@ -52,7 +63,12 @@ impl Log {
     }
 
     /// The log of a script that was refused so, or not at all. A refused line says nothing in it, and the log's own refusal came first.
-    pub(crate) fn end(mut self, refusal: Option<PlayError>) -> Result<Printed, PlayKind> {
+    pub(crate) fn end(mut self, refusal: Option<PlayError>) -> Result<Printed, PlayKind>
+        ensures ok { IfOk result (λ printed. (printed.refusal ≡ refusal_of self.line self.refused refusal)
+            × (printed.text.items ≡ kept_text printed.refusal self.before self.text.items)) }
+        ensures err { IfErr result (λ kind. (kind ≡ NoMemory) × (self.refused ≡ Some NoMemory)) }
+        ensures refused { self.refused ≡ Some NoMemory → IsErr result }
+    {
         let refusal = match self.refused {
             Some(PlayKind::NoMemory) => return Err(PlayKind::NoMemory),
             Some(kind) => Some(PlayError {
@@ -71,32 +87,44 @@ impl Log {
     }
 
     /// What memory is taken from.
-    pub(crate) fn alloc(&self) -> Global {
+    pub(crate) fn alloc(&self) -> Global
+        ensures { result ≡ self.now.alloc }
+    {
         self.alloc
     }
 
     /// Takes nothing more from here on.
-    pub(crate) fn refuse(&mut self, kind: PlayKind) {
+    pub(crate) fn refuse(&mut self, kind: PlayKind)
+        ensures refused { self.old.refused ≡ None → self.new ≡ record self.old { refused = Some kind } }
+        ensures stays { (first : PlayKind) → self.old.refused ≡ Some first → self.new ≡ self.old }
+    {
         if self.refused.is_none() {
             self.refused = Some(kind);
         }
     }
 
     /// Appends bytes as they are. `NoMemory` is kept where there is none.
-    pub(crate) fn push(&mut self, bytes: &[u8]) {
+    pub(crate) fn push(&mut self, bytes: &[u8])
+        ensures { Grows bytes.now self.old self.new }
+    {
         if self.refused.is_none() && self.text.extend_from_slice(bytes).is_err() {
             self.refuse(PlayKind::NoMemory);
         }
     }
 
     /// Appends a number in decimal.
-    pub(crate) fn push_number(&mut self, number: u64) {
+    pub(crate) fn push_number(&mut self, number: u64)
+        ensures { Grows (decimal number) self.old self.new }
+    {
         let mut buffer = Buffer::new();
         self.push(buffer.format(number).as_bytes());
     }
 
     /// A moment or a stamp, in seconds. `BadNumber` is kept where a log has no such number.
-    pub(crate) fn push_seconds(&mut self, seconds: u64) {
+    pub(crate) fn push_seconds(&mut self, seconds: u64)
+        ensures grows { seconds ≤ most → Grows (decimal seconds) self.old self.new }
+        ensures refused { most < seconds → IsSome self.new.refused }
+    {
         if seconds > MOST {
             self.refuse(PlayKind::BadNumber);
         }
@@ -126,15 +154,23 @@ impl Log {
     }
 
     /// Appends a name, with the four escapes of a log.
-    pub(crate) fn push_name(&mut self, name: &[u8]) {
+    pub(crate) fn push_name(&mut self, name: &[u8])
+        ensures { Grows (name_text name.now) self.old self.new }
+    {
         for byte in name {
-            match *byte {
-                b' ' => self.push(b"\\s"),
-                b'\n' => self.push(b"\\n"),
-                b'\r' => self.push(b"\\r"),
-                b'\\' => self.push(b"\\\\"),
-                other => self.push(&[other]),
-            }
+            self.push_byte(*byte);
+        }
+    }
+
+    fn push_byte(&mut self, byte: u8)
+        ensures { Grows (escape_name byte) self.old self.new }
+    {
+        match byte {
+            b' ' => self.push(b"\\s"),
+            b'\n' => self.push(b"\\n"),
+            b'\r' => self.push(b"\\r"),
+            b'\\' => self.push(b"\\\\"),
+            other => self.push(&[other]),
         }
     }
 
@@ -154,7 +190,9 @@ impl Log {
     }
 
     /// Appends the name of a folder by its number.
-    pub(crate) fn push_folder(&mut self, folder: u32) {
+    pub(crate) fn push_folder(&mut self, folder: u32)
+        ensures { Grows (folder_in self.old folder) self.old self.new }
+    {
         let folders = replace(&mut self.folders, Vec::new(self.alloc));
         if let Some(name) = folders.get(folder as usize) {
             self.push_name(name);
@@ -163,7 +201,9 @@ impl Log {
     }
 
     /// Appends a space and `FOLDER UNIQUE`.
-    pub(crate) fn push_message(&mut self, folder: u32, unique: &[u8]) {
+    pub(crate) fn push_message(&mut self, folder: u32, unique: &[u8])
+        ensures { Grows (message_text self.old folder unique.now) self.old self.new }
+    {
         self.push(b" ");
         self.push_folder(folder);
         self.push(b" ");
@@ -171,7 +211,9 @@ impl Log {
     }
 
     /// Appends a space and `FOLDER/PLACE/NAME`.
-    pub(crate) fn push_path(&mut self, folder: u32, place: Place, name: &[u8]) {
+    pub(crate) fn push_path(&mut self, folder: u32, place: Place, name: &[u8])
+        ensures { Grows (path_text self.old folder place name.now) self.old self.new }
+    {
         self.push(b" ");
         self.push_folder(folder);
         self.push(b"/");

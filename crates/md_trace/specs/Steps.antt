@@ -1,0 +1,24 @@
+-- Steps and their effects, as a log has them.
+use Rattle.std.specs.Prelude.{ℕ, List, ◌++◌, codes}
+use Rattle.std.specs.Fmt.{decimal}
+use Rattle.md_core.specs.declared.Change.{Change}
+use Rattle.md_core.specs.declared.Change.TheVariants as change
+use Rattle.md_text.specs.Places.{place_text}
+use Rattle.md_trace.specs.declared.noted.Noted.{Noted}
+use Rattle.md_trace.specs.declared.noted.Noted.TheVariants as noted
+use Rattle.md_trace.specs.declared.text.Log.{Log}
+use Rattle.md_trace.specs.Growing.{folder_in, path_text}
+
+-- what a call was made of
+abbrev pub noted_text : Log → Noted → List ℕ
+noted_text log (noted.One path) = path_text log path.folder path.place path.name
+noted_text log (noted.Two old new) = path_text log old.folder old.place old.name ++ path_text log new.folder new.place new.name
+noted_text log (noted.Directory folder place) = codes " " ++ folder_in log folder ++ codes " " ++ place_text place
+
+-- a change
+abbrev pub change_text : Log → Change → List ℕ
+change_text log (change.Add folder place name size) = codes "add" ++ path_text log folder place name ++ codes " " ++ decimal size
+change_text log (change.Rename folder place name to to_place to_name) =
+    codes "rename" ++ path_text log folder place name ++ path_text log to to_place to_name
+change_text log (change.Remove folder place name) = codes "remove" ++ path_text log folder place name
+change_text log change.Same = codes "same"
