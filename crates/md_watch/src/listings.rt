@@ -307,6 +307,7 @@ impl Listing {
     }
 }
 
+/// Adds names to others.
 fn join_names(
     names: &mut IndexSet<NameKey<'static>>,
     more: IndexSet<NameKey<'static>>,

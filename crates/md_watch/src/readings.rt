@@ -75,12 +75,14 @@ impl Reading {
     }
 }
 
+/// No names. One function makes both sets of a reading, since it is slow to prove of each that it is empty.
 fn no_names(alloc: Global) -> IndexSet<NameKey<'static>>
     ensures { (name : List ℕ) → contains bytes_eq result name ≡ false }
 {
     IndexSet::new(alloc)
 }
 
+/// Whether a name is among these.
 pub(crate) fn has(names: &IndexSet<NameKey<'static>>, name: &[u8]) -> bool
     ensures { result ≡ contains bytes_eq names.now name.now }
 {

@@ -192,6 +192,7 @@ impl Watch {
     }
 }
 
+/// Takes in what a step does to a file. It holds no more of the watch than that, which keeps its proof short.
 fn touch(
     alloc: Global,
     files: &mut Files,
