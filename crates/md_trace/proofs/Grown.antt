@@ -28,7 +28,8 @@ also_byte {l} {m} {n} name i d low first second =
     subst (λ text. Grows text l n) more (also first second)
 
 -- A log that grows keeps the names of its folders.
-pub at_folder : {bytes : List ℕ} {l m n : Log} → Grows bytes l m → (folder : ℕ) → Grows (folder_in m folder) m n → Grows (folder_in l folder) m n
+pub at_folder : {bytes : List ℕ} {l m n : Log} → Grows bytes l m → (folder : ℕ) → Grows (folder_in m folder) m n
+    → Grows (folder_in l folder) m n
 at_folder {bytes} {l} {m} {n} grown folder more =
     let same = ap (λ folders. folder_text (option_map (λ name. name.items) (slice_get folders.items folder))) grown.folders in
     subst (λ text. Grows text m n) same more
