@@ -1,5 +1,5 @@
 //! Steps with ticks that follow one another in a log, and wait for an order.
-ghost use Rattle.std.specs.Prelude.{◌≡◌, ◌↔◌, [], Some, false, IsTrue, IfSome, OnOk, length, slice_get, unwrap_or};
+ghost use Rattle.std.specs.Prelude.{◌≡◌, ◌↔◌, [], Some, false, IsTrue, IfOk, IfSome, OnOk, length, slice_get, unwrap_or};
 ghost use Rattle.md_judge.specs.Placed.{AddsWaiting, TakesAt, KeepsTicks, ticks_of};
 
 use md_log::{Step, Ticks};
@@ -67,8 +67,8 @@ impl Stretch {
     ) -> Result<(), AllocError>
         ensures { OnOk result (AddsWaiting line step self.old self.new) }
     {
-        let text = Vec::from_slice(alloc, text)?;
-        self.steps.push(Some(Waiting { step, text }))?;
+        let waiting = wait(alloc, step, text)?;
+        self.steps.push(Some(waiting))?;
         self.lines.push(line)?;
         Ok(())
     }
@@ -127,4 +127,11 @@ impl Stretch {
         self.steps.clear();
         self.lines.clear();
     }
+}
+
+fn wait(alloc: Global, step: Step, text: &[u8]) -> Result<Waiting, AllocError>
+    ensures { IfOk result (λ w. w.step ≡ step) }
+{
+    let text = Vec::from_slice(alloc, text)?;
+    Ok(Waiting { step, text })
 }

@@ -22,6 +22,10 @@ impl Directory {
 /// The number of a directory, and a name: one in it, or that of an actor who reads it.
 type Key<'a> = (usize, NameKey<'a>);
 
+fn nothing<'a, V>(alloc: Global) -> IndexMap<Key<'a>, V> {
+    IndexMap::new(alloc)
+}
+
 /// The steps in the order of the log, and what is asked of the watch, once for each path and reader.
 #[derive(Drop)]
 pub(super) struct Numbers<'a> {
@@ -46,8 +50,8 @@ impl<'a> Numbers<'a> {
             watch,
             begin: watch.steps(),
             steps: Vec::new(alloc),
-            paths: IndexMap::new(alloc),
-            readers: IndexMap::new(alloc),
+            paths: nothing(alloc),
+            readers: nothing(alloc),
             shown: Vec::new(alloc),
             there: BTreeMap::new(alloc),
         }
