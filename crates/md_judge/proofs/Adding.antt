@@ -30,14 +30,6 @@ adds-one c o n before fs gs P broken more m =
       ]),
     )
 
--- one that is not broken adds none
-pub adds-none : (c o : Clause) (n : ℕ) (fs : List Finding) (P : Clause → Type 0) → (P c → ⊥)
-    → (m : ℕ) → IsAmong fs m o ↔ (IsAmong fs m o ⊎ ((n ≡ m) × ((c ≡ o) × P o)))
-adds-none c o n fs P none m = (
-  λ was. inl was,
-  λ some. elim some [ inl was ↦ was | inr one ↦ absurd (none (subst P (sym one.1.0) one.1.1)) ],
-)
-
 -- the clauses have their numbers
 pub clauses-numbered : HaveNumbersFrom 0 clauses
 clauses-numbered = search

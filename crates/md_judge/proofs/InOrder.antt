@@ -134,10 +134,6 @@ module _ (l : Log) (order : List ℕ) (i : ℕ) where
       ];
     }
 
-    -- the step stands last in it
-    pub stands-last : slice_get m'.steps (length order) ≡ Some one
-    stands-last = ap (slice_get (m.steps ++ one ∷ [])) (sym same.many) ∙ last-is m.steps one
-
     -- what is found is what was, and what the step breaks
     pub found-next : (number : ℕ) (c : Clause) → IsFindingIn next l m' number c
         ↔ (IsFindingIn order l m number c ⊎ ((y.number ≡ number) × (IsAllowed l c → ⊥) × Breaks c (history m' (suc (length order)))))

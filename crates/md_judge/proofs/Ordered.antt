@@ -7,12 +7,6 @@ use Rattle.md_log.specs.Texts.{clause_index}
 use Rattle.md_judge.specs.Verdict.{IsEarlier, AreEarlier, AreInOrder}
 use Rattle.md_judge.proofs.Lists.{one-more}
 
--- where nothing is found
-pub none-ordered : (fs : List Finding) → fs ≡ [] → AreInOrder fs
-none-ordered fs none a b f g up first last =
-    let is : slice_get [] a ≡ Some f = subst (λ (hs : List Finding). slice_get hs a ≡ Some f) none first in
-    absurd (cc is)
-
 -- what is earlier than a clause is earlier than those after it
 still-earlier : (f : Finding) (line i k : ℕ) → i ≤ k → IsEarlier f line i → IsEarlier f line k
 still-earlier f line i k up earlier = elim earlier [

@@ -1,25 +1,22 @@
 -- What a session holds that reads a log in which calls may overlap, line by line.
-use Rattle.std.proofs.Common.{ℕ, suc, ◌≡◌, ◌≢◌, ◌<◌, ◌+◌, inl, inr, ◌↔◌, List, [], ◌∷◌, ◌++◌, Option, Some, None, is_some, Result, Ok, Err, IfErr, length, true, false, slice_get, refl, sym, ap, subst, ◌∙◌, arith}
+use Rattle.std.proofs.Common.{ℕ, suc, ◌≡◌, ◌≢◌, ◌+◌, inl, inr, ◌↔◌, List, [], ◌∷◌, ◌++◌, Option, Some, None, is_some, length, true, false, slice_get, refl, sym, ap, subst, ◌∙◌, arith}
 use Rattle.std.proofs.lemmas.List.{length_push}
 use Rattle.std.proofs.lemmas.Option.{slice_get_within}
 use Rattle.md_log.specs.declared.clause.Clause.{Clause}
-use Rattle.md_log.specs.declared.error.LineFault.TheVariants.{NoMemory}
-use Rattle.md_log.specs.declared.error.LogFault.{LogFault}
-use Rattle.md_log.specs.declared.line.Line.{Line}
 use Rattle.md_log.specs.declared.line.Line.TheVariants as line
 use Rattle.md_log.specs.declared.line.Step.{Step}
 use Rattle.md_log.specs.declared.line.ticks.Ticks.{Ticks}
 use Rattle.md_judge.specs.declared.log.Finding.{Finding}
 use Rattle.md_judge.specs.declared.session.Session.{Session}
 use Rattle.md_judge.specs.declared.stretch.Stretch.{Stretch}
-use Rattle.md_judge.specs.Logs.{Log, Numbered, with_line, with_step}
-use Rattle.md_judge.specs.Orders.{AreFoundInOrder, IsFindingIn}
+use Rattle.md_judge.specs.Logs.{Log, Numbered, with_step}
+use Rattle.md_judge.specs.Orders.{AreFoundInOrder}
 use Rattle.md_judge.specs.Verdict.{HasNoTicks, IsAmong}
-use Rattle.md_judge.specs.Placed.{IsUnplaced, AddsWaiting, AreWaiting, MayComeNext, HasWaiting, HasPlaced, HasSettled, KeepsHead, Judges}
+use Rattle.md_judge.specs.Placed.{AddsWaiting, AreWaiting, MayComeNext, HasWaiting, HasPlaced, HasSettled, KeepsHead, Judges}
 use Rattle.md_judge.specs.Verdict.{history}
 use Rattle.md_judge.proofs.Judging.{judged-next, judged-longer, lines-longer}
 use Rattle.md_judge.proofs.Placing.{judged-on, waits-on}
-use Rattle.md_judge.proofs.Lists.{one-more, stays, last-is, stands-at, no-more}
+use Rattle.md_judge.proofs.Lists.{one-more, stays, last-is, stands-at}
 use Rattle.md_judge.proofs.Lines.{HasSame, begun-after}
 
 -- what waits is what waited where only other parts of the session change
@@ -37,11 +34,6 @@ ticks-none (Some t) is = absurd (cc is)
 pub ticks-some : (o : Option Ticks) → is_some o ≡ true → o ≢ None
 ticks-some None is none = cc is
 ticks-some (Some t) is none = cc none
-
--- where memory is refused nothing is said of the line
-pub memory-unplaced : {A : Type 0} (r : Result A LogFault) → IfErr r (λ e. e.fault ≡ NoMemory) → IfErr r (λ e. IsUnplaced e.fault)
-memory-unplaced (Ok x) is = tt
-memory-unplaced (Err e) is = inl is
 
 -- ---- one more step
 

@@ -1,9 +1,9 @@
-use Rattle.std.proofs.Common.{◌≡◌, true, refl, sym, ◌∙◌}
+use Rattle.std.proofs.Common.{◌≡◌, true, sym, ◌∙◌}
 use Rattle.md_watch.specs.Found.{breaks}
 use Rattle.md_judge.specs.Clauses.{Has}
 use Rattle.md_judge.proofs.AtLines.{one-at-lines}
 use Rattle.md_judge.proofs.Ordered.{one-ordered}
-use Rattle.md_judge.proofs.Adding.{adds-one, adds-none}
+use Rattle.md_judge.proofs.Adding.{adds-one}
 use Rattle.md_judge.proofs.session.Session.note.Goals as goal
 
 pub returns-in_ok-add-clause-found : goal.returns-in_ok-add-clause-found

@@ -1,7 +1,7 @@
 use Rattle.std.proofs.Common.{true, refl, sym, ◌∙◌}
 use Rattle.md_judge.specs.declared.session.Session.{Session}
 use Rattle.md_judge.proofs.Answering.{on-ok-by, on-ok-same}
-use Rattle.md_judge.proofs.Placed.{waits-same, step-settles, step-waits, ticks-none, ticks-some, memory-unplaced}
+use Rattle.md_judge.proofs.Placed.{waits-same, step-settles, step-waits, ticks-none, ticks-some}
 use Rattle.md_judge.proofs.session.Session.take_step.Goals as goal
 
 pub returns-in-Ok-clause-placed : goal.returns-in-Ok-clause-placed
