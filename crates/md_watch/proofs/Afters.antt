@@ -1,15 +1,10 @@
 -- What calls leave of the folders and the files of a state, and of its paths where they change none.
-use Rattle.std.proofs.Common.{ℕ, ◌≡◌, ◌+◌, ◌≤◌, true, false, cond, List, [], Option, Some, None, refl, sym, ap, ◌∙◌, length, slice_set, arith}
-use Rattle.std.specs.Ordering.{eq_by_cmp}
-use Rattle.std.specs.Cmp.{Equal-is}
-use Rattle.std.specs.FinMap.{get-remove}
+use Rattle.std.proofs.Common.{ℕ, ◌≡◌, ◌+◌, true, false, cond, List, [], Option, Some, None, refl, ap, ◌∙◌, length, slice_set}
 use Rattle.std.proofs.lemmas.List.{length_push, length-set}
-use Rattle.md_dirs.specs.Path.{path_cmp}
 use Rattle.md_dirs.specs.State.{State, file_at}
-use Rattle.md_dirs.specs.Calls.{Ask, is_one_file, with_path, without_path, with_files_still_named, files_still_named, has_path_to, after_append, after_unlink}
+use Rattle.md_dirs.specs.Calls.{Ask, is_one_file, with_path, without_path, with_files_still_named, files_still_named, has_path_to, after_append}
 use Rattle.md_dirs.specs.declared.paths.Path.{Path}
 use Rattle.md_dirs.specs.declared.paths.File.{File}
-use Rattle.md_dirs.proofs.PathOrder.{path_total, path_exact}
 use Rattle.md_log.specs.declared.line.Call.{Call}
 use Rattle.md_log.specs.declared.line.Call.TheVariants as call
 use Rattle.md_log.specs.declared.line.Reply.{Reply}
@@ -32,14 +27,6 @@ after-cases reply.More ask s P a b = a
 after-cases reply.Exists ask s P a b = a
 after-cases reply.NotFound ask s P a b = a
 after-cases reply.Fault ask s P a b = a
-
--- a call that was refused leaves the state
-pub refused-same : (r : Reply) → (r ≡ reply.Ok → ⊥) → (ask : Ask) (s : State) → after_ask r ask s ≡ s
-refused-same reply.Ok other ask s = absurd (other refl)
-refused-same reply.More other ask s = refl
-refused-same reply.Exists other ask s = refl
-refused-same reply.NotFound other ask s = refl
-refused-same reply.Fault other ask s = refl
 
 append-folders : (s : State) (now : ℕ) (n : Option ℕ) → (after_append [] now s n).folders ≡ s.folders
 append-folders s now None = refl
@@ -92,16 +79,6 @@ at-files deed.Flush r p now s = after-cases r (ask_at deed.Flush p now) s (λ t.
 at-files deed.Unlink r p now s =
     after-cases r (ask_at deed.Unlink p now) s (λ t. length t.files ≡ length s.files) refl (still-files _ (file_at s p) s.files)
 
-pub files-grow : (d : Deed) (r : Reply) (n : ℕ) → n ≤ files_after d r n
-files-grow deed.Create reply.Ok n = omega arith
-files-grow deed.Create reply.More n = omega arith
-files-grow deed.Create reply.Exists n = omega arith
-files-grow deed.Create reply.NotFound n = omega arith
-files-grow deed.Create reply.Fault n = omega arith
-files-grow deed.Write r n = omega arith
-files-grow deed.Flush r n = omega arith
-files-grow deed.Unlink r n = omega arith
-
 module _ (old new : Path) (s : State) where
   asked-between-folders : (n : Naming) → ((ask_between n old new).after s).folders ≡ s.folders
   asked-between-folders naming.Link = path-folders new s (file_at s old)
@@ -133,20 +110,3 @@ call-folders (call.At d p r) now s = at-folders d r p now s
 call-folders (call.Between n old new r) now s = between-folders old new s n r
 call-folders (call.List folder place r shown) now s = refl
 call-folders (call.Answer said folder unique) now s = refl
-
--- an unlink of a path that is not there changes none
-pub unlink-none : (p : Path) (s : State) → file_at s p ≡ None → (q : Path) → file_at (after_unlink p s) q ≡ file_at s q
-unlink-none p s free q = get-remove path_total s.names p q ∙
-    elim (eq_by_cmp path_cmp q p) as (λ t. eq_by_cmp path_cmp q p ≡ t → cond t None (file_at s q) ≡ file_at s q) [
-      | true ↦ λ t. let same : q ≡ p = path_exact q p ((Equal-is _).0 t) in sym (ap (file_at s) same ∙ free)
-      | false ↦ λ t. refl
-    ] refl
-
--- nor does a link or a rename of one that is not there
-pub between-none : (n : Naming) (old new : Path) (s : State) → file_at s old ≡ None
-    → (q : Path) → file_at ((ask_between n old new).after s) q ≡ file_at s q
-between-none naming.Link old new s free q = ap (λ x. file_at (with_path new s x) q) free
-between-none naming.Rename old new s free q =
-    ap (λ x. file_at (cond (is_one_file x (file_at s new)) s
-    (with_files_still_named (file_at s new) (with_path new (without_path old s) x))) q) free
-    ∙ unlink-none old s free q

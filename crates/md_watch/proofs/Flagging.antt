@@ -23,7 +23,7 @@ use Rattle.md_watch.specs.declared.flagged.Flagged.{Flagged}
 use Rattle.md_watch.specs.declared.spells.Spell.{Spell}
 use Rattle.md_kept.specs.Changes.{Turn}
 use Rattle.md_watch.specs.Flagged.{times, count_by as count_kept, spell_by, count_in, is_in, spell_in, Follows, Puts, flagged_times, AreFlagged}
-use Rattle.md_watch.specs.Spells.{since_of, ended_of, ever_by, Passes, IsSame, IsTimely}
+use Rattle.md_watch.specs.Spells.{since_of, ended_of, Passes, IsSame, IsTimely}
 use Rattle.md_watch.proofs.Counting.{one}
 use Rattle.md_watch.proofs.Letters.{word-shown}
 use Rattle.md_watch.proofs.Marking.{passes-alike}
@@ -186,10 +186,6 @@ module _ (t : Turn) (n : ℕ) (s s' : State) (recounts : Recounts t s s') (leave
 module _ (n : ℕ) (s : State) (w : Flagged) (are : AreFlagged n s w) (c : Claim) (flags : Set) (letters : IsOfLetters flags) where
   pub flags-shown : is_in w c.folder c.unique flags ≡ is_flagged s c flags
   flags-shown = ap (nat_lt 0) (are.counts c flags letters)
-
-  pub flags-ever : (first : ℕ) → ever_by (is_in w c.folder c.unique flags) (spell_in w c.folder c.unique flags) first
-      ≡ ever_by (is_flagged s c flags) (spell_in w c.folder c.unique flags) first
-  flags-ever first = ap (λ is. ever_by is (spell_in w c.folder c.unique flags) first) flags-shown
 
 -- ---- the beginning
 

@@ -1,12 +1,10 @@
 -- How a part of a reading goes on with it.
-use Rattle.std.proofs.Common.{ℕ, ◌≡◌, ◌+◌, ◌<◌, ◌==◌, ◌&&◌, ◌||◌, cond, List, [], ◌∷◌, Option, Some, None, Bool, true, false, length, take, get_or, refl, sym, ap, subst, ◌∙◌}
+use Rattle.std.proofs.Common.{ℕ, ◌≡◌, ◌==◌, ◌&&◌, ◌||◌, cond, List, [], Option, Some, None, Bool, true, false, refl, sym, ap, subst, ◌∙◌}
 use Rattle.std.specs.List.{list_any}
 use Rattle.std.specs.Str.{bytes_eq}
 use Rattle.std.proofs.lemmas.Bool.Decides.{Decides-eqb}
-use Rattle.std.proofs.lemmas.List.Folds.{list_any_more}
 use Rattle.indexmap.specs.IndexSet.{contains}
 use Rattle.md_dirs.specs.Path.{path_of}
-use Rattle.md_dirs.specs.declared.paths.Place.{Place}
 use Rattle.md_name.specs.Names.{unique_of}
 use Rattle.md_log.specs.declared.line.Reply.TheVariants as reply
 use Rattle.md_law.specs.Messages.{is_message}
@@ -22,30 +20,6 @@ use Rattle.md_kept.specs.Directories.{directory_in}
 use Rattle.md_watch.specs.Readings.{Adds, IsTakenIn, TakesIn, TakesPart, begun_of, has_shown, is_named, lacks, reading_in, shows_other}
 use Rattle.md_kept.specs.Tables.{Puts, value_at, is_key}
 use Rattle.md_kept.proofs.Keys.{key-is}
-
--- ---- names that are added one by one
-
-swap : (a b c : Bool) → ((a || false) || (b || c)) ≡ ((b || a) || c)
-swap true true c = refl
-swap true false c = refl
-swap false true c = refl
-swap false false c = refl
-
-pub adds-none : (place : Place) (r : Reading) → Adds place [] r r
-adds-none place r = record { begun = refl; names = λ name. refl; uniques = λ unique. refl }
-
-pub adds-more : (place : Place) (shown : List (List ℕ)) (i : ℕ) (d : List ℕ) (old mid new : Reading) → i < length shown
-    → Adds place (take i shown) old mid → Adds place (get_or shown i d ∷ []) mid new → Adds place (take (i + 1) shown) old new
-adds-more place shown i d old mid new low adds more = record {
-  begun = more.begun ∙ adds.begun;
-  names = λ name. more.names name ∙ ap (λ b. (bytes_eq (get_or shown i d) name || false) || b) (adds.names name)
-      ∙ swap (bytes_eq (get_or shown i d) name) (list_any (λ other. bytes_eq other name) (take i shown)) (contains bytes_eq old.names name)
-      ∙ ap (λ b. b || contains bytes_eq old.names name) (sym (list_any_more (λ other. bytes_eq other name) shown i d low));
-  uniques = λ unique. more.uniques unique ∙ ap (λ b. (is_named place unique (get_or shown i d) || false) || b) (adds.uniques unique)
-      ∙ swap (is_named place unique (get_or shown i d)) (list_any (is_named place unique) (take i shown))
-      (contains bytes_eq old.uniques unique)
-      ∙ ap (λ b. b || contains bytes_eq old.uniques unique) (sym (list_any_more (is_named place unique) shown i d low));
-}
 
 -- ---- a part
 
