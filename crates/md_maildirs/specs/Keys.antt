@@ -1,5 +1,5 @@
 -- The messages that words name.
-use Rattle.std.specs.Prelude.{ℕ, not, ◌&&◌, ◌||◌, nat_eq, List, length, drop, Option, None, Some, if◌then◌else◌, codes}
+use Rattle.std.specs.Prelude.{ℕ, Bool, not, ◌&&◌, ◌||◌, nat_eq, List, length, drop, Option, None, Some, if◌then◌else◌, codes}
 use Rattle.std.specs.List.{list_any, starts_with}
 use Rattle.md_dirs.specs.declared.paths.Place.{Place}
 use Rattle.md_dirs.specs.declared.paths.Place.TheVariants.{New, Cur}
@@ -16,11 +16,13 @@ pub record Named : Type 0 where
 abbrev pub key_view : Key → Named
 key_view key = record { unique = key.unique.now; place = key.place; name = key.name.now }
 
--- the message of a name, which is a message's and one of a file
+-- whether a name is a message's and one of a file
+unfoldable pub is_named : List ℕ → Bool
+is_named name = is_message_name name && not (list_any (λ b. is_slash b || is_terminator b) name)
+
+-- the message of such a name
 abbrev pub named : Option Place → List ℕ → Option Named
-named place name =
-    if is_message_name name && not (list_any (λ b. is_slash b || is_terminator b) name)
-    then Some (record { unique = unique_of name; place = place; name = name }) else None
+named place name = if is_named name then Some (record { unique = unique_of name; place = place; name = name }) else None
 
 -- what stands behind the path of a maildir: `/new/` or `/cur/` and a name; or else the whole word is a name
 abbrev pub within : List ℕ → List ℕ → Option Named

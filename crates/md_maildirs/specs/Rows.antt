@@ -105,3 +105,7 @@ line_text with_headers place name headers =
 abbrev pub message_text : Shape → Place → List ℕ → Option Headers → List ℕ
 message_text shape place name headers =
     if shape.is_json then object_text place name headers else line_text shape.with_headers place name headers
+
+-- a flaw in a line: what it is, for people, the place and the name
+abbrev pub flaw_text : List ℕ → Place → List ℕ → List ℕ
+flaw_text kind place name = kind ++ tab ++ place_text place ++ tab ++ escaped name ++ codes "\n"

@@ -1,9 +1,10 @@
 //! Errands on the messages that words name.
 //!
 //! What a hint allows is done at once. All else waits, until one reading of the maildir serves many.
-ghost use Rattle.std.specs.Prelude.{◌≡◌, codes, IfOk};
+ghost use Rattle.std.specs.Prelude.{◌≡◌, Some, None, codes, IfOk, IfErr};
 ghost use Rattle.std.specs.FinSet as set;
-ghost use Rattle.md_maildirs.specs.Errands.{IsFor};
+ghost use Rattle.md_command.specs.declared.trouble.Trouble.TheVariants.{NoName};
+ghost use Rattle.md_maildirs.specs.Errands.{IsFor, errand_of};
 
 use crate::boxes::maildirs;
 use crate::causes::{errand_failure, trouble_of};
@@ -239,9 +240,11 @@ impl<'r, R: Host> Acting<'r, R> {
     }
 }
 
-// What an errand is for. A copy's has a fresh name.
+// What an errand is for. A copy's has this fresh name.
 fn purpose_of(act: &Act, fresh: Option<Bytes>) -> Result<Purpose, Failure>
-    ensures { IfOk result (λ purpose. IsFor act.now purpose) }
+    ensures kind { IfOk result (λ purpose. IsFor act.now purpose) }
+    ensures made { IfOk result (λ purpose. Some purpose ≡ errand_of act.now fresh) }
+    ensures refused { IfErr result (λ failure. (errand_of act.now fresh ≡ None) × (failure.trouble ≡ NoName)) }
 {
     match act {
         Act::Seen => Ok(Purpose::Seen(seen())),

@@ -1,9 +1,10 @@
 //! The maildirs of a command.
-ghost use Rattle.std.specs.Prelude.{◌≡◌, true, Ok, Some, IfErr, OnOk};
+ghost use Rattle.std.specs.Prelude.{◌≡◌, true, Ok, Some, IfErr, OnOk, MatchOption};
 ghost use Rattle.md_maildirs.specs.Causes.{trouble_of_box};
 
 use md_command::{Failure, Host, Session, Status, Trouble};
 use md_disk::{Calls, Disk, Folders, has_cur, is_maildir, make_maildir};
+use std::alloc::Global;
 use std::io;
 
 /// The maildirs of these paths, each of which must be there, with tmp, new and cur. A directory is flushed after a copy into it. When
@@ -50,12 +51,21 @@ fn must_be<R: Host>(
     ensures there { OnOk result (told ≡ Ok true) }
     ensures refused { IfErr result (λ failure. Some failure.trouble ≡ trouble_of_box told) }
 {
-    let failure = match told {
-        Ok(true) => return Ok(()),
-        Ok(false) => Failure::from(Trouble::NoMaildir),
-        Err(error) => Failure::of(session.alloc, Trouble::NoMaildir, &error),
-    };
-    Err(failure.at(session.alloc, path))
+    match refusal(session.alloc, told) {
+        None => Ok(()),
+        Some(failure) => Err(failure.at(session.alloc, path)),
+    }
+}
+
+// Why a path is no maildir's, as far as the system told.
+fn refusal(alloc: Global, told: io::Result<bool>) -> Option<Failure>
+    ensures { MatchOption result (told ≡ Ok true) (λ failure. Some failure.trouble ≡ trouble_of_box told) }
+{
+    match told {
+        Ok(true) => None,
+        Ok(false) => Some(Failure::from(Trouble::NoMaildir)),
+        Err(error) => Some(Failure::of(alloc, Trouble::NoMaildir, &error)),
+    }
 }
 
 /// Makes a maildir: its folder, and tmp, new and cur in it. What is there already stays as it is. Refused as `CannotMake`, `NoRights` or

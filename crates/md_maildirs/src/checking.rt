@@ -1,10 +1,14 @@
 //! What breaks the format of a maildir, printed.
+ghost use Rattle.std.specs.Prelude.{◌≡◌, ◌++◌, OnOk};
+ghost use Rattle.md_maildirs.specs.Rows.{flaw_text};
+
 use crate::boxes::maildirs;
 use crate::causes::failure_caused;
 use md_command::{Failure, Host, Session, Status, Trouble, print, push_escaped};
+use md_dirs::Place;
 use md_disk::check_folders;
 use md_jobs::DirReply;
-use md_system::Flaw;
+use md_system::{Flaw, FlawKind};
 use md_text::place_text;
 use std::alloc::{AllocError, Global};
 
@@ -31,13 +35,25 @@ fn lines_of(alloc: Global, flaws: &[Flaw]) -> Result<Vec<u8>, AllocError> {
     Ok(text)
 }
 
-// Appends what a flaw is, the place and the name.
+// Appends the line of a flaw.
 fn push_flaw(alloc: Global, text: &mut Vec<u8>, flaw: &Flaw) -> Result<(), AllocError> {
-    let kind = flaw.kind;
-    text.extend_from_slice(format!(in alloc; "{kind}")?.as_bytes())?;
+    let kind = kind_text(alloc, flaw.kind)?;
+    push_row(text, kind.as_bytes(), flaw.place, flaw.name.as_slice())
+}
+
+// What a flaw is, for people.
+fn kind_text(alloc: Global, kind: FlawKind) -> Result<String, AllocError> {
+    format!(in alloc; "{kind}")
+}
+
+// Appends what a flaw is, the place and the name.
+fn push_row(text: &mut Vec<u8>, kind: &[u8], place: Place, name: &[u8]) -> Result<(), AllocError>
+    ensures { OnOk result (text.new.items ≡ text.old.items ++ flaw_text kind.now place name.now) }
+{
+    text.extend_from_slice(kind)?;
     text.extend_from_slice(b"\t")?;
-    text.extend_from_slice(place_text(flaw.place))?;
+    text.extend_from_slice(place_text(place))?;
     text.extend_from_slice(b"\t")?;
-    push_escaped(text, flaw.name.as_slice())?;
+    push_escaped(text, name)?;
     text.extend_from_slice(b"\n")
 }

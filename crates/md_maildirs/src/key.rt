@@ -1,6 +1,7 @@
 //! How words name a message.
 ghost use Rattle.std.specs.Prelude.{◌≡◌, option_map};
-ghost use Rattle.md_maildirs.specs.Keys.{key_of, key_view, named as named_as};
+ghost use Rattle.md_maildirs.specs.Keys.{key_of, key_view, is_named, named as named_as};
+ghost use Rattle.md_name.specs.Names.{unique_of};
 
 use md_dirs::Place;
 use md_name::{holds_separator, is_message, unique_part};
@@ -39,13 +40,21 @@ fn named<'a>(place: Option<Place>, name: &'a [u8]) -> Option<Key<'a>>
     ensures { option_map key_view result ≡ named_as place name.now }
 {
     let unique = unique_part(name);
-    if is_message(name, unique) && !holds_separator(name) {
-        Some(Key {
-            unique,
-            place,
-            name,
-        })
-    } else {
-        None
+    if !is_named(name, unique) {
+        return None;
     }
+    Some(Key {
+        unique,
+        place,
+        name,
+    })
+}
+
+// Whether a name is a message's and one of a file, from its unique part.
+#[tactic(auto, unfolding(crate::specs::Keys::is_named))]
+fn is_named(name: &[u8], unique: &[u8]) -> bool
+    requires { unique.now ≡ unique_of name.now }
+    ensures { result ≡ is_named name.now }
+{
+    is_message(name, unique) && !holds_separator(name)
 }

@@ -86,7 +86,8 @@ fn push_listed<R: Host>(
     Ok(status)
 }
 
-// What the headers of a message say, as far as it can be read, and nothing where its name is not UTF-8. What fails is told, and is the status.
+// What the headers of a message say, as far as it can be read, and nothing where its name is not UTF-8. What fails is told, and is the
+// status.
 fn headers_of<R: Host>(
     session: &Session<'_, R>,
     maildir: &str,
