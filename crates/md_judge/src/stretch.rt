@@ -129,6 +129,7 @@ impl Stretch {
     }
 }
 
+/// A step that waits, with the text of its line.
 fn wait(alloc: Global, step: Step, text: &[u8]) -> Result<Waiting, AllocError>
     ensures { IfOk result (λ w. w.step ≡ step) }
 {

@@ -22,6 +22,7 @@ impl Directory {
 /// The number of a directory, and a name: one in it, or that of an actor who reads it.
 type Key<'a> = (usize, NameKey<'a>);
 
+/// A map of no key.
 fn nothing<'a, V>(alloc: Global) -> IndexMap<Key<'a>, V> {
     IndexMap::new(alloc)
 }
