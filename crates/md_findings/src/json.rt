@@ -5,7 +5,6 @@ ghost use Rattle.md_findings.specs.Json.{value_of};
 
 use crate::shown::Shown;
 use base64::engine::general_purpose::STANDARD;
-use md_command::is_text;
 use serde_json::{Value, json};
 use std::alloc::{AllocError, Global};
 
@@ -38,7 +37,10 @@ fn object_of(alloc: Global, shown: &Shown<'_>) -> Result<Value, AllocError> {
 fn key_for<'a>(words: &[u8], key: &'a str, base64_key: &'a str) -> &'a str
     ensures { result ≡ (if is_text words.now then key.entry else base64_key.entry) }
 {
-    if is_text(words) { key } else { base64_key }
+    match str::from_utf8(words) {
+        Ok(_) => key,
+        Err(_) => base64_key,
+    }
 }
 
 /// Words as text, or in base64 where they are none.
