@@ -48,8 +48,8 @@ IsLeft c clause.NotFlushed = IsDelivery c
 IsLeft c clause.Unlisted = LooksInBoth c
 IsLeft c b = ⊥
 
--- The promise of a job with no condition: each answer is true, no delivery is answered that its file in tmp was gone, and no step of the job
--- breaks a clause, but for those that are left.
+-- The promise of a job with no condition: each answer is true, no delivery is answered that its file in tmp was gone, and no step of the
+-- job breaks a clause, but for those that are left.
 pub record KeepsAll (t : Story) (job : ℕ) (c : Call) : Type 0 where
   pub promise : KeepsPromise t job c
   pub says : (a : Answer) → IsAnswered t job a → Says t job c a

@@ -5,7 +5,7 @@ pub use Rattle.md_dirs.specs.declared.paths.Path.{Path}
 pub use Rattle.md_dirs.specs.declared.paths.Place.{Place}
 pub use Rattle.md_dirs.specs.declared.paths.Place.TheVariants.{Tmp, New, Cur}
 pub use Rattle.md_dirs.specs.declared.rows.Row.{Row}
-pub use Rattle.md_name.specs.Letters.{Set}
+pub use Rattle.md_name.specs.Letters.{Set, is_same_set}
 pub use Rattle.md_name.specs.declared.info.Info.{Info}
 pub use Rattle.md_jobs.specs.declared.error.CoreError.{CoreError}
 pub use Rattle.md_jobs.specs.declared.call.Call.{Call}
@@ -71,4 +71,3 @@ pub use Rattle.md_jobs.specs.Tasks.Cleaning.{Cleaning}
 pub use Rattle.md_jobs.specs.Tasks.Deed.{Deed, Link, Rename, Unlink}
 pub use Rattle.md_jobs.specs.declared.purpose.Purpose.{Purpose}
 pub use Rattle.md_jobs.specs.declared.refusal.Refusal.{Refusal}
-pub use Rattle.md_jobs.specs.Sets.{is_same_set}

@@ -5,13 +5,12 @@ use Rattle.std.specs.FinSet as set
 use Rattle.md_dirs.specs.Path.{place_index}
 use Rattle.md_dirs.specs.declared.paths.Place.{Place}
 use Rattle.md_dirs.specs.declared.paths.Place.TheVariants.{New, Cur}
-use Rattle.md_name.specs.Letters.{Set, spelling}
+use Rattle.md_name.specs.Letters.{Set, spelling, is_same_set}
 use Rattle.md_name.specs.Names.{info_by, flags_of}
 use Rattle.md_jobs.specs.declared.call.Call.{Call}
 use Rattle.md_jobs.specs.declared.call.Call.TheVariants.{Deliver, Seen, Flag, Move, Expunge, Copy, Clean}
 use Rattle.md_jobs.specs.declared.answer.Answer.{Answer}
 use Rattle.md_jobs.specs.declared.answer.Answer.TheVariants as answer
-use Rattle.md_jobs.specs.Sets.{is_same_set}
 use Rattle.md_core.specs.Mailbox.{Entry, Mailbox}
 
 -- an answer, and the mailbox after it

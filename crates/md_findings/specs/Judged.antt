@@ -31,12 +31,12 @@ pub record IsLogOf (l : Log) (t : Story) : Type 0 where
 -- this order.
 abbrev pub IsClear : Log → List ℕ → List Finding → Story → Clause → Type 0
 IsClear l order findings t b = (IsAllowed l b → ⊥)
-    × ((k i number : ℕ) (x : Step) (line : Line) (actor : List ℕ) → step_at t k ≡ Some x → x.who ≡ another actor → slice_get order k ≡ Some i
-    → slice_get l.steps i ≡ Some (record { number = number; step = line }) → IsAmong findings number b → ⊥)
+    × ((k i number : ℕ) (x : Step) (line : Line) (actor : List ℕ) → step_at t k ≡ Some x → x.who ≡ another actor
+    → slice_get order k ≡ Some i → slice_get l.steps i ≡ Some (record { number = number; step = line }) → IsAmong findings number b → ⊥)
 
--- In a story whose names are ours and whose clocks are near, each job keeps all that it promises, if a judge of its log finds nothing, in the
--- steps of other programs, against the clauses that the calls of our jobs rely on. Where calls overlap, the story is that of the order in
--- which the judge has found them to take effect.
+-- In a story whose names are ours and whose clocks are near, each job keeps all that it promises, if a judge of its log finds nothing, in
+-- the steps of other programs, against the clauses that the calls of our jobs rely on. Where calls overlap, the story is that of the order
+-- in which the judge has found them to take effect.
 abbrev pub ClearLogsSuffice : Type 0
 ClearLogsSuffice = (t : Story) (l : Log) (findings : List Finding) (found : AreFoundInOrder l findings)
     → IsStory t → AreOurs t → AreNear t → IsLogOf found.log t

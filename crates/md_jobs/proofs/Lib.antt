@@ -1,5 +1,4 @@
 pub mod Performing
-pub mod Sets
 pub mod NoMemory
 pub mod Cases
 pub mod Turns

@@ -89,8 +89,8 @@ abbrev pub IsLinked : delivery.Stage → Type 0
 IsLinked delivery.Linked = Unit {0}
 IsLinked stage = ⊥
 
--- a step of a delivery answers that it is delivered only once it is linked, and as it takes its path in tmp away; and it is linked only by a
--- link that was done
+-- a step of a delivery answers that it is delivered only once it is linked, and as it takes its path in tmp away; and it is linked only by
+-- a link that was done
 pub record IsDeliveredByLink (d : Delivery) (asked : Asked) (r : DirReply) (after : After Delivery) : Type 0 where
   pub answered : after.answer ≡ Some answer.Delivered → IsLinked d.stage × (asked ≡ unlink d.tmp)
   pub linked : after.answer ≡ None → IsLinked after.task.stage → (r ≡ reply.Ok) × (asked ≡ link d.tmp (path d.tmp.folder New d.tmp.name))

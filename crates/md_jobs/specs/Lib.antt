@@ -1,4 +1,3 @@
-pub mod Sets
 pub mod Pieces
 pub mod Asked
 pub mod Turn

@@ -3,9 +3,9 @@
 ghost use Rattle.std.specs.Prelude.{◌≡◌, IfOk, IfErr, IfSome, OnErr, MatchResult};
 ghost use Rattle.md_dirs.specs.Calls.{Obeys};
 ghost use Rattle.md_jobs.specs.Tasks.Views.Errands.{deed_view};
+ghost use Rattle.md_name.specs.Letters.{is_same_set};
 ghost use Rattle.md_name.specs.Names.{flags_of, flagged};
 ghost use Rattle.md_jobs.specs.Requests.{request_view};
-ghost use Rattle.md_jobs.specs.Sets.{is_same_set};
 ghost use Rattle.md_jobs.specs.Turn.{IsUntouched};
 ghost use Rattle.md_jobs.specs.Asked.{ask_of, shown_call};
 ghost use Rattle.md_jobs.specs.Machines.Purposes.{first, searches, place_after, info_in, wanted as wanted_by, shown as shown_by, has_trashed, act_if as act_if_by, decide_flag, decide as decide_by, answer_by, name_copied, deed_by};

@@ -142,12 +142,3 @@ module _ (p : Path) (n : ℕ) (u : List ℕ) (old new : Messages) (after : Optio
       (ap times_by is ∙ ap Some goes.times ∙ ap (λ o. lesser (times_by o)) (sym was))
       (λ m. ap (λ o. file_by o m) is ∙ goes.files m ∙ ap (λ o. cond (n == m) (lesser (file_by o m)) (file_by o m)) (sym was))
       (λ f m. ap (λ o. was_in_as (folder_by o f) m) is ∙ goes.was_file f m ∙ ap (λ o. was_in_as (folder_by o f) m) (sym was))
-
-  -- of a message of which nothing is kept no path goes
-  pub none-went : after ≡ None → kept_of old u ≡ None → Goes (Some (p, n)) old new
-  none-went is none = leaves
-      (λ f. ap (λ o. times_in (folder_by o f)) is ∙ either (p.folder == f) None
-      ∙ ap (λ o. cond (p.folder == f) (lesser (times_in (folder_by o f))) (times_in (folder_by o f))) (sym none))
-      (ap times_by is ∙ ap (λ o. lesser (times_by o)) (sym none))
-      (λ m. ap (λ o. file_by o m) is ∙ either (n == m) None ∙ ap (λ o. cond (n == m) (lesser (file_by o m)) (file_by o m)) (sym none))
-      (λ f m. ap (λ o. was_in_as (folder_by o f) m) (is ∙ sym none))

@@ -1,16 +1,13 @@
 -- What a monitor keeps of answers is what the history tells.
 use Rattle.std.proofs.Common.{ℕ, ◌≡◌, ◌≢◌, ◌⊎◌, inl, inr, ◌&&◌, not, List, Some, Bool, true, false, refl, sym, ap, subst, ◌∙◌}
 use Rattle.std.specs.Bool.{Decides}
-use Rattle.std.specs.FinSet as set
-use Rattle.std.specs.Cmp.{nat_cmp_total}
-use Rattle.std.proofs.lemmas.Bool.{and_parts, and_from}
-use Rattle.std.proofs.lemmas.Bool.Decides.{Decides-eqb, Decides-and, Decides-or, Decides-not, Decides-like, same_from_decides}
+use Rattle.std.proofs.lemmas.Bool.Decides.{Decides-eqb, Decides-and, Decides-or, Decides-not, Decides-like}
 use Rattle.std.proofs.lemmas.Slice.Eq.{bytes_eq-Decides}
 use Rattle.md_dirs.specs.State.{file_at}
 use Rattle.md_dirs.specs.declared.paths.Path.{Path}
 use Rattle.md_dirs.specs.declared.paths.Place.{Place}
 use Rattle.md_dirs.specs.declared.paths.Place.TheVariants.{Tmp, New, Cur}
-use Rattle.md_name.specs.Letters.{Set}
+use Rattle.md_name.specs.Letters.{Set, is_same_set}
 use Rattle.md_name.specs.Names.{info_of, flags_of}
 use Rattle.md_log.specs.declared.line.Call.{Call}
 use Rattle.md_log.specs.declared.line.Call.TheVariants as call
@@ -24,11 +21,12 @@ use Rattle.md_law.specs.Messages.{is_tmp, IsOf, IsMessageAt, IsThere, ShowsFlags
 use Rattle.md_law.specs.Readings.{ShowsNames}
 use Rattle.md_law.specs.Answers.{Claim, TellsNothing, Own, IsAtWork, ActsBy, ActsOn, Looks, AddsMessage, TakesMessage, ChangesMessage}
 use Rattle.md_law.specs.Clauses.{IsLeft}
+use Rattle.md_name.proofs.SameSets.{same-sets, sets-same}
 use Rattle.md_monitor.specs.Changes.{change_of}
 use Rattle.md_monitor.specs.Files.{is_some_and}
 use Rattle.md_monitor.specs.Messages.{is_there}
 use Rattle.md_monitor.specs.Answers as found
-use Rattle.md_monitor.specs.Answers.{ClaimKept, claims_kept, claim_first, claim_after, is_same_set, is_flagged, is_told_by, acts_by, looks_by, is_unlink}
+use Rattle.md_monitor.specs.Answers.{ClaimKept, claims_kept, claim_first, claim_after, is_flagged, is_told_by, acts_by, looks_by, is_unlink}
 use Rattle.md_monitor.proofs.Tests.{some-and, ok-is, cur-is}
 use Rattle.md_monitor.proofs.Seeing.{some-where}
 use Rattle.md_monitor.proofs.Stepping.{is-call, is-by, changes}
@@ -41,13 +39,7 @@ use Rattle.md_monitor.proofs.Parts.{more-is}
 -- ---- what directories show of a message
 
 set-is : (a b : Set) → Decides (is_same_set a b) (a ≡ b)
-set-is a b = (
-  λ t. let both = and_parts _ _ t in set.same_set nat_cmp_total set.nat_cmp-IsAntisymmetric a b (λ q. same_from_decides _ _
-      (set.is_subset-contains nat_cmp_total a b both.0 q, set.is_subset-contains nat_cmp_total b a both.1 q) (λ t. t, λ t. t)),
-  λ same. and_from _ _
-      (set.contains-is_subset nat_cmp_total a b (λ q is. ap (λ (s : Set). set.contains s q) (sym same) ∙ is))
-      (set.contains-is_subset nat_cmp_total b a (λ q is. ap (λ (s : Set). set.contains s q) same ∙ is)),
-)
+set-is a b = (same-sets a b, sets-same a b)
 
 shows-is : (name : List ℕ) (flags : Set)
     → Decides (is_some_and (flags_of (info_of name)) (λ shown. is_same_set shown flags)) (ShowsFlags name flags)

@@ -1,9 +1,8 @@
 -- What a monitor keeps of answers, what of it changes with a step, and which clauses an answer breaks by that.
 use Rattle.std.specs.Prelude.{ℕ, List, Bool, true, false, not, ◌&&◌, ◌||◌, ◌==◌, nat_lt}
-use Rattle.std.specs.FinSet as set
 use Rattle.std.specs.Str.{bytes_eq}
 use Rattle.md_law.specs.Values.{State, Call, Reply, Said, Step}
-use Rattle.md_name.specs.Letters.{Set}
+use Rattle.md_name.specs.Letters.{Set, is_same_set}
 use Rattle.md_name.specs.Names.{info_of, flags_of}
 use Rattle.md_log.specs.declared.line.Call.TheVariants as call
 use Rattle.md_log.specs.declared.line.Deed.TheVariants as deed
@@ -36,10 +35,6 @@ pub record ClaimKept : Type 0 where
   pub was_flagged : Set → Bool
 
 -- ---- what directories show of a message
-
--- two sets have the same members
-abbrev pub is_same_set : Set → Set → Bool
-is_same_set a b = set.is_subset a b && set.is_subset b a
 
 -- cur has the message, by a name that shows these flags
 abbrev pub is_flagged : State → Claim → Set → Bool

@@ -7,4 +7,5 @@ pub mod Flagged
 pub mod Hosts
 pub mod Made
 pub mod Marks
+pub mod SameSets
 pub mod Sets

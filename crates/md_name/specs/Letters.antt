@@ -1,5 +1,5 @@
 -- The flags of a message: sets of ASCII letters, and how a set is written.
-use Rattle.std.specs.Prelude.{◌≡◌, ℕ, Bool, true, List, filter, codes}
+use Rattle.std.specs.Prelude.{◌≡◌, ◌&&◌, ℕ, Bool, true, List, filter, codes}
 use Rattle.std.specs.Char.{is_ascii_alphabetic}
 use Rattle.std.specs.Ordering.{nat_cmp}
 use Rattle.std.specs.FinSet as set
@@ -15,6 +15,10 @@ letters = codes "ABCDEFGHIJKLMNOPQRSTUVWXYZabcdefghijklmnopqrstuvwxyz"
 -- a finite set of numbers; two with the same members are equal
 abbrev pub Set : Type 0
 Set = set.FinSet nat_cmp
+
+-- whether two sets have the same letters
+abbrev pub is_same_set : Set → Set → Bool
+is_same_set a b = set.is_subset a b && set.is_subset b a
 
 -- each member is a letter
 pub record IsOfLetters (s : Set) : Type 0 where

@@ -23,7 +23,7 @@ use Rattle.md_script.specs.Commands.{Command, command_at}
 use Rattle.md_script.specs.Words.{Gives}
 use Rattle.md_script.specs.Step.{Steps}
 use Rattle.md_script.specs.Kinds.{core_kind}
-use Rattle.md_script.specs.Sessions.{unless_refused, submit_in, step_in, without_fault, event_refusal, step_text, Session, ScriptStore, on_run, obey, session_line}
+use Rattle.md_script.specs.Sessions.{unless_refused, submit_in, step_in, without_fault, event_refusal, step_text, Session, ScriptStore, obey, session_line}
 use Rattle.md_script.specs.Observing.{IsTaken}
 use Rattle.md_script.specs.Texts.{job_text, shown_text, out_text}
 
@@ -108,13 +108,6 @@ pub refused_too : {S T : Type 0} (o : Option CoreError) (done : S × List ℕ) (
 refused_too None done other s t text text' kind is = λ some. absurd (let no = (is some).0 in cc)
 refused_too (Some refusal) done other s t text text' kind is =
     λ some. (let same : Core refusal ≡ kind = (let given = (is some).0 in cc) in ap Err same, (is some).1)
-
--- what is done to the run of a store
-pub on-run : (t u : ScriptStore) (r : Run) (answer : Result (Run × List ℕ) PlayKind) (before after : List ℕ) (result : Result (Unit {0}) PlayKind)
-    → (let after : ScriptStore = record t { run = r } in after) ≡ u → Steps answer r before after result → Steps (on_run t answer) u before after result
-on-run t u r answer before after (Ok done) same is =
-    (is.0, ap (λ (x : Result (Run × List ℕ) PlayKind). on_run t x) is.1 ∙ (λ i. Ok (same i, is.0)), is.2)
-on-run t u r answer before after (Err kind) same is = λ some. (ap (λ (x : Result (Run × List ℕ) PlayKind). on_run t x) (is some).0, (is some).1)
 
 -- a line whose command was read
 pub obeyed : {S : Type 0} (step : Result (S × List ℕ) PlayKind) (read : Result Command PlayKind) (act : Command → Result (S × List ℕ) PlayKind)

@@ -1,5 +1,5 @@
 -- What the steps of a call tell.
-use Rattle.std.proofs.Common.{◌≡◌, ◌≤◌, ℕ, zero, suc, List, [], ◌∷◌, ◌++◌, Option, Some, None, Result, Ok, Err, IfSome, IfOk, IfErr, MatchResult, refl, sym, ap, ◌∙◌, subst, inl, inr, ⊎_elim, ◌⊎◌, ◌<◌, ◌+◌, length, slice_get, get_or, arith}
+use Rattle.std.proofs.Common.{◌≡◌, ◌≤◌, ℕ, zero, suc, List, [], ◌∷◌, ◌++◌, Option, Some, None, Result, Ok, Err, IfOk, IfErr, MatchResult, refl, sym, ap, ◌∙◌, subst, inl, inr, ⊎_elim, ◌⊎◌, ◌<◌, ◌+◌, length, slice_get, get_or, arith}
 use Rattle.std.proofs.lemmas.Option.{slice_get_cases}
 use Rattle.md_jobs.specs.declared.error.CoreError.{CoreError}
 use Rattle.md_jobs.specs.declared.error.CoreError.TheVariants as core
@@ -12,13 +12,12 @@ use Rattle.md_core.specs.Machine.{Standing, working, answered, job_at}
 use Rattle.md_core.specs.Runs.{Run, jobs_of, and_call, step_refusal, IsRefusal}
 use Rattle.md_core.specs.Submitting.{submit_refusal}
 use Rattle.md_core.specs.Stepping.{IsRun}
-use Rattle.md_core.specs.Trace.{IsAnswered, call_at}
+use Rattle.md_core.specs.Trace.{call_at}
 use Rattle.md_core.specs.Tracing.{trace_of}
 use Rattle.md_store.specs.declared.calling.CallError.{CallError}
-use Rattle.md_store.specs.declared.step.StoreStep.{StoreStep}
 use Rattle.md_store.specs.declared.calling.CallError.TheVariants.{Refused, NoMemory, Unanswered, Untold}
 use Rattle.md_store.specs.Calling.{RefusesSince, Accepts, StopsCall, GivesSince, AnswersCall, Answers, Leaves, Stops, Ends, plain_refusal, IsWhy}
-use Rattle.md_store.specs.Locks.{StepsSince, Stands, TellsSince}
+use Rattle.md_store.specs.Locks.{StepsSince, Stands}
 use Rattle.md_store.specs.Ongoing.{IsSince, GoesOn}
 use Rattle.md_store.specs.Pages.{Held}
 use Rattle.md_store.proofs.Ongoing.{goes_later}
@@ -166,13 +165,3 @@ module _ (begun r late : Run) (since : IsSince begun r) (run : IsRun r) (folders
       → IfErr res (λ y. y.call ≡ call) → IfErr res (λ y. (y.call ≡ call) × IsWhy call (plain_refusal folders call) y.error)
   comes-back (Ok job) checked is = tt
   comes-back (Err e) checked is = (is, checked)
-
--- a step that was told gives its answer
-pub gives-since : (begun : Run) (job now : ℕ) (own : Option ℕ) (s : StoreStep) (before after : Held) (a : Answer) → TellsSince begun job now own s before after
-    → s.out.answer ≡ Some a → GivesSince begun before.run after.run job now own a
-gives-since begun job now own s before after a t is = record {
-  out = s.out;
-  stepped = t.step;
-  answer = is;
-  answered = subst (λ (o : Option Answer). IfSome o (IsAnswered (trace_of after.run) job)) is t.answered;
-}

@@ -6,7 +6,7 @@ use Rattle.lists.proofs.Maps as maps
 use Rattle.md_dirs.specs.Path.{path_cmp}
 use Rattle.md_dirs.specs.State.{State, bare, file_at}
 use Rattle.md_dirs.specs.declared.paths.Path.{Path}
-use Rattle.md_name.specs.Letters.{Set, IsOfLetters}
+use Rattle.md_name.specs.Letters.{Set, IsOfLetters, is_same_set}
 use Rattle.md_name.specs.Names.{info_of, flags_of}
 use Rattle.md_name.specs.Words.{word_of}
 use Rattle.md_log.specs.declared.line.Call.{Call}
@@ -15,7 +15,7 @@ use Rattle.md_law.specs.Answers.{Claim}
 use Rattle.md_monitor.specs.Changes.{change_of, turned_by}
 use Rattle.md_monitor.specs.Files.{is_some_and, is_cur, count_where}
 use Rattle.md_monitor.specs.Messages.{is_of}
-use Rattle.md_monitor.specs.Answers.{is_flagged, is_same_set}
+use Rattle.md_monitor.specs.Answers.{is_flagged}
 use Rattle.md_monitor.proofs.Changing.{led, with_file-is}
 use Rattle.md_monitor.proofs.Recounting.{recount}
 use Rattle.md_monitor.proofs.Seeing.{some-where}

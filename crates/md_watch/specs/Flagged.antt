@@ -5,13 +5,13 @@ use Rattle.std.specs.Borrow.{Bor}
 use Rattle.std.specs.Option.{option_map}
 use Rattle.indexmap.specs.IndexMap.{get}
 use Rattle.md_law.specs.Values.{State, Path}
-use Rattle.md_name.specs.Letters.{Set, IsOfLetters}
+use Rattle.md_name.specs.Letters.{Set, IsOfLetters, is_same_set}
 use Rattle.md_name.specs.Names.{unique_of, info_of, flags_of, is_message_name}
 use Rattle.md_name.specs.Words.{word_of}
 use Rattle.md_law.specs.Answers.{Claim}
 use Rattle.md_monitor.specs.Files.{is_some_and, is_cur, count_where}
 use Rattle.md_monitor.specs.Messages.{is_of}
-use Rattle.md_monitor.specs.Answers.{is_flagged, is_same_set}
+use Rattle.md_monitor.specs.Answers.{is_flagged}
 use Rattle.md_watch.specs.declared.flagged.Showing.{Showing}
 use Rattle.md_watch.specs.declared.flagged.Shown.{Shown}
 use Rattle.md_watch.specs.declared.flagged.Flagged.{Flagged}

@@ -5,11 +5,10 @@ use Rattle.std.specs.FinSet as set
 use Rattle.md_dirs.specs.Path.{path_of as path}
 use Rattle.md_dirs.specs.declared.paths.Place.{Place}
 use Rattle.md_dirs.specs.declared.paths.Place.TheVariants.{New, Cur}
-use Rattle.md_name.specs.Letters.{Set}
+use Rattle.md_name.specs.Letters.{Set, is_same_set}
 use Rattle.md_name.specs.Names.{split_of, flags_of, flagged}
 use Rattle.md_name.specs.declared.info.Info.{Info}
 use Rattle.md_name.specs.declared.info.Info.TheVariants.{Bare, Two, Opaque}
-use Rattle.md_jobs.specs.Sets.{is_same_set}
 use Rattle.md_jobs.specs.declared.answer.Answer.{Answer}
 use Rattle.md_jobs.specs.declared.answer.Answer.TheVariants as answer
 use Rattle.md_jobs.specs.declared.purpose.Decision.{Decision}

@@ -1,5 +1,5 @@
 use Rattle.std.proofs.Common.{◌∙◌}
-use Rattle.md_jobs.proofs.Sets.{words-same}
+use Rattle.md_name.proofs.SameSets.{words-same}
 use Rattle.md_jobs.proofs.purpose.is_same.Goals as goal
 
 pub returns : goal.returns

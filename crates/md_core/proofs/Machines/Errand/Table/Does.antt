@@ -12,7 +12,7 @@ use Rattle.md_core.proofs.Induction.Good.{HasSize, ErrandFits, Does}
 use Rattle.md_core.proofs.Looking.LookUps.{IsRow, row-entry, info-in}
 use Rattle.md_core.proofs.Mailbox.Shown.{shows-mailbox}
 use Rattle.md_core.proofs.Machines.Stays.{as_after}
-use Rattle.md_jobs.proofs.Sets.{same-sets, subset-union}
+use Rattle.md_name.proofs.SameSets.{same-sets, subset-union}
 use Rattle.md_core.proofs.Machines.Errand.Table.Rows.{not-tmp, one-place, acts-flags, acts-flag, keeps-flag, test-keeps, acts-trashed}
 use Rattle.md_core.proofs.Machines.Errand.Marked.{alone-seen, alone-flags, alone-keeps, keeps-it, gives-flags}
 use Rattle.md_core.proofs.Machines.Errand.Moved.{rename-does}

@@ -4,9 +4,8 @@ use Rattle.std.proofs.lemmas.Bool.Decides.{nat_tests, eqb_tells}
 use Rattle.std.specs.Cmp.{nat_cmp_total}
 use Rattle.std.specs.FinSet as set
 use Rattle.std.proofs.lemmas.Bool.{and_parts, and_from, or_left}
-use Rattle.md_name.specs.Letters.{is_letter, Set, IsOfLetters}
+use Rattle.md_name.specs.Letters.{is_letter, Set, IsOfLetters, is_same_set}
 use Rattle.md_name.specs.Words.{word_by, word_of, place_of, letter_at}
-use Rattle.md_jobs.specs.Sets.{is_same_set}
 
 -- sets with the same letters are one
 pub same-sets : (a b : Set) → is_same_set a b ≡ true → a ≡ b
