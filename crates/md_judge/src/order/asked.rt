@@ -10,10 +10,19 @@ pub(super) type Name = usize;
 pub(super) const ALL: Name = usize::MAX;
 
 /// A path: the number of its directory, and its own.
-#[derive(Clone, Copy, PartialEq, Eq, PartialOrd, Ord)]
+#[derive(Clone, Copy, PartialEq, Eq)]
 pub(super) struct Spot {
     pub(super) directory: usize,
     pub(super) name: Name,
+}
+
+/// A path and a moment or a step, as sets and maps have them: the directory, the path and the number, in this order.
+pub(super) type SpotKey = (usize, Name, usize);
+
+impl Spot {
+    pub(super) fn key(self, number: usize) -> SpotKey {
+        (self.directory, self.name, number)
+    }
 }
 
 /// A call, as far as directories answer it.

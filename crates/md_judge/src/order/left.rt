@@ -1,5 +1,5 @@
 //! The steps that aren't placed yet, which of them may come next, and which of these go first or touch a path.
-use super::asked::{Asked, Deal, Spot};
+use super::asked::{Asked, Deal, SpotKey};
 use super::numbers::Numbers;
 use super::search::Way;
 use std::alloc::AllocError;
@@ -15,7 +15,7 @@ pub(super) struct Coming {
     /// stretches as free as they can.
     pub(super) first: BTreeSet<usize>,
     /// The paths that they name, `ALL` for a reading of a directory, each with the number of a step that names it.
-    pub(super) touching: BTreeSet<(Spot, usize)>,
+    pub(super) touching: BTreeSet<SpotKey>,
 }
 
 impl Coming {
@@ -25,8 +25,8 @@ impl Coming {
             self.first.insert(at)?;
         }
         if !matches!(step.deal, Deal::Answer) {
-            self.touching.insert((step.old, at))?;
-            self.touching.insert((step.new, at))?;
+            self.touching.insert(step.old.key(at))?;
+            self.touching.insert(step.new.key(at))?;
         }
         Ok(())
     }
@@ -34,8 +34,8 @@ impl Coming {
     fn remove(&mut self, at: usize, step: &Asked) {
         self.all.remove(&at);
         self.first.remove(&at);
-        self.touching.remove(&(step.old, at));
-        self.touching.remove(&(step.new, at));
+        self.touching.remove(&step.old.key(at));
+        self.touching.remove(&step.new.key(at));
     }
 }
 

@@ -1,7 +1,7 @@
 //! Calls that are tried on the directories and taken back: whether directories give their replies here.
 //!
 //! What a call did stands under its moment, so taking it out undoes the call.
-use super::asked::{ALL, Asked, Deal, Misfit, Name, Spot};
+use super::asked::{ALL, Asked, Deal, Misfit, Name, Spot, SpotKey};
 use super::numbers::Numbers;
 use md_log::{Deed, Naming, Reply};
 use md_watch::Presence;
@@ -24,7 +24,7 @@ struct Part {
 pub(super) struct Trial<'a> {
     numbers: &'a Numbers<'a>,
     /// By a path and a moment.
-    tried: BTreeMap<(Spot, usize), Presence>,
+    tried: BTreeMap<SpotKey, Presence>,
     /// By the number of a reader and a moment.
     parts: BTreeMap<(usize, usize), Part>,
     /// Of a part of a reading, by where its names begin, which of them it didn't fit for last.
@@ -62,8 +62,8 @@ impl<'a> Trial<'a> {
 
     /// What was tried of a path last, and its moment.
     fn last_tried(&self, spot: Spot) -> Option<(usize, Presence)> {
-        match self.tried.range(..=(spot, usize::MAX)).next_back() {
-            Some(((path, moment), tried)) if *path == spot => Some((*moment, *tried)),
+        match self.tried.range(..=spot.key(usize::MAX)).next_back() {
+            Some((key, tried)) if *key == spot.key(key.2) => Some((key.2, *tried)),
             _ => None,
         }
     }
@@ -168,13 +168,13 @@ impl<'a> Trial<'a> {
         }
         let mut looks = self.looks;
         let mut lacked = None;
-        for ((path, _), _) in self.tried.range((Spot { directory, name: 0 }, 0)..) {
-            if path.directory != directory {
+        for ((there, name, _), _) in self.tried.range((directory, 0, 0)..) {
+            if *there != directory {
                 break;
             }
             looks = looks.saturating_add(1);
-            if self.lacks(asked, first, &shown, path.name) {
-                lacked = Some(path.name);
+            if self.lacks(asked, first, &shown, *name) {
+                lacked = Some(*name);
                 break;
             }
         }
@@ -276,14 +276,14 @@ impl<'a> Trial<'a> {
     }
 
     fn put(&mut self, spot: Spot, now: usize, tried: Presence) -> Result<(), AllocError> {
-        self.tried.insert((spot, now), tried)?;
+        self.tried.insert(spot.key(now), tried)?;
         Ok(())
     }
 
     /// Takes back the call that was made at a moment.
     pub(super) fn undo(&mut self, asked: &Asked, now: usize) {
-        self.tried.remove(&(asked.old, now));
-        self.tried.remove(&(asked.new, now));
+        self.tried.remove(&asked.old.key(now));
+        self.tried.remove(&asked.new.key(now));
         self.parts.remove(&(asked.reader, now));
     }
 }

@@ -112,8 +112,8 @@ impl Search<'_> {
     /// Those of them that name a path of a directory from this to the last of these names.
     fn reach_from(&mut self, need: Need<'_>, from: Spot, last: Name) -> Result<(), AllocError> {
         let mut looks = 0usize;
-        for (spot, at) in self.left.coming.touching.range((from, 0)..) {
-            if spot.directory != from.directory || spot.name > last {
+        for (directory, name, at) in self.left.coming.touching.range(from.key(0)..) {
+            if *directory != from.directory || *name > last {
                 break;
             }
             looks = looks.saturating_add(1);
