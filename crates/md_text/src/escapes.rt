@@ -3,10 +3,29 @@ ghost use Rattle.std.specs.Prelude.{◌≡◌, ◌++◌, true, OnOk, IfOk, optio
 ghost use mathlib.Core.List.{IsPrefix};
 ghost use Rattle.md_text.specs.Escapes.{escape, escape_all, meant_by, unescaped};
 ghost use Rattle.std.specs.List.{list_any};
-ghost use Rattle.memchr.specs.Find.{is_byte3};
+ghost use Rattle.memchr.specs.Find.{is_byte, is_byte3};
 
+use md_name::blocks::{Wanted, first};
 use memchr::{memchr, memchr3_iter};
 use std::alloc::{AllocError, Global};
+use std::simd::prelude::*;
+
+/// What begins an escape.
+struct Backslash;
+
+impl Wanted for Backslash {
+    ghost wanted = { is_byte 92 };
+
+    #[inline(always)]
+    fn is_wanted(byte: u8) -> bool {
+        byte == b'\\'
+    }
+
+    #[inline(always)]
+    fn marks(block: u8x16) -> u64 {
+        block.simd_eq(u8x16::splat(b'\\')).to_bitmask()
+    }
+}
 
 /// Appends bytes in one line: a backslash, a line feed and a carriage return as `\\`, `\n` and `\r`, and any other
 /// byte as it is. Where memory runs out, some of it may have been appended.
@@ -67,7 +86,9 @@ pub fn unescape(alloc: Global, spaces: bool, text: &[u8]) -> Result<Option<Vec<u
 {
     let mut bytes = Vec::with_capacity(alloc, text.len())?;
     let mut left = text;
-    while let Some(at) = memchr(b'\\', left) {
+    // Most texts have no escape, and are looked through fastest so. Where there is one, the next is mostly near.
+    let mut next = memchr(b'\\', left);
+    while let Some(at) = next {
         if left.len() - at < 2 {
             return Ok(None);
         }
@@ -77,6 +98,7 @@ pub fn unescape(alloc: Global, spaces: bool, text: &[u8]) -> Result<Option<Vec<u
         };
         bytes.push_reserved(byte);
         left = &left[at + 2..];
+        next = first::<Backslash>(left);
     }
     bytes.extend_from_slice(left)?;
     Ok(Some(bytes))
