@@ -6,7 +6,6 @@ ghost use Rattle.md_command.specs.declared.mistake.Mistake.TheVariants.{Wrong};
 ghost use Rattle.md_command.specs.declared.trouble.Trouble.TheVariants.{BadGrade};
 ghost use Rattle.md_jobs.specs.declared.call.Call.{Call};
 ghost use Rattle.md_beside.specs.Relied.{command_of, relied};
-ghost use Rattle.md_log.specs.Texts.{clause_named};
 ghost use Rattle.md_findings.specs.Asked.{allowed_named, AreNamed, asks_for, by_rules, form_in, grade_named, HasForms, IsFlag, IsUnnamed, is_among, is_given, is_one_of, least_named, path_in, words_of};
 
 use clap::ArgMatches;
@@ -239,17 +238,8 @@ fn is_given(words: &ArgMatches<'_>, flag: &str) -> bool
 fn clause_named(name: &str) -> Option<Clause>
     ensures { result ≡ allowed_named name.now }
 {
-    match law_named(name) {
+    match Clause::named(name.as_bytes()) {
         Some(Clause::NotADirectory) => None,
         found => found,
     }
-}
-
-#[tactic(auto, unfolding(md_log::specs::Texts::clause_named))]
-fn law_named(name: &str) -> Option<Clause>
-    ensures { result ≡ clause_named name.now }
-{
-    LAW.iter()
-        .copied()
-        .find(|clause| clause.name().as_bytes() == name.as_bytes())
 }

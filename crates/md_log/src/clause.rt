@@ -169,7 +169,7 @@ impl Clause {
 
     /// The clause of the law that has a name.
     #[tactic(auto, unfolding(crate::specs::Texts::clause_named))]
-    pub(crate) fn named(name: &[u8]) -> Option<Clause>
+    pub fn named(name: &[u8]) -> Option<Clause>
         ensures { result ≡ clause_named name.now }
     {
         LAW.iter()
