@@ -1,7 +1,10 @@
 -- A log that grows.
-use Rattle.std.specs.Prelude.{ℕ, ◌≡◌, ◌==◌, List, [], ◌++◌, take, Option, None, Some, option_map, slice_get, if◌then◌else◌, codes}
+use Rattle.std.specs.Prelude.{ℕ, ◌≡◌, ◌==◌, List, [], ◌∷◌, ◌++◌, map, take, Option, None, Some, option_map, slice_get, if◌then◌else◌, codes}
+use Rattle.std.specs.Fmt.{decimal}
 use Rattle.std.specs.List.{flat_map}
 use Rattle.md_dirs.specs.declared.paths.Place.{Place}
+use Rattle.md_core.specs.declared.Answer.{Answer}
+use Rattle.md_script.specs.Texts.{answer_text}
 use Rattle.md_script.specs.declared.error.PlayError.{PlayError}
 use Rattle.md_script.specs.declared.error.PlayKind.{PlayKind}
 use Rattle.md_text.specs.Escapes.{escape}
@@ -15,6 +18,10 @@ pub record Grows (bytes : List ℕ) (old new : Log) : Type 0 where
   pub folders : new.folders ≡ old.folders
   pub line : new.line ≡ old.line
   pub before : new.before ≡ old.before
+
+-- how a log begins
+abbrev pub begin_text : List ℕ
+begin_text = codes "maildir_log 1\nallow NotFlushed\n"
 
 -- the greatest number of a log, of 19 digits
 abbrev pub most : ℕ
@@ -33,6 +40,10 @@ abbrev pub folder_text : Option (List ℕ) → List ℕ
 folder_text None = []
 folder_text (Some name) = name_text name
 
+-- the names of the folders, by their numbers
+abbrev pub folder_names : Log → List (List ℕ)
+folder_names log = map (λ name. name.items) log.folders.items
+
 -- as a log has it
 abbrev pub folder_in : Log → ℕ → List ℕ
 folder_in log folder = folder_text (option_map (λ name. name.items) (slice_get log.folders.items folder))
@@ -44,6 +55,19 @@ message_text log folder unique = codes " " ++ folder_in log folder ++ codes " " 
 -- ` FOLDER/PLACE/NAME`
 abbrev pub path_text : Log → ℕ → Place → List ℕ → List ℕ
 path_text log folder place name = codes " " ++ folder_in log folder ++ codes "/" ++ place_text place ++ codes "/" ++ name_text name
+
+-- `JOB answer` and the words of an answer, as a script's transcript has them
+abbrev pub told_text : ℕ → Answer → List ℕ
+told_text job answer = decimal job ++ codes " answer " ++ answer_text answer
+
+-- The log has the line of one folder more, and keeps its name. One that was refused stays as it is, and one that is refused now may have a
+-- part of this.
+pub record NamesFolder (name : List ℕ) (old new : Log) : Type 0 where
+  pub text : new.refused ≡ None → new.text.items ≡ old.text.items ++ codes "folder " ++ name_text name ++ codes "\n"
+  pub folders : new.refused ≡ None → folder_names new ≡ folder_names old ++ name ∷ []
+  pub refused : (kind : PlayKind) → old.refused ≡ Some kind → (new.refused ≡ Some kind) × (new.text ≡ old.text)
+  pub line : new.line ≡ old.line
+  pub before : new.before ≡ old.before
 
 -- the refusal that a log ends with: its own came first, at the line of the script that was run
 abbrev pub refusal_of : ℕ → Option PlayKind → Option PlayError → Option PlayError

@@ -1,3 +1,4 @@
+pub mod Answers
 pub mod Growing
 pub mod Notes
 pub mod Steps

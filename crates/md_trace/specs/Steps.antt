@@ -1,6 +1,10 @@
 -- Steps and their effects, as a log has them.
 use Rattle.std.specs.Prelude.{ℕ, List, ◌++◌, codes}
 use Rattle.std.specs.Fmt.{decimal}
+use Rattle.md_core.specs.declared.DirCall.{DirCall}
+use Rattle.md_core.specs.declared.DirCall.TheVariants as made
+use Rattle.md_core.specs.declared.DirReply.{DirReply}
+use Rattle.md_core.specs.declared.DirReply.TheVariants as reply
 use Rattle.md_core.specs.declared.Change.{Change}
 use Rattle.md_core.specs.declared.Change.TheVariants as change
 use Rattle.md_text.specs.Places.{place_text}
@@ -8,6 +12,22 @@ use Rattle.md_trace.specs.declared.noted.Noted.{Noted}
 use Rattle.md_trace.specs.declared.noted.Noted.TheVariants as noted
 use Rattle.md_trace.specs.declared.text.Log.{Log}
 use Rattle.md_trace.specs.Growing.{folder_in, path_text}
+
+-- a call
+abbrev pub call_text : DirCall → List ℕ
+call_text made.Create = codes " create"
+call_text (made.Append size) = codes " write"
+call_text made.Link = codes " link"
+call_text made.Rename = codes " rename"
+call_text made.Unlink = codes " unlink"
+call_text (made.List place) = codes " list"
+
+-- a reply
+abbrev pub reply_text : DirReply → List ℕ
+reply_text reply.Ok = codes " ok"
+reply_text reply.Exists = codes " exists"
+reply_text reply.NotFound = codes " notfound"
+reply_text reply.Fault = codes " fault"
 
 -- what a call was made of
 abbrev pub noted_text : Log → Noted → List ℕ

@@ -3,6 +3,10 @@
 //! A log says less than an answer does, so each answer is also a comment, in the words of docs/SCRIPT.md. An answer that has no word of the
 //! log is `failed`, which says that nothing was done to the message: the job had no effect. `notthere` of a log speaks of the whole folder.
 //! So it stands only for a job that looked through new and cur, a move or a copy; a job that looks in one of them alone has `failed`.
+ghost use Rattle.std.specs.Prelude.{◌≡◌, IfOk};
+ghost use Rattle.md_trace.specs.Growing.{Grows};
+ghost use Rattle.md_trace.specs.Answers.{answered_text, copied_text, failed_text, missed_text, moved_text, own_text, subject_of};
+
 use crate::text::Log;
 use md_core::{Answer, Call};
 use md_dirs::Bytes;
@@ -21,7 +25,9 @@ pub(crate) struct Subject {
 
 impl Subject {
     /// What the answer to a call is about: nothing for a clean.
-    pub(crate) fn of(alloc: Global, call: &Call) -> Result<Option<Subject>, AllocError> {
+    pub(crate) fn of(alloc: Global, call: &Call) -> Result<Option<Subject>, AllocError>
+        ensures { IfOk result (λ subject. subject ≡ subject_of call.now) }
+    {
         let (folder, unique, to, fresh) = match call {
             Call::Deliver { folder, unique, .. }
             | Call::Seen { folder, unique, .. }
@@ -51,27 +57,67 @@ impl Subject {
     }
 
     /// Appends `JOB answer`, the words of an answer, and the message that they are about: the copy, where there is one.
-    pub(crate) fn push_answer(&self, log: &mut Log, job: u64, answer: Answer) {
-        match (answer, self.to, &self.fresh) {
-            (Answer::Copied, Some(folder), Some(unique)) => {
+    pub(crate) fn push_answer(&self, log: &mut Log, job: u64, answer: Answer)
+        ensures { Grows (answered_text log.old self.now job answer) log.old log.new }
+    {
+        match answer {
+            Answer::Copied => self.push_copied(log, job),
+            Answer::Moved => self.push_moved(log, job),
+            Answer::NotThere => self.push_missed(log, job),
+            Answer::Delivered | Answer::Flags(_) | Answer::Expunged => {
+                self.push_own(log, job, answer)
+            }
+            _ => self.push_failed(log, job),
+        }
+    }
+
+    fn push_copied(&self, log: &mut Log, job: u64)
+        ensures { Grows (copied_text log.old self.now job self.now.to self.now.fresh) log.old log.new }
+    {
+        match (self.to, &self.fresh) {
+            (Some(folder), Some(unique)) => {
                 log.push_answer(job, Answer::Delivered);
                 log.push_message(folder, unique.as_slice());
-                return;
             }
-            (Answer::Moved, Some(folder), None) => {
-                log.push_answer(job, answer);
+            _ => self.push_failed(log, job),
+        }
+    }
+
+    fn push_moved(&self, log: &mut Log, job: u64)
+        ensures { Grows (moved_text log.old self.now job self.now.to self.now.fresh) log.old log.new }
+    {
+        match (self.to, &self.fresh) {
+            (Some(folder), None) => {
+                log.push_answer(job, Answer::Moved);
                 log.push(b" ");
                 log.push_folder(folder);
+                log.push_message(self.folder, self.unique.as_slice());
             }
-            (Answer::NotThere, Some(_), _)
-            | (Answer::Delivered | Answer::Flags(_) | Answer::Expunged, _, _) => {
-                log.push_answer(job, answer);
-            }
-            _ => {
-                log.push_number(job);
-                log.push(b" answer failed");
-            }
+            _ => self.push_failed(log, job),
         }
+    }
+
+    fn push_missed(&self, log: &mut Log, job: u64)
+        ensures { Grows (missed_text log.old self.now job self.now.to) log.old log.new }
+    {
+        match self.to {
+            Some(_) => self.push_own(log, job, Answer::NotThere),
+            None => self.push_failed(log, job),
+        }
+    }
+
+    fn push_own(&self, log: &mut Log, job: u64, answer: Answer)
+        ensures { Grows (own_text log.old self.now job answer) log.old log.new }
+    {
+        log.push_answer(job, answer);
+        log.push_message(self.folder, self.unique.as_slice());
+    }
+
+    fn push_failed(&self, log: &mut Log, job: u64)
+        ensures { Grows (failed_text log.old self.now job) log.old log.new }
+    {
+        log.push_number(job);
+        log.push(b" answer failed");
         log.push_message(self.folder, self.unique.as_slice());
     }
 }

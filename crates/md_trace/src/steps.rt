@@ -1,8 +1,8 @@
 //! Steps, as a log has them: the directory call with its paths and its reply, and the effect as a comment.
-ghost use Rattle.std.specs.Prelude.{◌++◌, ◌<◌, ◌≤◌, codes, IsSome};
+ghost use Rattle.std.specs.Prelude.{◌≡◌, ◌++◌, ◌<◌, codes, IsSome};
 ghost use Rattle.std.specs.Fmt.{decimal};
 ghost use Rattle.md_trace.specs.Growing.{Grows, most, path_text};
-ghost use Rattle.md_trace.specs.Steps.{change_text, noted_text};
+ghost use Rattle.md_trace.specs.Steps.{call_text, change_text, noted_text, reply_text};
 
 use crate::noted::{Noted, NotedDirs};
 use crate::rows::push_names;
@@ -15,7 +15,7 @@ use md_text::place_text;
 /// `MOMENT job`, the beginning of a line of a job. The moment is the step's own: the clock of a log is the greatest so far, as that of a
 /// store.
 pub(crate) fn push_begin(log: &mut Log, event: Event)
-    ensures grows { event.now ≤ most → Grows (decimal event.now ++ codes " job") log.old log.new }
+    ensures grows { Grows (decimal event.now ++ codes " job") log.old log.new }
     ensures refused { most < event.now → IsSome log.new.refused }
 {
     log.push_seconds(event.now);
@@ -59,7 +59,9 @@ fn push_noted(log: &mut Log, noted: &Noted)
     }
 }
 
-fn call_text(call: DirCall) -> &'static [u8] {
+fn call_text(call: DirCall) -> &'static [u8]
+    ensures { result.now ≡ call_text call }
+{
     match call {
         DirCall::Create => b" create",
         DirCall::Append(_) => b" write",
@@ -70,7 +72,9 @@ fn call_text(call: DirCall) -> &'static [u8] {
     }
 }
 
-fn reply_text(reply: DirReply) -> &'static [u8] {
+fn reply_text(reply: DirReply) -> &'static [u8]
+    ensures { result.now ≡ reply_text reply }
+{
     match reply {
         DirReply::Ok => b" ok",
         DirReply::Exists => b" exists",

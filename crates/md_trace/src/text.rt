@@ -1,10 +1,11 @@
 //! A log that grows.
-ghost use Rattle.std.specs.Prelude.{◌≡◌, ◌<◌, ◌≤◌, ◌++◌, [], None, Some, IfOk, IfErr, IsErr, IsSome, length};
+ghost use Rattle.std.specs.Prelude.{◌≡◌, ◌<◌, ◌++◌, ◌∷◌, [], None, Some, IfOk, IfErr, OnOk, IsErr, IsSome, codes, length};
 ghost use Rattle.std.specs.Fmt.{decimal};
 ghost use Rattle.md_text.specs.Places.{place_text};
 ghost use Rattle.md_script.specs.declared.error.PlayKind.{PlayKind};
 ghost use Rattle.md_script.specs.declared.error.PlayKind.TheVariants.{NoMemory};
-ghost use Rattle.md_trace.specs.Growing.{Grows, most, escape_name, name_text, folder_in, message_text, path_text, refusal_of, kept_text};
+ghost use Rattle.md_script.specs.Texts.{answer_text};
+ghost use Rattle.md_trace.specs.Growing.{Grows, NamesFolder, begin_text, most, escape_name, name_text, folder_in, folder_names, message_text, path_text, told_text, refusal_of, kept_text};
 
 use itoa::Buffer;
 use md_core::Answer;
@@ -37,7 +38,11 @@ pub(crate) struct Log {
 
 impl Log {
     /// A log of no line of a script.
-    pub(crate) fn new(alloc: Global) -> Log {
+    pub(crate) fn new(alloc: Global) -> Log
+        ensures text { result.refused ≡ None → result.text.items ≡ begin_text }
+        ensures folders { result.folders.items ≡ [] }
+        ensures line { (result.line ≡ 0) × (result.before ≡ 0) }
+    {
         let mut log = Log {
             alloc,
             text: Vec::new(alloc),
@@ -122,35 +127,43 @@ impl Log {
 
     /// A moment or a stamp, in seconds. `BadNumber` is kept where a log has no such number.
     pub(crate) fn push_seconds(&mut self, seconds: u64)
-        ensures grows { seconds ≤ most → Grows (decimal seconds) self.old self.new }
+        ensures grows { Grows (decimal seconds) self.old self.new }
         ensures refused { most < seconds → IsSome self.new.refused }
     {
         if seconds > MOST {
             self.refuse(PlayKind::BadNumber);
+            return;
         }
         self.push_number(seconds);
     }
 
     /// Appends `JOB answer` and the words of an answer, as a script's transcript has them.
-    pub(crate) fn push_answer(&mut self, job: u64, answer: Answer) {
-        if self.refused.is_none() {
-            match push_answer_line(&mut self.text, job, answer) {
-                // The line goes on.
-                Ok(()) => self.text.truncate(self.text.len().saturating_sub(1)),
-                Err(_) => self.refuse(PlayKind::NoMemory),
-            }
+    pub(crate) fn push_answer(&mut self, job: u64, answer: Answer)
+        ensures { Grows (told_text job answer) self.old self.new }
+    {
+        if self.refused.is_some() {
+            return;
+        }
+        match push_answer_line(&mut self.text, job, answer) {
+            // The line goes on.
+            Ok(()) => self.text.truncate(self.text.len().saturating_sub(1)),
+            Err(_) => self.refuse(PlayKind::NoMemory),
         }
     }
 
     /// Appends `# answer` and the words of an answer.
-    pub(crate) fn push_comment(&mut self, answer: Answer) {
-        let at = self.text.len();
-        self.push_answer(0, answer);
-        // The number 0 has one digit, in the place of the sign of a comment.
-        if let Some(digit) = self.text.get_mut(at) {
-            *digit = b'#';
+    pub(crate) fn push_comment(&mut self, answer: Answer)
+        ensures { Grows (codes "# answer " ++ answer_text answer ++ codes "\n") self.old self.new }
+    {
+        let mut line = Vec::new(self.alloc);
+        match push_answer_line(&mut line, 0, answer) {
+            Ok(()) => {
+                // The number 0 has one digit, in whose place is the sign of a comment.
+                self.push(b"#");
+                self.push(&line[1..]);
+            }
+            Err(_) => self.refuse(PlayKind::NoMemory),
         }
-        self.push(b"\n");
     }
 
     /// Appends a name, with the four escapes of a log.
@@ -175,7 +188,9 @@ impl Log {
     }
 
     /// Appends the line of the next folder, and keeps its name.
-    pub(crate) fn push_new_folder(&mut self, name: &[u8]) {
+    pub(crate) fn push_new_folder(&mut self, name: &[u8])
+        ensures { NamesFolder name.now self.old self.new }
+    {
         self.push(b"folder ");
         self.push_name(name);
         self.push(b"\n");
@@ -184,7 +199,11 @@ impl Log {
         }
     }
 
-    fn keep_folder(&mut self, name: &[u8]) -> Result<(), AllocError> {
+    fn keep_folder(&mut self, name: &[u8]) -> Result<(), AllocError>
+        ensures kept { OnOk result (folder_names self.new ≡ folder_names self.old ++ name.now ∷ []) }
+        ensures same { (self.new.text ≡ self.old.text) × (self.new.refused ≡ self.old.refused) × (self.new.line ≡ self.old.line)
+            × (self.new.before ≡ self.old.before) }
+    {
         self.folders.push(Vec::from_slice(self.alloc, name)?)?;
         Ok(())
     }
