@@ -18,7 +18,7 @@ pub use calls::Calls;
 pub use cause::Cause;
 pub use checking::check_folders;
 pub use disk::Disk;
-pub use listing::{Listed, list_folder};
+pub use listing::list_folder;
 pub use maildir::{has_cur, is_maildir, make_maildir};
 pub use naming::{Namer, host_name};
 pub use paths::Folders;

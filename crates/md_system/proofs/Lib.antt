@@ -3,3 +3,11 @@ pub mod Runs
 pub mod Fewer
 pub mod Searched
 pub mod Positions
+pub mod Permuted
+pub mod Joining
+pub mod Counting
+pub mod Alike
+pub mod Elsewhere
+pub mod Telling
+pub mod FlawOrder
+pub mod Reordered

@@ -1,5 +1,7 @@
+pub mod Checks
 pub mod Exchanges
 pub mod Flaws
 pub mod Hints
+pub mod Listings
 pub mod Shown
 pub mod Steps

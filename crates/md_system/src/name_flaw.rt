@@ -9,18 +9,8 @@ use md_dirs::Place;
 use md_name::{Flags, Info, split, with_flags};
 use std::alloc::{AllocError, Global};
 
-/// How a name can break the format by itself.
-pub const NAME_FLAWS: [FlawKind; 6] = [
-    FlawKind::DotName,
-    FlawKind::InfoInNew,
-    FlawKind::NoInfo,
-    FlawKind::FlagsOutOfOrder,
-    FlawKind::NotText,
-    FlawKind::LongName,
-];
-
 /// Whether a name in new or cur breaks the format by itself so. Refused only when out of memory.
-pub fn has_flaw(
+pub(crate) fn has_flaw(
     alloc: Global,
     place: Place,
     name: &[u8],

@@ -36,7 +36,7 @@ pub(crate) fn old_names(
 }
 
 /// Whether the file of a row was not used for so many seconds.
-pub fn is_old(row: &Row, now: u64, seconds: u64) -> bool
+pub(crate) fn is_old(row: &Row, now: u64, seconds: u64) -> bool
     ensures { result ≡ is_old_by now seconds row.now }
 {
     now.saturating_sub(row.stamp) >= seconds
