@@ -1,12 +1,15 @@
 -- A log that grows twice.
-use Rattle.std.proofs.Common.{◌≡◌, ◌<◌, ◌++◌, ◌+◌, ℕ, List, [], length, take, get_or, None, Some, option_map, slice_get, sym, subst, ◌∙◌, ap, append_assoc, refl}
+use Rattle.std.proofs.Common.{◌≡◌, ◌⊎◌, inl, inr, ◌<◌, ◌++◌, ◌+◌, ℕ, List, [], length, take, flat_map, get_or, None, Some, option_map, slice_get, sym, subst, ◌∙◌, ap, append_assoc, refl}
 use Rattle.std.proofs.lemmas.List.{flat_map_more, take_more}
 use Rattle.md_core.specs.declared.Change.{Change}
-use Rattle.md_script.specs.declared.error.PlayKind.{PlayKind}
+use Rattle.md_script.specs.declared.error.PlayKind.TheVariants.{BadNumber, NoMemory}
 use Rattle.md_core.specs.declared.Change.TheVariants as change
+use Rattle.md_dirs.specs.declared.paths.Place.{Place}
+use Rattle.md_trace.specs.declared.noted.Noted.{Noted}
+use Rattle.md_trace.specs.declared.noted.Noted.TheVariants as noted
 use Rattle.md_trace.specs.declared.text.Log.{Log}
-use Rattle.md_trace.specs.Growing.{Grows, escape_name, name_text, folder_in, folder_text, message_text}
-use Rattle.md_trace.specs.Steps.{change_text}
+use Rattle.md_trace.specs.Growing.{Grows, GrowsIf, escape_name, name_text, folder_in, folder_text, message_text, path_text}
+use Rattle.md_trace.specs.Steps.{change_text, noted_text}
 
 -- by these bytes, and then by those
 pub also : {a b : List ℕ} {l m n : Log} → Grows a l m → Grows b m n → Grows (a ++ b) l n
@@ -16,37 +19,78 @@ also {a} {b} {l} {m} {n} first second = record {
     | None ↦ λ is. second.text shown ∙ ap (λ text. text ++ b) (first.text is) ∙ append_assoc l.text.items a b
     | Some kind ↦ λ is. let clash = sym shown ∙ ap (λ log. log.refused) (second.stays kind is) ∙ is in cc
   ] refl;
+  memory = λ none kind is. elim m.refused as (λ r. m.refused ≡ r → kind ≡ NoMemory) [
+    | None ↦ λ still. second.memory still kind is
+    | Some other ↦ λ was. first.memory none kind (sym (ap (λ log. log.refused) (second.stays other was)) ∙ is)
+  ] refl;
   folders = second.folders ∙ first.folders;
   line = second.line ∙ first.line;
   before = second.before ∙ first.before;
 }
 
--- One that refuses has no more to say, whatever it was to be.
-pub refuses : {l m : Log} {kind : PlayKind} → (l.refused ≡ None → m ≡ record l { refused = Some kind })
-    → ((first : PlayKind) → l.refused ≡ Some first → m ≡ l) → (bytes : List ℕ) → Grows bytes l m
-refuses {l} {m} {kind} now stays bytes = elim l.refused as (λ r. l.refused ≡ r → Grows bytes l m) [
-  | None ↦ λ is. subst (Grows bytes l) (sym (now is)) (record {
-    stays = λ first was. let clash = sym was ∙ is in cc;
-    text = λ none. cc;
-    folders = refl;
-    line = refl;
-    before = refl;
-  })
-  | Some first ↦ λ is. subst (Grows bytes l) (sym (stays first is)) (record {
-    stays = λ first was. refl;
-    text = λ none. let clash = sym none ∙ is in cc;
-    folders = refl;
-    line = refl;
-    before = refl;
-  })
-] refl
+-- by bytes that are fit
+pub fit : {F : Type 0} {bytes : List ℕ} {l m : Log} → F → Grows bytes l m → GrowsIf F bytes l m
+fit are grown = record {
+  stays = grown.stays;
+  text = λ shown. (are, grown.text shown);
+  refused = λ none kind is. inl (grown.memory none kind is);
+  folders = grown.folders;
+  line = grown.line;
+  before = grown.before;
+}
+
+-- by bytes if these are fit, and then by others if those are
+pub also_if : {F G : Type 0} {a b : List ℕ} {l m n : Log} → GrowsIf F a l m → GrowsIf G b m n → GrowsIf (F × G) (a ++ b) l n
+also_if {F} {G} {a} {b} {l} {m} {n} first second = record {
+  stays = λ kind is. let still = first.stays kind is in second.stays kind (ap (λ log. log.refused) still ∙ is) ∙ still;
+  text = λ shown. elim m.refused as (λ r. m.refused ≡ r → (F × G) × (n.text.items ≡ l.text.items ++ (a ++ b))) [
+    | None ↦ λ is. let was = first.text is in let then = second.text shown in
+        ((was.0, then.0), then.1 ∙ ap (λ text. text ++ b) was.1 ∙ append_assoc l.text.items a b)
+    | Some kind ↦ λ is. let clash = sym shown ∙ ap (λ log. log.refused) (second.stays kind is) ∙ is in cc
+  ] refl;
+  refused = λ none kind is. elim m.refused as (λ r. m.refused ≡ r → (kind ≡ NoMemory) ⊎ ((kind ≡ BadNumber) × (F × G → ⊥))) [
+    | None ↦ λ still. elim (second.refused still kind is) [ inl lacking ↦ inl lacking | inr bad ↦ inr (bad.0, λ both. bad.1 both.1) ]
+    | Some other ↦ λ was. elim (first.refused none kind (sym (ap (λ log. log.refused) (second.stays other was)) ∙ is)) [
+      | inl lacking ↦ inl lacking
+      | inr bad ↦ inr (bad.0, λ both. bad.1 both.0)
+    ]
+  ] refl;
+  folders = second.folders ∙ first.folders;
+  line = second.line ∙ first.line;
+  before = second.before ∙ first.before;
+}
+
+-- What is fit may be said in other words.
+pub if_same : {F G : Type 0} {bytes : List ℕ} {l m : Log} → (F → G) → (G → F) → GrowsIf F bytes l m → GrowsIf G bytes l m
+if_same to from grown = record {
+  stays = grown.stays;
+  text = λ shown. let was = grown.text shown in (to was.0, was.1);
+  refused = λ none kind is. elim (grown.refused none kind is) [ inl lacking ↦ inl lacking | inr bad ↦ inr (bad.0, λ g. bad.1 (from g)) ];
+  folders = grown.folders;
+  line = grown.line;
+  before = grown.before;
+}
+
+-- by bytes if they are fit, and then by any
+pub if_also : {F : Type 0} {a b : List ℕ} {l m n : Log} → GrowsIf F a l m → Grows b m n → GrowsIf F (a ++ b) l n
+if_also first second = if_same (λ both. both.0) (λ f. (f, tt)) (also_if first (fit {F = Unit {0}} tt second))
+
+-- by any bytes, and then by some if they are fit
+pub then_if : {F : Type 0} {a b : List ℕ} {l m n : Log} → Grows a l m → GrowsIf F b m n → GrowsIf F (a ++ b) l n
+then_if first second = if_same (λ both. both.1) (λ f. (tt, f)) (also_if (fit {F = Unit {0}} tt first) second)
+
+-- by what some things say so far, and then by what the next one does
+pub also_next : {X : Type 0} {l m n : Log} (f : X → List ℕ) (xs : List X) (i : ℕ) (d : X) → i < length xs
+    → Grows (flat_map f (take i xs)) l m → Grows (f (get_or xs i d)) m n → Grows (flat_map f (take (i + 1) xs)) l n
+also_next {X} {l} {m} {n} f xs i d low first second =
+    let more = flat_map_more f [] (take i xs) (get_or xs i d) ∙ ap (flat_map f) (sym (take_more xs i d low)) in
+    subst (λ text. Grows text l n) more (also first second)
 
 -- by the bytes of a name so far, and then by its next byte
 pub also_byte : {l m n : Log} (name : List ℕ) (i d : ℕ) → i < length name → Grows (name_text (take i name)) l m
     → Grows (escape_name (get_or name i d)) m n → Grows (name_text (take (i + 1) name)) l n
 also_byte {l} {m} {n} name i d low first second =
-    let more = flat_map_more escape_name [] (take i name) (get_or name i d) ∙ ap name_text (sym (take_more name i d low)) in
-    subst (λ text. Grows text l n) more (also first second)
+    also_next escape_name name i d low first second
 
 -- A log that grows keeps the names of its folders.
 pub at_folder : {bytes : List ℕ} {l m n : Log} → Grows bytes l m → (folder : ℕ) → Grows (folder_in m folder) m n
@@ -56,11 +100,29 @@ at_folder {bytes} {l} {m} {n} grown folder more =
     subst (λ text. Grows text m n) same more
 
 -- so a message is named as before
-pub at_message : {bytes : List ℕ} {l m n : Log} → Grows bytes l m → (folder : ℕ) (unique : List ℕ) → Grows (message_text m folder unique) m n
-    → Grows (message_text l folder unique) m n
+pub at_message : {bytes : List ℕ} {l m n : Log} → Grows bytes l m → (folder : ℕ) (unique : List ℕ)
+    → Grows (message_text m folder unique) m n → Grows (message_text l folder unique) m n
 at_message {bytes} {l} {m} {n} grown folder unique more =
     let same = ap (λ folders. message_text (record l { folders = folders }) folder unique) grown.folders in
     subst (λ text. Grows text m n) same more
+
+-- and so is a path
+pub at_path : {bytes : List ℕ} {l m n : Log} → Grows bytes l m → (folder : ℕ) (place : Place) (name : List ℕ)
+    → Grows (path_text m folder place name) m n → Grows (path_text l folder place name) m n
+at_path {bytes} {l} {m} {n} grown folder place name more =
+    let same = ap (λ folders. path_text (record l { folders = folders }) folder place name) grown.folders in
+    subst (λ text. Grows text m n) same more
+
+same_noted : (l m : Log) → m.folders ≡ l.folders → (note : Noted) → noted_text m note ≡ noted_text l note
+same_noted l m same (noted.One path) = ap (λ folders. noted_text (record l { folders = folders }) (noted.One path)) same
+same_noted l m same (noted.Two old new) = ap (λ folders. noted_text (record l { folders = folders }) (noted.Two old new)) same
+same_noted l m same (noted.Directory folder place) =
+    ap (λ folders. noted_text (record l { folders = folders }) (noted.Directory folder place)) same
+
+-- and so is what was noted of a call
+pub at_noted : {F : Type 0} {bytes : List ℕ} {l m n : Log} → GrowsIf F bytes l m → (note : Noted) → Grows (noted_text m note) m n
+    → Grows (noted_text l note) m n
+at_noted {F} {bytes} {l} {m} {n} grown note more = subst (λ text. Grows text m n) (same_noted l m grown.folders note) more
 
 same_change : {bytes : List ℕ} {l m : Log} → Grows bytes l m → (c : Change) → change_text m c ≡ change_text l c
 same_change {bytes} {l} {m} grown (change.Add f p name size) =

@@ -1,5 +1,5 @@
 -- A log that grows.
-use Rattle.std.specs.Prelude.{ℕ, ◌≡◌, ◌==◌, List, [], ◌∷◌, ◌++◌, map, take, Option, None, Some, option_map, slice_get, if◌then◌else◌, codes}
+use Rattle.std.specs.Prelude.{ℕ, ◌≡◌, ◌⊎◌, ◌==◌, List, [], ◌∷◌, ◌++◌, map, take, Option, None, Some, option_map, slice_get, if◌then◌else◌, codes}
 use Rattle.std.specs.Fmt.{decimal}
 use Rattle.std.specs.List.{flat_map}
 use Rattle.md_dirs.specs.declared.paths.Place.{Place}
@@ -7,14 +7,26 @@ use Rattle.md_core.specs.declared.Answer.{Answer}
 use Rattle.md_script.specs.Texts.{answer_text}
 use Rattle.md_script.specs.declared.error.PlayError.{PlayError}
 use Rattle.md_script.specs.declared.error.PlayKind.{PlayKind}
+use Rattle.md_script.specs.declared.error.PlayKind.TheVariants.{BadNumber, NoMemory}
 use Rattle.md_text.specs.Escapes.{escape}
 use Rattle.md_text.specs.Places.{place_text}
 use Rattle.md_trace.specs.declared.text.Log.{Log}
 
--- The log has these bytes more. One that was refused stays as it is, and one that is refused now may have a part of them.
+-- The log has these bytes more. One that was refused stays as it is. One that is refused now lacks memory, and may have a part of them.
 pub record Grows (bytes : List ℕ) (old new : Log) : Type 0 where
   pub stays : (kind : PlayKind) → old.refused ≡ Some kind → new ≡ old
   pub text : new.refused ≡ None → new.text.items ≡ old.text.items ++ bytes
+  pub memory : old.refused ≡ None → (kind : PlayKind) → new.refused ≡ Some kind → kind ≡ NoMemory
+  pub folders : new.folders ≡ old.folders
+  pub line : new.line ≡ old.line
+  pub before : new.before ≡ old.before
+
+-- The log has these bytes more, if they are fit for a log. One that was refused stays as it is. One that is refused now lacks memory, or has
+-- a bad number since they are not fit, and may have a part of them.
+pub record GrowsIf (AreFit : Type 0) (bytes : List ℕ) (old new : Log) : Type 0 where
+  pub stays : (kind : PlayKind) → old.refused ≡ Some kind → new ≡ old
+  pub text : new.refused ≡ None → AreFit × (new.text.items ≡ old.text.items ++ bytes)
+  pub refused : old.refused ≡ None → (kind : PlayKind) → new.refused ≡ Some kind → (kind ≡ NoMemory) ⊎ ((kind ≡ BadNumber) × (AreFit → ⊥))
   pub folders : new.folders ≡ old.folders
   pub line : new.line ≡ old.line
   pub before : new.before ≡ old.before
@@ -60,12 +72,13 @@ path_text log folder place name = codes " " ++ folder_in log folder ++ codes "/"
 abbrev pub told_text : ℕ → Answer → List ℕ
 told_text job answer = decimal job ++ codes " answer " ++ answer_text answer
 
--- The log has the line of one folder more, and keeps its name. One that was refused stays as it is, and one that is refused now may have a
--- part of this.
+-- The log has the line of one folder more, and keeps its name. One that was refused stays as it is. One that is refused now lacks memory,
+-- and may have a part of this.
 pub record NamesFolder (name : List ℕ) (old new : Log) : Type 0 where
   pub text : new.refused ≡ None → new.text.items ≡ old.text.items ++ codes "folder " ++ name_text name ++ codes "\n"
   pub folders : new.refused ≡ None → folder_names new ≡ folder_names old ++ name ∷ []
   pub refused : (kind : PlayKind) → old.refused ≡ Some kind → (new.refused ≡ Some kind) × (new.text ≡ old.text)
+  pub memory : old.refused ≡ None → (kind : PlayKind) → new.refused ≡ Some kind → kind ≡ NoMemory
   pub line : new.line ≡ old.line
   pub before : new.before ≡ old.before
 

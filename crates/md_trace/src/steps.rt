@@ -1,10 +1,12 @@
 //! Steps, as a log has them: the directory call with its paths and its reply, and the effect as a comment.
-ghost use Rattle.std.specs.Prelude.{◌≡◌, ◌++◌, ◌<◌, codes, IsSome};
+ghost use Rattle.std.specs.Prelude.{◌≡◌, ◌++◌, ◌≤◌, Some, None, IsSome, codes};
 ghost use Rattle.std.specs.Fmt.{decimal};
-ghost use Rattle.md_trace.specs.Growing.{Grows, most, path_text};
-ghost use Rattle.md_trace.specs.Steps.{call_text, change_text, noted_text, reply_text};
+ghost use Rattle.std.specs.Option.{option_copied};
+ghost use Rattle.md_trace.specs.Growing.{Grows, GrowsIf, most, path_text};
+ghost use Rattle.md_trace.specs.Steps.{call_text, change_text, noted_text, reply_text, shown_text, step_text};
+ghost use Rattle.md_trace.specs.declared.noted.Noted.{Noted as NotedSeen};
 
-use crate::noted::{Noted, NotedDirs};
+use crate::noted::Noted;
 use crate::rows::push_names;
 use crate::text::Log;
 use md_core::{Change, DirCall, DirReply, Event, StepOut};
@@ -15,30 +17,49 @@ use md_text::place_text;
 /// `MOMENT job`, the beginning of a line of a job. The moment is the step's own: the clock of a log is the greatest so far, as that of a
 /// store.
 pub(crate) fn push_begin(log: &mut Log, event: Event)
-    ensures grows { Grows (decimal event.now ++ codes " job") log.old log.new }
-    ensures refused { most < event.now → IsSome log.new.refused }
+    ensures { GrowsIf (event.now ≤ most) (decimal event.now ++ codes " job") log.old log.new }
 {
     log.push_seconds(event.now);
     log.push(b" job");
 }
 
 /// The line of a step, whose paths were noted. `NoMemory` where there is no note.
-pub(crate) fn push_step<D: Dirs>(log: &mut Log, dirs: &NotedDirs<D>, event: Event, out: &StepOut) {
+pub(crate) fn push_step<D: Dirs>(
+    log: &mut Log,
+    dirs: &D,
+    noted: Option<&Noted>,
+    event: Event,
+    out: &StepOut,
+)
+    ensures noted { (note : NotedSeen) → option_copied noted.entry ≡ Some note
+        → GrowsIf (event.now ≤ most) (step_text log.old (D.device dirs.now).state event out.now note) log.old log.new }
+    ensures lacks { option_copied noted.entry ≡ None → IsSome log.new.refused }
+{
+    match noted {
+        Some(noted) => push_noted_step(log, dirs, noted, event, out),
+        None => log.refuse(PlayKind::NoMemory),
+    }
+}
+
+fn push_noted_step<D: Dirs>(log: &mut Log, dirs: &D, noted: &Noted, event: Event, out: &StepOut)
+    ensures { GrowsIf (event.now ≤ most) (step_text log.old (D.device dirs.now).state event out.now noted.now) log.old log.new }
+{
     push_begin(log, event);
     log.push_number(event.job);
     log.push(call_text(out.call));
-    match &dirs.hook().noted {
-        Some(noted) => push_noted(log, noted),
-        None => log.refuse(PlayKind::NoMemory),
-    }
+    push_noted(log, noted);
     log.push(reply_text(out.reply));
-    // A listing changes nothing, so that the names after it are those that it read.
-    if out.reply == DirReply::Ok
-        && let Some(Noted::Directory { folder, place }) = &dirs.hook().noted
-    {
+    push_shown(log, dirs, noted, out.reply);
+    log.push(b"\n");
+}
+
+// The names that a listing showed. It changes nothing, so that those after it are those that it read.
+fn push_shown<D: Dirs>(log: &mut Log, dirs: &D, noted: &Noted, reply: DirReply)
+    ensures { Grows (shown_text (D.device dirs.now).state reply noted.now) log.old log.new }
+{
+    if let (DirReply::Ok, Noted::Directory { folder, place }) = (reply, noted) {
         push_names(log, dirs, *folder, *place);
     }
-    log.push(b"\n");
 }
 
 fn push_noted(log: &mut Log, noted: &Noted)

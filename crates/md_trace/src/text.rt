@@ -1,11 +1,11 @@
 //! A log that grows.
-ghost use Rattle.std.specs.Prelude.{◌≡◌, ◌<◌, ◌++◌, ◌∷◌, [], None, Some, IfOk, IfErr, OnOk, IsErr, IsSome, codes, length};
+ghost use Rattle.std.specs.Prelude.{◌≡◌, ◌≤◌, ◌++◌, ◌∷◌, [], None, Some, IfOk, IfErr, OnOk, IsErr, codes, length};
 ghost use Rattle.std.specs.Fmt.{decimal};
 ghost use Rattle.md_text.specs.Places.{place_text};
 ghost use Rattle.md_script.specs.declared.error.PlayKind.{PlayKind};
 ghost use Rattle.md_script.specs.declared.error.PlayKind.TheVariants.{NoMemory};
 ghost use Rattle.md_script.specs.Texts.{answer_text};
-ghost use Rattle.md_trace.specs.Growing.{Grows, NamesFolder, begin_text, most, escape_name, name_text, folder_in, folder_names, message_text, path_text, told_text, refusal_of, kept_text};
+ghost use Rattle.md_trace.specs.Growing.{Grows, NamesFolder, GrowsIf, begin_text, most, escape_name, name_text, folder_in, folder_names, message_text, path_text, told_text, refusal_of, kept_text};
 
 use itoa::Buffer;
 use md_core::Answer;
@@ -127,8 +127,7 @@ impl Log {
 
     /// A moment or a stamp, in seconds. `BadNumber` is kept where a log has no such number.
     pub(crate) fn push_seconds(&mut self, seconds: u64)
-        ensures grows { Grows (decimal seconds) self.old self.new }
-        ensures refused { most < seconds → IsSome self.new.refused }
+        ensures { GrowsIf (seconds ≤ most) (decimal seconds) self.old self.new }
     {
         if seconds > MOST {
             self.refuse(PlayKind::BadNumber);

@@ -66,7 +66,8 @@ impl<D: Storage> Observer<NotedDirs<D>> for Tracer {
     }
 
     fn stepped(&mut self, world: &World<NotedDirs<D>>, event: Event, out: &StepOut) {
-        push_step(&mut self.log, world.dirs(), event, out);
+        let noted = world.dirs().hook().noted.as_ref();
+        push_step(&mut self.log, world.dirs(), noted, event, out);
         if out.effect
             && let Some(effect) = world.effects().last()
         {
