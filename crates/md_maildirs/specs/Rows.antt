@@ -1,12 +1,15 @@
 -- The lines of a listing.
-use Rattle.std.specs.Prelude.{ℕ, ℤ, Bool, List, [], ◌∷◌, ◌++◌, Option, None, Some, option_and_then, if◌then◌else◌, codes}
+use Rattle.std.specs.Prelude.{ℕ, ℤ, ◌≡◌, Bool, false, List, [], ◌∷◌, ◌++◌, Option, None, Some, option_and_then, if◌then◌else◌, codes}
 use Rattle.std.specs.Fmt.{decimal, signed_decimal}
 use Rattle.md_dirs.specs.declared.paths.Place.{Place}
 use Rattle.md_name.specs.Letters.{Set, spelling}
-use Rattle.md_name.specs.Names.{split_of, flags_of, unique_of}
+use Rattle.md_name.specs.Names.{split_of, flags_of, unique_of, is_message_name}
 use Rattle.md_head.specs.declared.shown.Summary.{Summary}
 use Rattle.md_maildirs.specs.declared.row.Headers.{Headers}
 use Rattle.md_maildirs.specs.declared.row.Shape.{Shape}
+use Rattle.md_system.specs.Flaws.{kind_text}
+use Rattle.md_system.specs.declared.flaw.Flaw.{Flaw}
+use Rattle.md_system.specs.declared.listed.Listed.{Listed}
 use Rattle.md_command.specs.Escapes.{escaped, json_string}
 use Rattle.md_text.specs.Places.{place_text}
 
@@ -106,6 +109,16 @@ abbrev pub message_text : Shape → Place → List ℕ → Option Headers → Li
 message_text shape place name headers =
     if shape.is_json then object_text place name headers else line_text shape.with_headers place name headers
 
--- a flaw in a line: what it is, for people, the place and the name
-abbrev pub flaw_text : List ℕ → Place → List ℕ → List ℕ
-flaw_text kind place name = kind ++ tab ++ place_text place ++ tab ++ escaped name ++ codes "\n"
+-- a flaw in a line: what it is, the place and the name
+abbrev pub flaw_text : Flaw → List ℕ
+flaw_text f = kind_text f.kind ++ tab ++ place_text f.place ++ tab ++ escaped f.name ++ codes "\n"
+
+-- the line of a name that a reading showed, if it is a message's
+abbrev pub listed_text : Shape → Listed → Option Headers → List ℕ
+listed_text shape m headers = if is_message_name m.name then message_text shape m.place m.name headers else []
+
+-- What is shown has that line more, with what the headers say where they are wanted and were read.
+pub record ShowsLine (shape : Shape) (m : Listed) (old new : List ℕ) : Type 0 where
+  pub headers : Option Headers
+  pub wanted : shape.with_headers ≡ false → headers ≡ None
+  pub line : new ≡ old ++ listed_text shape m headers

@@ -1,14 +1,14 @@
 //! What breaks the format of a maildir, printed.
-ghost use Rattle.std.specs.Prelude.{◌≡◌, ◌++◌, OnOk};
+ghost use Rattle.std.specs.Prelude.{◌≡◌, ◌++◌, IfOk, OnOk};
+ghost use Rattle.std.specs.List.{flat_map};
 ghost use Rattle.md_maildirs.specs.Rows.{flaw_text};
 
 use crate::boxes::maildirs;
 use crate::causes::failure_caused;
 use md_command::{Failure, Host, Session, Status, Trouble, print, push_escaped};
-use md_dirs::Place;
 use md_disk::check_folders;
 use md_jobs::DirReply;
-use md_system::{Flaw, FlawKind};
+use md_system::Flaw;
 use md_text::place_text;
 use std::alloc::{AllocError, Global};
 
@@ -27,33 +27,24 @@ pub fn checked<R: Host>(session: &Session<'_, R>, maildir: &str) -> Result<Statu
     Err(Failure::from(Trouble::Flawed))
 }
 
-fn lines_of(alloc: Global, flaws: &[Flaw]) -> Result<Vec<u8>, AllocError> {
+fn lines_of(alloc: Global, flaws: &[Flaw]) -> Result<Vec<u8>, AllocError>
+    ensures { IfOk result (λ text. text.items ≡ flat_map flaw_text flaws.now) }
+{
     let mut text = Vec::new(alloc);
     for flaw in flaws {
-        push_flaw(alloc, &mut text, flaw)?;
+        push_flaw(&mut text, flaw)?;
     }
     Ok(text)
 }
 
-// Appends the line of a flaw.
-fn push_flaw(alloc: Global, text: &mut Vec<u8>, flaw: &Flaw) -> Result<(), AllocError> {
-    let kind = kind_text(alloc, flaw.kind)?;
-    push_row(text, kind.as_bytes(), flaw.place, flaw.name.as_slice())
-}
-
-// What a flaw is, for people.
-fn kind_text(alloc: Global, kind: FlawKind) -> Result<String, AllocError> {
-    format!(in alloc; "{kind}")
-}
-
-// Appends what a flaw is, the place and the name.
-fn push_row(text: &mut Vec<u8>, kind: &[u8], place: Place, name: &[u8]) -> Result<(), AllocError>
-    ensures { OnOk result (text.new.items ≡ text.old.items ++ flaw_text kind.now place name.now) }
+// Appends the line of a flaw: what it is, the place and the name.
+fn push_flaw(text: &mut Vec<u8>, flaw: &Flaw) -> Result<(), AllocError>
+    ensures { OnOk result (text.new.items ≡ text.old.items ++ flaw_text flaw.now) }
 {
-    text.extend_from_slice(kind)?;
+    text.extend_from_slice(flaw.kind.text())?;
     text.extend_from_slice(b"\t")?;
-    text.extend_from_slice(place_text(place))?;
+    text.extend_from_slice(place_text(flaw.place))?;
     text.extend_from_slice(b"\t")?;
-    push_escaped(text, name)?;
+    push_escaped(text, flaw.name.as_slice())?;
     text.extend_from_slice(b"\n")
 }

@@ -1,6 +1,6 @@
 //! Messages that are shown: listings, and the bytes of one.
-ghost use Rattle.std.specs.Prelude.{◌≡◌, IfOk};
-ghost use Rattle.md_maildirs.specs.Rows.{path_text};
+ghost use Rattle.std.specs.Prelude.{◌≡◌, false, None, IfOk, OnOk};
+ghost use Rattle.md_maildirs.specs.Rows.{path_text, ShowsLine};
 
 use crate::acting::TRIES;
 use crate::boxes::maildirs;
@@ -73,18 +73,32 @@ fn push_listed<R: Host>(
     shape: Shape,
     message: &Listed,
     page: &mut Vec<u8>,
-) -> Result<Status, Failure> {
+) -> Result<Status, Failure>
+    ensures { OnOk result (ShowsLine shape message.now page.old.items page.new.items) }
+{
     let name = message.name.as_slice();
     if !is_message(name, unique_part(name)) {
         return Ok(Status::Done);
     }
-    let (headers, status) = if shape.with_headers {
-        headers_of(session, maildir, message)?
-    } else {
-        (None, Status::Done)
-    };
+    let (headers, status) = headers_wanted(session, maildir, shape, message)?;
     push_message(page, shape, message.place, name, headers.as_ref())?;
     Ok(status)
+}
+
+// What the headers of a message say, where they are wanted, and the status of reading them.
+fn headers_wanted<R: Host>(
+    session: &Session<'_, R>,
+    maildir: &str,
+    shape: Shape,
+    message: &Listed,
+) -> Result<(Option<Headers>, Status), Failure>
+    ensures { IfOk result (λ read. shape.with_headers ≡ false → read.0 ≡ None) }
+{
+    if shape.with_headers {
+        headers_of(session, maildir, message)
+    } else {
+        Ok((None, Status::Done))
+    }
 }
 
 // What the headers of a message say, as far as it can be read, and nothing where its name is not UTF-8. What fails is told, and is the

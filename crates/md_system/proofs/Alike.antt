@@ -13,7 +13,8 @@ use Rattle.std.proofs.lemmas.Map.Text.{is_eq-slice_cmp}
 use Rattle.std.proofs.lemmas.Slice.Eq.{bytes_eq-Decides}
 use Rattle.md_name.specs.Names.{begins_with_dot, is_colon, is_message_name, unique_of}
 use Rattle.md_dirs.specs.Index.{name_cmp}
-use Rattle.md_system.specs.Checks.{alike_cmp, is_message, is_of, is_of_in, unique_cmp}
+use Rattle.md_system.specs.Checks.{is_message, is_of, is_of_in}
+use Rattle.md_system.specs.Gathering.{alike_cmp, unique_cmp}
 use Rattle.md_system.specs.declared.seen.Seen.{Seen}
 use Rattle.md_system.proofs.Counting.{ties-between}
 

@@ -1,10 +1,11 @@
 -- Fewer elements pass a narrower test if one passes the wider alone.
-use Rattle.std.proofs.Common.{ℕ, zero, suc, ◌≡◌, ◌≢◌, ◌<◌, ◌≤◌, ◌==◌, ◌↔◌, Bool, true, false, cond, ◌&&◌, List, [], ◌∷◌, length, get_or, count_by, Any}
+use Rattle.std.proofs.Common.{ℕ, zero, suc, ◌≡◌, ◌≢◌, ◌<◌, ◌≤◌, ◌==◌, ◌↔◌, Bool, true, false, cond, ◌&&◌, List, [], ◌∷◌, length, get_or, count_by, Any, Contains}
 use Rattle.std.proofs.Common.{refl, sym, ◌∙◌, arith}
 use Rattle.std.proofs.lemmas.Bool.{eq-eqb, eqb-true}
 use Rattle.std.proofs.lemmas.List.Sums.{sum_by-cons}
 use Rattle.md_name.specs.Names.{unique_of}
-use Rattle.md_system.specs.Checks.{is_of, is_of_in, IsElsewhere}
+use Rattle.std.proofs.lemmas.Slice.Eq.{bytes_eq-Decides}
+use Rattle.md_system.specs.Checks.{is_message, is_of, is_of_in, IsElsewhere}
 use Rattle.md_system.specs.declared.seen.Seen.{Seen}
 
 module _ {X : Type 0} (q r : X → Bool) where
@@ -75,3 +76,20 @@ elsewhere one all = (
   λ some. less-from-apart (is_of (unique_of one.name)) (λ (other : Seen). other.folder == one.folder) all some.0 some.1 some.2 some.3
       (some.4.0, (apart-by some.1.folder one.folder).1 some.4.1),
 )
+
+-- a message that is among these is one of its unique name in its folder
+itself : (one : Seen) → is_message one ≡ true → is_of_in one.folder (unique_of one.name) one ≡ true
+itself one message = λ i. (message i && (bytes_eq-Decides (unique_of one.name) (unique_of one.name)).1 refl i) && eq-eqb one.folder one.folder refl i
+
+-- a message that is twice in its folder has a twin
+pub twin-if-twice : (one : Seen) (all : List Seen) → 1 < count_by (is_of_in one.folder (unique_of one.name)) all
+    → 1 < count_by (is_of (unique_of one.name)) all
+twin-if-twice one all twice = omega (arith, twice, fewer (is_of (unique_of one.name)) (λ (other : Seen). other.folder == one.folder) all)
+
+-- and so has one that is in another folder too
+pub twin-if-elsewhere : (one : Seen) (all : List Seen) → Contains all one → is_message one ≡ true → Any (IsElsewhere one) all
+    → 1 < count_by (is_of (unique_of one.name)) all
+twin-if-elsewhere one all here message some =
+    let less = (elsewhere one all).1 some in
+    let self = less-from-apart (is_of_in one.folder (unique_of one.name)) (λ (other : Seen). false) all here.0 one here.1 here.2 (itself one message, refl) in
+    omega (arith, less, self)

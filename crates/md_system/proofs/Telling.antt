@@ -5,7 +5,8 @@ use Rattle.std.proofs.lemmas.List.{take_all, take_more}
 use Rattle.std.proofs.lemmas.List.Elements.{Contains-append_left, Contains-push, Contains-push_cases}
 use Rattle.md_dirs.specs.Rows.{is_old}
 use Rattle.md_dirs.specs.declared.paths.Place.TheVariants.{Tmp}
-use Rattle.md_system.specs.Checks.{Breaks, IsFlawOf, IsUnused, Tells}
+use Rattle.md_system.specs.Checks.{Breaks, IsFlawOf, IsUnused}
+use Rattle.md_system.specs.Gathering.{Tells}
 use Rattle.md_system.specs.declared.flaw.Flaw.{Flaw}
 use Rattle.md_system.specs.declared.flaw.FlawKind.{FlawKind}
 use Rattle.md_system.specs.declared.flaw.FlawKind.TheVariants as flaw

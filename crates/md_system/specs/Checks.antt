@@ -1,11 +1,10 @@
 -- What breaks the format in folders of which all names were read.
 use Rattle.std.specs.Prelude.{◌≡◌, ◌≢◌, ◌<◌, ◌↔◌, ◌⊎◌, ℕ, Bool, false, ◌&&◌, ◌==◌, List, Any, Contains, IsTrue, count_by}
 use Rattle.std.specs.List.Sorted.{IsStrictlySortedBy}
-use Rattle.std.specs.Ordering.{nat_cmp, bool_cmp, ordering_then}
+use Rattle.std.specs.Ordering.{nat_cmp, ordering_then}
 use Rattle.std.specs.Str.{bytes_eq}
 use Rattle.std.specs.declared.cmp.Ordering.{Ordering}
 use Rattle.md_name.specs.Names.{unique_of, is_message_name}
-use Rattle.md_dirs.specs.Index.{name_cmp}
 use Rattle.md_dirs.specs.Path.{path_of, path_cmp}
 use Rattle.md_dirs.specs.Rows.{is_old}
 use Rattle.md_dirs.specs.declared.paths.Path.{Path}
@@ -86,14 +85,3 @@ flaw_cmp f g = ordering_then (path_cmp (path_in f) (path_in g)) (nat_cmp (kind_i
 pub record AreFlaws (seen : List Seen) (tmp : List InTmp) (now : ℕ) (flaws : List Flaw) : Type 0 where
   pub each : (f : Flaw) → Contains flaws f ↔ IsFlaw seen tmp now f
   pub order : IsStrictlySortedBy flaw_cmp flaws
-
--- what was told, and after it just what has a property besides
-abbrev pub Tells : (Flaw → Type 0) → List Flaw → List Flaw → Type 0
-Tells P old new = (f : Flaw) → Contains new f ↔ (Contains old f ⊎ P f)
-
--- messages of one unique name stand side by side, and so do those of one folder among them
-abbrev pub unique_cmp : Seen → Seen → Ordering
-unique_cmp a b = ordering_then (bool_cmp a.is_file b.is_file) (name_cmp (unique_of a.name) (unique_of b.name))
-
-abbrev pub alike_cmp : Seen → Seen → Ordering
-alike_cmp a b = ordering_then (unique_cmp a b) (nat_cmp a.folder b.folder)

@@ -1,5 +1,5 @@
 -- How a name of new or cur breaks the format by itself.
-use Rattle.std.specs.Prelude.{◌≡◌, ◌≢◌, ◌<◌, ℕ, List, Option, Some, None, length, true}
+use Rattle.std.specs.Prelude.{◌≡◌, ◌≢◌, ◌<◌, ℕ, List, Option, Some, None, codes, length, true}
 use Rattle.std.specs.Str.{IsUtf8}
 use Rattle.md_name.specs.Names.{begins_with_dot, flagged, split_of}
 use Rattle.md_name.specs.declared.info.Info.{Info}
@@ -39,3 +39,16 @@ HasFlaw place name flaw.FlagsOutOfOrder = AreFlagsOutOfOrder name (split_of name
 HasFlaw place name flaw.NotText = ¬ (IsUtf8 name)
 HasFlaw place name flaw.LongName = 255 < length name
 HasFlaw place name _ = ⊥
+
+-- what a kind is, for people
+abbrev pub kind_text : FlawKind → List ℕ
+kind_text flaw.TwiceInFolder = codes "its unique name is in this folder twice"
+kind_text flaw.InOtherFolders = codes "its unique name is in another folder too"
+kind_text flaw.Unused = codes "it was not used for 36 hours"
+kind_text flaw.NotAFile = codes "it is no regular file"
+kind_text flaw.DotName = codes "its name begins with a dot"
+kind_text flaw.InfoInNew = codes "it has info in new"
+kind_text flaw.NoInfo = codes "it has no info in cur"
+kind_text flaw.FlagsOutOfOrder = codes "its flags are not in order"
+kind_text flaw.NotText = codes "its name is not UTF-8"
+kind_text flaw.LongName = codes "its name is longer than 255 bytes"

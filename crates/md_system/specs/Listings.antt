@@ -30,7 +30,8 @@ names_of listing = map (λ m. m.name) listing
 abbrev pub IsInOrder : List Listed → Type 0
 IsInOrder listing = IsSortedByKey (λ m. unique_of m.name) name_cmp listing
 
--- These are the messages of a folder whose new and cur have these names: each is listed once, in order of the bytes of their unique parts.
+-- These are the names of a folder whose new and cur have these: all of cur, and those of new whose unique part no name of cur has, in order
+-- of the bytes of their unique parts.
 pub record IsListing (news curs : List (List ℕ)) (listing : List Listed) : Type 0 where
   pub each : IsPermutation (listed_of news curs) listing
   pub order : IsInOrder listing

@@ -2,7 +2,8 @@
 ghost use Rattle.std.specs.Prelude.{◌≡◌, ◌↔◌, IsTrue, IfOk, OnOk, Contains, Any};
 ghost use Rattle.std.specs.List.Sorted.{IsSorted, IsStrictlySortedBy};
 ghost use Rattle.md_dirs.specs.Path.{path_cmp};
-ghost use Rattle.md_system.specs.Checks.{alike_cmp, AreFlaws, Breaks, flaw_cmp, is_message as is_message_by, IsElsewhere, IsFlawOf, IsUnused, path_in, Tells};
+ghost use Rattle.md_system.specs.Checks.{AreFlaws, Breaks, flaw_cmp, is_message as is_message_by, IsElsewhere, IsFlawOf, IsUnused, path_in};
+ghost use Rattle.md_system.specs.Gathering.{alike_cmp, HasTwin, Tells};
 ghost use Rattle.md_system.specs.declared.flaw.Flaw.{Flaw};
 
 use crate::flaw::{Flaw, FlawKind};
@@ -63,11 +64,13 @@ fn push_flaws(
     one: &Seen,
     flaws: &mut Vec<Flaw>,
 ) -> Result<(), AllocError>
-    requires { IsSorted alike_cmp seen.now }
+    requires order { IsSorted alike_cmp seen.now }
+    requires here { Contains seen.now one.now }
     ensures { OnOk result (Tells (IsFlawOf seen.now one.now) flaws.old.items flaws.new.items) }
 {
+    let has_twin = has_twin(seen, one);
     for kind in SEEN_KINDS {
-        if breaks(alloc, seen, one, kind)? {
+        if breaks(alloc, seen, one, has_twin, kind)? {
             flaws.push(Flaw {
                 folder: one.folder,
                 place: one.place,
@@ -79,14 +82,30 @@ fn push_flaws(
     Ok(())
 }
 
-// Whether one of these names breaks the format so.
-fn breaks(alloc: Global, seen: &[Seen], one: &Seen, kind: FlawKind) -> Result<bool, AllocError>
+// Whether it is a message, and another of any folder has its unique name. Mostly none has, and no more is looked for.
+fn has_twin(seen: &[Seen], one: &Seen) -> bool
     requires { IsSorted alike_cmp seen.now }
+    ensures { IsTrue result ↔ HasTwin seen.now one.now }
+{
+    is_message(one) && count_everywhere(seen, one) > 1
+}
+
+// Whether one of these names breaks the format so.
+fn breaks(
+    alloc: Global,
+    seen: &[Seen],
+    one: &Seen,
+    has_twin: bool,
+    kind: FlawKind,
+) -> Result<bool, AllocError>
+    requires order { IsSorted alike_cmp seen.now }
+    requires here { Contains seen.now one.now }
+    requires twin { IsTrue has_twin ↔ HasTwin seen.now one.now }
     ensures { IfOk result (λ is. IsTrue is ↔ Breaks seen.now one.now kind) }
 {
     match kind {
-        FlawKind::TwiceInFolder => Ok(is_message(one) && count_in_folder(seen, one) > 1),
-        FlawKind::InOtherFolders => Ok(is_message(one) && is_elsewhere(seen, one)),
+        FlawKind::TwiceInFolder => Ok(has_twin && count_in_folder(seen, one) > 1),
+        FlawKind::InOtherFolders => Ok(has_twin && is_elsewhere(seen, one)),
         FlawKind::NotAFile => Ok(!one.is_file),
         FlawKind::Unused => Ok(false),
         _ => Ok(one.is_file && has_flaw(alloc, one.place, one.name.as_slice(), kind)?),

@@ -2,7 +2,8 @@
 ghost use Rattle.std.specs.Prelude.{◌≡◌, count_by, IsTrue};
 ghost use Rattle.std.specs.List.Sorted.{IsPermutation, IsSorted};
 ghost use Rattle.md_name.specs.Names.{unique_of};
-ghost use Rattle.md_system.specs.Checks.{alike_cmp, is_message as is_message_by, is_of, is_of_in, unique_cmp};
+ghost use Rattle.md_system.specs.Checks.{is_message as is_message_by, is_of, is_of_in};
+ghost use Rattle.md_system.specs.Gathering.{alike_cmp, unique_cmp};
 
 use md_dirs::{Bytes, Place, Row};
 use md_name::{is_message as is_message_name, unique_part};

@@ -1,5 +1,6 @@
 use Rattle.std.proofs.Common.{List, [], Contains, Any, inl, inr, subst, arith}
-use Rattle.md_system.specs.Checks.{IsFlaw, IsFlawOf, IsUnused, Tells}
+use Rattle.md_system.specs.Checks.{IsFlaw, IsFlawOf, IsUnused}
+use Rattle.md_system.specs.Gathering.{Tells}
 use Rattle.md_system.specs.declared.flaw.Flaw.{Flaw}
 use Rattle.md_system.specs.declared.seen.InTmp.{InTmp}
 use Rattle.md_system.specs.declared.seen.Seen.{Seen}

@@ -1,5 +1,6 @@
 use Rattle.std.proofs.Common.{ℕ, take, List, Contains, ◌≡◌, ◌+◌, ◌++◌, ◌∷◌, [], ◌<◌, get_or, refl, sym, ap, subst, ◌∙◌, arith}
-use Rattle.md_system.specs.Checks.{Breaks, IsFlawOf, Tells}
+use Rattle.md_system.specs.Checks.{Breaks, IsFlawOf}
+use Rattle.md_system.specs.Gathering.{Tells}
 use Rattle.md_system.specs.declared.flaw.Flaw.{Flaw}
 use Rattle.md_system.specs.declared.flaw.FlawKind.TheVariants.{TwiceInFolder}
 use Rattle.md_system.proofs.Telling.{renamed, told, told-all, told-more, told-none, seen_kinds, tells-as, tells-both, tells-pushed}

@@ -1,5 +1,6 @@
 use Rattle.std.proofs.Common.{Contains, take}
-use Rattle.md_system.specs.Checks.{IsFlawOf, Tells}
+use Rattle.md_system.specs.Checks.{IsFlawOf}
+use Rattle.md_system.specs.Gathering.{Tells}
 use Rattle.md_system.proofs.flaws.push_flaws.Given as goal
 
 abbrev pub invariant-loop-kind : goal.invariant-loop-kind

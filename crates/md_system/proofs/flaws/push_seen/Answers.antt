@@ -1,6 +1,7 @@
 use Rattle.std.proofs.Common.{take, Any, List, ◌+◌, ◌<◌, ◌≤◌, length, subst, arith}
 use Rattle.std.proofs.lemmas.List.{take_all}
-use Rattle.md_system.specs.Checks.{IsFlawOf, Tells}
+use Rattle.md_system.specs.Checks.{IsFlawOf}
+use Rattle.md_system.specs.Gathering.{Tells}
 use Rattle.md_system.specs.declared.seen.Seen.{Seen}
 use Rattle.md_system.proofs.Telling.{any-more, tells-both}
 use Rattle.md_system.proofs.flaws.push_seen.Goals as goal

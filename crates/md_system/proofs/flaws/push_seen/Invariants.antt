@@ -1,5 +1,6 @@
 use Rattle.std.proofs.Common.{Any, take}
-use Rattle.md_system.specs.Checks.{IsFlawOf, Tells}
+use Rattle.md_system.specs.Checks.{IsFlawOf}
+use Rattle.md_system.specs.Gathering.{Tells}
 use Rattle.md_system.proofs.flaws.push_seen.Given as goal
 
 abbrev pub invariant-loop-one : goal.invariant-loop-one

@@ -1,6 +1,7 @@
 use Rattle.std.proofs.Common.{ℕ, false, ap, sym, ◌∙◌, take, Any, List, ◌≡◌, ◌+◌, ◌++◌, ◌∷◌, [], ◌≤◌, length, subst, arith}
 use Rattle.std.proofs.lemmas.List.{take_all}
-use Rattle.md_system.specs.Checks.{IsUnused, Tells}
+use Rattle.md_system.specs.Checks.{IsUnused}
+use Rattle.md_system.specs.Gathering.{Tells}
 use Rattle.md_system.specs.declared.flaw.Flaw.{Flaw}
 use Rattle.md_system.specs.declared.seen.InTmp.{InTmp}
 use Rattle.md_system.proofs.Telling.{any-none, renamed, tells-as, tells-both, tells-pushed, unused, unused-more}

@@ -1,5 +1,6 @@
 use Rattle.std.proofs.Common.{Any, take}
-use Rattle.md_system.specs.Checks.{IsUnused, Tells}
+use Rattle.md_system.specs.Checks.{IsUnused}
+use Rattle.md_system.specs.Gathering.{Tells}
 use Rattle.md_system.proofs.flaws.push_unused.Given as goal
 
 abbrev pub invariant-loop-file : goal.invariant-loop-file

@@ -2,7 +2,8 @@ use Rattle.std.proofs.Common.{◌≡◌, ◌+◌, count_by, rules, arith}
 use Rattle.std.specs.Ordering.{is_lt, is_le}
 use Rattle.std.proofs.lemmas.List.Sorted.{IsPartitionPoint-from_clause}
 use Rattle.md_name.specs.Names.{unique_of}
-use Rattle.md_system.specs.Checks.{is_of, unique_cmp}
+use Rattle.md_system.specs.Checks.{is_of}
+use Rattle.md_system.specs.Gathering.{unique_cmp}
 use Rattle.md_system.specs.declared.seen.Seen.{Seen}
 use Rattle.md_system.proofs.Alike.{by-unique, unique_total, everywhere}
 use Rattle.md_system.proofs.Counting.{parted-below, parted-upto}

@@ -2,7 +2,8 @@ use Rattle.std.proofs.Common.{◌≡◌, ◌+◌, count_by, rules, arith}
 use Rattle.std.specs.Ordering.{is_lt, is_le}
 use Rattle.std.proofs.lemmas.List.Sorted.{IsPartitionPoint-from_clause}
 use Rattle.md_name.specs.Names.{unique_of}
-use Rattle.md_system.specs.Checks.{alike_cmp, is_of_in}
+use Rattle.md_system.specs.Checks.{is_of_in}
+use Rattle.md_system.specs.Gathering.{alike_cmp}
 use Rattle.md_system.specs.declared.seen.Seen.{Seen}
 use Rattle.md_system.proofs.Alike.{alike_total, in-folder}
 use Rattle.md_system.proofs.Counting.{parted-below, parted-upto}

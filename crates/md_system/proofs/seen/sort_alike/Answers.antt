@@ -1,7 +1,7 @@
 use Rattle.std.proofs.Common.{rules}
 use Rattle.std.specs.Ordering.{is_lt}
 use Rattle.std.proofs.lemmas.List.Sorted.{ranks_by, answers_always}
-use Rattle.md_system.specs.Checks.{alike_cmp}
+use Rattle.md_system.specs.Gathering.{alike_cmp}
 use Rattle.md_system.specs.declared.seen.Seen.{Seen}
 use Rattle.md_system.proofs.Alike.{alike_total}
 use Rattle.md_system.proofs.seen.sort_alike.Goals as goal
