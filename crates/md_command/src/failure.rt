@@ -2,14 +2,13 @@
 ghost use Rattle.std.specs.Prelude.{◌≡◌, ◌++◌, string_bytes, true, None, IfOk, IfSome, OnOk};
 ghost use Rattle.std.specs.Option.{option_copied};
 ghost use Rattle.std_io.specs.IoError.{error_kind};
-ghost use Rattle.md_command.specs.Failures.{failed, says_all, trouble_of_refusal};
+ghost use Rattle.md_command.specs.Failures.{failed, says_all};
 ghost use Rattle.md_command.specs.Lines.{failure_line as line_of, cause_text, subject};
 ghost use Rattle.md_command.specs.Troubles.{trouble_by};
 ghost use Rattle.md_command.specs.declared.trouble.Trouble.TheVariants.{NoMemory};
 
 use crate::escape::push_escaped;
 use crate::trouble::Trouble;
-use md_jobs::CoreError;
 use std::alloc::{AllocError, AllocFailed, Global};
 use std::io;
 use std::io::ErrorKind;
@@ -77,18 +76,6 @@ impl<T: Drop> From<AllocFailed<T>> for Failure {
 
     fn from(_error: AllocFailed<T>) -> Failure {
         Failure::from(Trouble::NoMemory)
-    }
-}
-
-// Jobs are refused only when out of memory.
-impl From<CoreError> for Failure {
-    ghost from_gives = { λ error result. result ≡ failed (trouble_of_refusal error) };
-
-    fn from(error: CoreError) -> Failure {
-        match error {
-            CoreError::NoMemory => Failure::from(Trouble::NoMemory),
-            _ => Failure::from(Trouble::Fault),
-        }
     }
 }
 

@@ -8,6 +8,8 @@ use Rattle.md_disk.specs.declared.cause.Cause.{Cause}
 use Rattle.md_disk.specs.declared.cause.Cause.TheVariants as cause
 use Rattle.md_jobs.specs.declared.answer.Answer.{Answer}
 use Rattle.md_jobs.specs.declared.answer.Answer.TheVariants as answer
+use Rattle.md_jobs.specs.declared.error.CoreError.{CoreError}
+use Rattle.md_jobs.specs.declared.error.CoreError.TheVariants as core
 use Rattle.md_name.specs.declared.error.NameError.{NameError}
 use Rattle.md_name.specs.declared.error.NameError.TheVariants as name
 use Rattle.md_command.specs.Troubles.{trouble_by}
@@ -32,6 +34,11 @@ trouble_of answer.TimedOut = Some TimedOut
 trouble_of answer.TmpGone = Some TmpGone
 trouble_of answer.NameTaken = Some NameTaken
 trouble_of answer.Fault = Some Fault
+
+-- why a job was not run
+abbrev pub trouble_of_refusal : CoreError → Trouble
+trouble_of_refusal core.NoMemory = NoMemory
+trouble_of_refusal _ = Fault
 
 -- why a unique name was not made
 abbrev pub trouble_of_name : NameError → Trouble

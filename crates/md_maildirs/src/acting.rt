@@ -7,7 +7,7 @@ ghost use Rattle.md_command.specs.declared.trouble.Trouble.TheVariants.{NoName};
 ghost use Rattle.md_maildirs.specs.Errands.{IsFor, errand_of};
 
 use crate::boxes::maildirs;
-use crate::causes::{errand_failure, trouble_of};
+use crate::causes::{errand_failure, refused, trouble_of};
 use crate::change::Change;
 use crate::key::parse_key;
 use crate::names::{NAMES, fresh, namer};
@@ -226,7 +226,7 @@ impl<'r, R: Host> Acting<'r, R> {
     ) -> Result<Answer, Failure> {
         let purpose = self.purpose(session)?;
         let unique = Bytes::copied(session.alloc, unique)?;
-        Ok(run_errand(session.alloc, &mut self.disk, 0, unique, purpose, tries)?)
+        run_errand(session.alloc, &mut self.disk, 0, unique, purpose, tries).map_err(refused)
     }
 
     fn purpose(&mut self, session: &Session<'_, R>) -> Result<Purpose, Failure>

@@ -1,10 +1,11 @@
 //! Why a job on a disk has not done what it was for.
 ghost use Rattle.std.specs.Prelude.{◌≡◌};
-ghost use Rattle.md_maildirs.specs.Causes.{trouble_of as trouble_by, trouble_caused as caused_by, trouble_told as told_by, errand_told};
+ghost use Rattle.md_maildirs.specs.Causes.{trouble_of as trouble_by, trouble_caused as caused_by, trouble_of_refusal, trouble_told as told_by, errand_told};
+ghost use Rattle.md_command.specs.Failures.{failed};
 
 use md_command::{Failure, Trouble};
 use md_disk::Cause;
-use md_jobs::Answer;
+use md_jobs::{Answer, CoreError};
 use std::alloc::Global;
 use std::io::ErrorKind;
 
@@ -27,6 +28,16 @@ pub(crate) fn trouble_of(answer: Answer) -> Option<Trouble>
         Answer::TmpGone => Some(Trouble::TmpGone),
         Answer::NameTaken => Some(Trouble::NameTaken),
         Answer::Fault => Some(Trouble::Fault),
+    }
+}
+
+/// Why a job was not run. They are refused only when out of memory.
+pub(crate) fn refused(error: CoreError) -> Failure
+    ensures { result ≡ failed (trouble_of_refusal error) }
+{
+    match error {
+        CoreError::NoMemory => Failure::from(Trouble::NoMemory),
+        _ => Failure::from(Trouble::Fault),
     }
 }
 

@@ -4,7 +4,7 @@ ghost use Rattle.std.specs.List.{flat_map};
 ghost use Rattle.md_maildirs.specs.Rows.{flaw_text};
 
 use crate::boxes::maildirs;
-use crate::causes::failure_caused;
+use crate::causes::{failure_caused, refused};
 use md_command::{Failure, Host, Session, Status, Trouble, print, push_escaped};
 use md_disk::check_folders;
 use md_jobs::DirReply;
@@ -16,7 +16,7 @@ use std::alloc::{AllocError, Global};
 /// where there is one, and before where there is no such maildir or a directory can't be read.
 pub fn checked<R: Host>(session: &Session<'_, R>, maildir: &str) -> Result<Status, Failure> {
     let disk = maildirs(session, &[maildir])?;
-    let (reply, flaws) = check_folders(session.alloc, &disk)?;
+    let (reply, flaws) = check_folders(session.alloc, &disk).map_err(refused)?;
     if reply != DirReply::Ok {
         return Err(failure_caused(session.alloc, Trouble::Fault, disk.system.cause()));
     }

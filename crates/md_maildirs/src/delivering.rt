@@ -3,7 +3,7 @@ ghost use Rattle.std.specs.Prelude.{◌≡◌, None};
 ghost use Rattle.md_command.specs.declared.trouble.Trouble.TheVariants.{Unprinted};
 
 use crate::boxes::{must_be_maildir, target};
-use crate::causes::{failure_caused, trouble_of};
+use crate::causes::{failure_caused, refused, trouble_of};
 use crate::messages::Messages;
 use crate::names::{NAMES, fresh, namer};
 use md_command::{
@@ -105,7 +105,7 @@ impl<'r, R: Host> Sending<'r, R> {
             let unique = fresh(session, &mut self.namer)?;
             let name = unique.again(alloc)?;
             let body = Bytes::copied(alloc, message)?;
-            let answer = deliver(alloc, &mut self.disk, 0, unique, body, CHUNK)?;
+            let answer = deliver(alloc, &mut self.disk, 0, unique, body, CHUNK).map_err(refused)?;
             match trouble_of(answer) {
                 None => return Ok(self.sent(session, name.as_slice())),
                 Some(Trouble::NameTaken) => {}

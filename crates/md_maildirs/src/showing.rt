@@ -4,7 +4,7 @@ ghost use Rattle.md_maildirs.specs.Rows.{path_text, ShowsLine};
 
 use crate::acting::TRIES;
 use crate::boxes::maildirs;
-use crate::causes::failure_caused;
+use crate::causes::{failure_caused, refused};
 use crate::key::{Key, parse_key};
 use crate::row::{Headers, Shape, push_message};
 use md_command::{Failure, Host, Session, Status, Trouble, opened, path_in, print};
@@ -38,7 +38,7 @@ pub fn listed<R: Host>(
     shape: Shape,
 ) -> Result<Status, Failure> {
     let disk = maildirs(session, &[maildir])?;
-    let (reply, all) = list_folder(session.alloc, &disk, 0)?;
+    let (reply, all) = list_folder(session.alloc, &disk, 0).map_err(refused)?;
     if reply != DirReply::Ok {
         return Err(failure_caused(session.alloc, Trouble::Fault, disk.system.cause()));
     }

@@ -29,7 +29,8 @@ pub struct Logged<S> {
 impl<S: System> Logged<S> {
     /// A system of which no call was made.
     pub fn over(system: S) -> Self
-        ensures { result.log.entries ≡ [] }
+        ensures log { result.log.entries ≡ [] }
+        ensures system { result.system ≡ system }
     {
         Logged {
             system,

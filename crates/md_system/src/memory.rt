@@ -22,7 +22,9 @@ pub type InMemory<D> = Logged<Memory<D>>;
 impl<D: Dirs> Logged<Memory<D>> {
     /// These directories, of which no call was made.
     pub fn new(dirs: D, second: u64) -> Self
-        ensures { result.log.entries ≡ [] }
+        ensures log { result.log.entries ≡ [] }
+        ensures dirs { result.system.dirs ≡ dirs }
+        ensures second { result.system.second ≡ second }
     {
         Logged::over(Memory { dirs, second })
     }

@@ -1,13 +1,20 @@
 -- A log that grows twice.
-use Rattle.std.proofs.Common.{◌≡◌, ◌⊎◌, inl, inr, ◌<◌, ◌++◌, ◌+◌, ℕ, List, [], length, take, flat_map, get_or, None, Some, option_map, slice_get, sym, subst, ◌∙◌, ap, append_assoc, refl}
+use Rattle.std.proofs.Common.{◌≡◌, ◌⊎◌, inl, inr, ◌<◌, ◌++◌, ◌+◌, ℕ, List, [], length, take, flat_map, get_or, Option, None, Some, option_map, slice_get, sym, subst, ◌∙◌, ap, append_assoc, refl}
+use Rattle.std.specs.Fmt.{decimal}
+use Rattle.std.specs.Prelude.{codes}
 use Rattle.std.proofs.lemmas.List.{flat_map_more, take_more}
+use Rattle.md_core.specs.declared.Answer.{Answer}
+use Rattle.md_core.specs.declared.Answer.TheVariants as answer
 use Rattle.md_core.specs.declared.Change.{Change}
+use Rattle.md_core.specs.declared.Event.{Event}
 use Rattle.md_script.specs.declared.error.PlayKind.TheVariants.{BadNumber, NoMemory}
 use Rattle.md_core.specs.declared.Change.TheVariants as change
 use Rattle.md_dirs.specs.declared.paths.Place.{Place}
 use Rattle.md_trace.specs.declared.noted.Noted.{Noted}
 use Rattle.md_trace.specs.declared.noted.Noted.TheVariants as noted
+use Rattle.md_trace.specs.declared.answers.Subject.{Subject}
 use Rattle.md_trace.specs.declared.text.Log.{Log}
+use Rattle.md_trace.specs.Answers.{answer_lines_of, answered_text, copied_text, missed_text, moved_text}
 use Rattle.md_trace.specs.Growing.{Grows, GrowsIf, escape_name, name_text, folder_in, folder_text, message_text, path_text}
 use Rattle.md_trace.specs.Steps.{change_text, noted_text}
 
@@ -136,3 +143,62 @@ same_change {bytes} {l} {m} grown change.Same = refl
 -- so a change is told as before
 pub at_change : {bytes : List ℕ} {l m n : Log} → Grows bytes l m → (c : Change) → Grows (change_text m c) m n → Grows (change_text l c) m n
 at_change {bytes} {l} {m} {n} grown c more = subst (λ text. Grows text m n) (same_change grown c) more
+
+same_copied : (l m : Log) → m.folders ≡ l.folders → (s : Subject) (job : ℕ) (to : Option ℕ) (fresh : Option (List ℕ))
+    → copied_text m s job to fresh ≡ copied_text l s job to fresh
+same_copied l m same s job (Some folder) (Some unique) = ap (λ folders. copied_text (record l { folders = folders }) s job (Some folder) (Some unique)) same
+same_copied l m same s job (Some folder) None = ap (λ folders. copied_text (record l { folders = folders }) s job (Some folder) None) same
+same_copied l m same s job None fresh = ap (λ folders. copied_text (record l { folders = folders }) s job None fresh) same
+
+same_moved : (l m : Log) → m.folders ≡ l.folders → (s : Subject) (job : ℕ) (to : Option ℕ) (fresh : Option (List ℕ))
+    → moved_text m s job to fresh ≡ moved_text l s job to fresh
+same_moved l m same s job (Some folder) None = ap (λ folders. moved_text (record l { folders = folders }) s job (Some folder) None) same
+same_moved l m same s job (Some folder) (Some unique) = ap (λ folders. moved_text (record l { folders = folders }) s job (Some folder) (Some unique)) same
+same_moved l m same s job None fresh = ap (λ folders. moved_text (record l { folders = folders }) s job None fresh) same
+
+same_missed : (l m : Log) → m.folders ≡ l.folders → (s : Subject) (job : ℕ) (to : Option ℕ) → missed_text m s job to ≡ missed_text l s job to
+same_missed l m same s job (Some folder) = ap (λ folders. missed_text (record l { folders = folders }) s job (Some folder)) same
+same_missed l m same s job None = ap (λ folders. missed_text (record l { folders = folders }) s job None) same
+
+same_answer : (l m : Log) → m.folders ≡ l.folders → (s : Subject) (job : ℕ) (a : Answer) → answered_text m s job a ≡ answered_text l s job a
+same_answer l m same s job answer.Copied = same_copied l m same s job s.to s.fresh
+same_answer l m same s job answer.Moved = same_moved l m same s job s.to s.fresh
+same_answer l m same s job answer.NotThere = same_missed l m same s job s.to
+same_answer l m same s job answer.Delivered =
+    ap (λ folders. answered_text (record l { folders = folders }) s job answer.Delivered) same
+same_answer l m same s job (answer.Flags flags) =
+    ap (λ folders. answered_text (record l { folders = folders }) s job (answer.Flags flags)) same
+same_answer l m same s job answer.Expunged =
+    ap (λ folders. answered_text (record l { folders = folders }) s job answer.Expunged) same
+same_answer l m same s job (answer.Cleaned files) =
+    ap (λ folders. answered_text (record l { folders = folders }) s job (answer.Cleaned files)) same
+same_answer l m same s job answer.NotTrashed =
+    ap (λ folders. answered_text (record l { folders = folders }) s job answer.NotTrashed) same
+same_answer l m same s job answer.OtherInfo =
+    ap (λ folders. answered_text (record l { folders = folders }) s job answer.OtherInfo) same
+same_answer l m same s job answer.Lost =
+    ap (λ folders. answered_text (record l { folders = folders }) s job answer.Lost) same
+same_answer l m same s job answer.TimedOut =
+    ap (λ folders. answered_text (record l { folders = folders }) s job answer.TimedOut) same
+same_answer l m same s job answer.TmpGone =
+    ap (λ folders. answered_text (record l { folders = folders }) s job answer.TmpGone) same
+same_answer l m same s job answer.NameTaken =
+    ap (λ folders. answered_text (record l { folders = folders }) s job answer.NameTaken) same
+same_answer l m same s job answer.Fault =
+    ap (λ folders. answered_text (record l { folders = folders }) s job answer.Fault) same
+
+-- so an answer is told as before
+pub at_answer : {F : Type 0} {bytes : List ℕ} {l m n : Log} → GrowsIf F bytes l m → (s : Subject) (job : ℕ) (a : Answer)
+    → Grows (answered_text m s job a) m n → Grows (answered_text l s job a) m n
+at_answer {F} {bytes} {l} {m} {n} grown s job a more = subst (λ text. Grows text m n) (same_answer l m grown.folders s job a) more
+
+same_line : (l m : Log) → m.folders ≡ l.folders → (event : Event) (a : Answer) (of : Option Subject)
+    → answer_lines_of m event a of ≡ answer_lines_of l event a of
+same_line l m same event a None = refl
+same_line l m same event a (Some s) =
+    ap (λ text. decimal event.now ++ codes " job" ++ text ++ codes "\n") (same_answer l m same s event.job a)
+
+-- and so is its line
+pub at_line : {F : Type 0} {bytes : List ℕ} {l m n : Log} → Grows bytes l m → (event : Event) (a : Answer) (of : Option Subject)
+    → GrowsIf F (answer_lines_of m event a of) m n → GrowsIf F (answer_lines_of l event a of) m n
+at_line {F} {bytes} {l} {m} {n} grown event a of more = subst (λ text. GrowsIf F text m n) (same_line l m grown.folders event a of) more

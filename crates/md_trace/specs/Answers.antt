@@ -1,13 +1,15 @@
 -- What a log says of the answers of jobs.
-use Rattle.std.specs.Prelude.{ℕ, List, ◌++◌, Option, None, Some, codes}
+use Rattle.std.specs.Prelude.{ℕ, ◌-◌, ◌≤◌, List, [], ◌++◌, Option, None, Some, codes, slice_get}
 use Rattle.std.specs.Fmt.{decimal}
 use Rattle.md_core.specs.declared.Answer.{Answer}
 use Rattle.md_core.specs.declared.Answer.TheVariants as answer
 use Rattle.md_core.specs.declared.Call.{Call}
 use Rattle.md_core.specs.declared.Call.TheVariants as call
+use Rattle.md_core.specs.declared.Event.{Event}
+use Rattle.md_script.specs.Texts.{answer_text}
 use Rattle.md_trace.specs.declared.answers.Subject.{Subject}
 use Rattle.md_trace.specs.declared.text.Log.{Log}
-use Rattle.md_trace.specs.Growing.{folder_in, message_text, told_text}
+use Rattle.md_trace.specs.Growing.{folder_in, message_text, most, told_text}
 
 -- the message of a call, and the one that it makes of it elsewhere; nothing for a clean
 abbrev pub subject_of : Call → Option Subject
@@ -53,3 +55,29 @@ answered_text log s job answer.Delivered = own_text log s job answer.Delivered
 answered_text log s job (answer.Flags flags) = own_text log s job (answer.Flags flags)
 answered_text log s job answer.Expunged = own_text log s job answer.Expunged
 answered_text log s job a = failed_text log s job
+
+-- the line of an answer that a job has by a step
+abbrev pub answer_line : Log → Event → Answer → Subject → List ℕ
+answer_line log event a s = decimal event.now ++ codes " job" ++ answered_text log s event.job a ++ codes "\n"
+
+-- it has one if it is about a message
+abbrev pub answer_lines_of : Log → Event → Answer → Option Subject → List ℕ
+answer_lines_of log event a None = []
+answer_lines_of log event a (Some s) = answer_line log event a s
+
+-- and before that a comment in its own words
+abbrev pub answer_lines : Log → Event → Answer → Option Subject → List ℕ
+answer_lines log event a of = codes "# answer " ++ answer_text a ++ codes "\n" ++ answer_lines_of log event a of
+
+-- a line has a moment of 19 digits at most
+abbrev pub IsFitAnswer : Event → Option Subject → Type 0
+IsFitAnswer event None = Unit {0}
+IsFitAnswer event (Some s) = event.now ≤ most
+
+-- what the answer of a job is about, by the jobs' numbers from 1
+abbrev pub subject_at : Option (Option Subject) → Option Subject
+subject_at None = None
+subject_at (Some of) = of
+
+abbrev pub subject_in : List (Option Subject) → ℕ → Option Subject
+subject_in subjects job = subject_at (slice_get subjects (job - 1))

@@ -3,14 +3,35 @@
 //! A log says less than an answer does, so each answer is also a comment, in the words of docs/SCRIPT.md. An answer that has no word of the
 //! log is `failed`, which says that nothing was done to the message: the job had no effect. `notthere` of a log speaks of the whole folder.
 //! So it stands only for a job that looked through new and cur, a move or a copy; a job that looks in one of them alone has `failed`.
-ghost use Rattle.std.specs.Prelude.{◌≡◌, IfOk};
-ghost use Rattle.md_trace.specs.Growing.{Grows};
-ghost use Rattle.md_trace.specs.Answers.{answered_text, copied_text, failed_text, missed_text, moved_text, own_text, subject_of};
+ghost use Rattle.std.specs.Prelude.{◌≡◌, ◌≤◌, IfOk};
+ghost use Rattle.std.specs.Option.{option_copied};
+ghost use Rattle.md_trace.specs.Growing.{Grows, GrowsIf, most};
+ghost use Rattle.md_trace.specs.Answers.{answer_line, answered_text, answer_lines, answer_lines_of, copied_text, failed_text, IsFitAnswer, missed_text, moved_text, own_text, subject_of};
 
+use crate::steps::push_begin;
 use crate::text::Log;
-use md_core::{Answer, Call};
+use md_core::{Answer, Call, Event};
 use md_dirs::Bytes;
 use std::alloc::{AllocError, Global};
+
+/// The answer that a job has by a step: a comment in its own words, and a line if it is about a message.
+pub(crate) fn push_answered(log: &mut Log, event: Event, answer: &Answer, subject: Option<&Subject>)
+    ensures { let of = option_copied subject.entry in
+        GrowsIf (IsFitAnswer event of) (answer_lines log.old event answer.now of) log.old log.new }
+{
+    log.push_comment(*answer);
+    push_line_of(log, event, *answer, subject);
+}
+
+fn push_line_of(log: &mut Log, event: Event, answer: Answer, subject: Option<&Subject>)
+    ensures { let of = option_copied subject.entry in
+        GrowsIf (IsFitAnswer event of) (answer_lines_of log.old event answer of) log.old log.new }
+{
+    match subject {
+        Some(subject) => subject.push_line(log, event, answer),
+        None => {}
+    }
+}
 
 /// The message that the answer to a call is about.
 #[derive(Drop)]
@@ -56,8 +77,16 @@ impl Subject {
         }))
     }
 
+    fn push_line(&self, log: &mut Log, event: Event, answer: Answer)
+        ensures { GrowsIf (event.now ≤ most) (answer_line log.old event answer self.now) log.old log.new }
+    {
+        push_begin(log, event);
+        self.push_answer(log, event.job, answer);
+        log.push(b"\n");
+    }
+
     /// Appends `JOB answer`, the words of an answer, and the message that they are about: the copy, where there is one.
-    pub(crate) fn push_answer(&self, log: &mut Log, job: u64, answer: Answer)
+    fn push_answer(&self, log: &mut Log, job: u64, answer: Answer)
         ensures { Grows (answered_text log.old self.now job answer) log.old log.new }
     {
         match answer {

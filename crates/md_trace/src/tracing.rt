@@ -1,8 +1,13 @@
 //! A script, played for its log.
-use crate::answers::Subject;
+ghost use Rattle.std.specs.Prelude.{◌≡◌, ◌++◌, ◌∷◌, [], OnOk};
+ghost use Rattle.std.specs.Option.{option_copied};
+ghost use Rattle.md_trace.specs.Answers.{answer_lines, IsFitAnswer, subject_in as subject_by, subject_of};
+ghost use Rattle.md_trace.specs.Growing.{GrowsIf};
+
+use crate::answers::{Subject, push_answered};
 use crate::noted::NotedDirs;
 use crate::rows::{Form, push_rows};
-use crate::steps::{push_begin, push_effect, push_step};
+use crate::steps::{push_effect, push_step};
 use crate::text::Log;
 use md_core::{Answer, Call, Event, StepOut, World};
 use md_dirs::{HashSeed, IndexDirs};
@@ -81,20 +86,22 @@ impl<D: Storage> Observer<NotedDirs<D>> for Tracer {
 }
 
 impl Tracer {
-    fn keep_subject(&mut self, call: &Call) -> Result<(), AllocError> {
+    fn keep_subject(&mut self, call: &Call) -> Result<(), AllocError>
+        ensures subjects { OnOk result (self.new.subjects.items ≡ self.old.subjects.items ++ subject_of call.now ∷ []) }
+        ensures log { self.new.log ≡ self.old.log }
+    {
         let subject = Subject::of(self.log.alloc(), call)?;
         self.subjects.push(subject)?;
         Ok(())
     }
 
-    fn push_answer(&mut self, event: Event, answer: &Answer) {
-        self.log.push_comment(*answer);
-        let job = (event.job as usize).saturating_sub(1);
-        if let Some(Some(subject)) = self.subjects.get(job) {
-            push_begin(&mut self.log, event);
-            subject.push_answer(&mut self.log, event.job, *answer);
-            self.log.push(b"\n");
-        }
+    fn push_answer(&mut self, event: Event, answer: &Answer)
+        ensures log { let of = subject_by self.old.subjects.items event.job in
+            GrowsIf (IsFitAnswer event of) (answer_lines self.old.log event answer.now of) self.old.log self.new.log }
+        ensures subjects { self.new.subjects ≡ self.old.subjects }
+    {
+        let subject = subject_in(self.subjects.as_slice(), event.job);
+        push_answered(&mut self.log, event, answer, subject);
     }
 
     // The comment `# state`, and one for each name that is there, where states are asked for.
@@ -104,4 +111,11 @@ impl Tracer {
             push_rows(&mut self.log, world.dirs(), Form::State);
         }
     }
+}
+
+// What the answer of a job is about, by the jobs' numbers from 1.
+fn subject_in(subjects: &[Option<Subject>], job: u64) -> Option<&Subject>
+    ensures { option_copied result ≡ subject_by subjects.now job }
+{
+    subjects.get((job as usize).saturating_sub(1))?.as_ref()
 }
