@@ -21,8 +21,8 @@ pub record Grows (bytes : List ℕ) (old new : Log) : Type 0 where
   pub line : new.line ≡ old.line
   pub before : new.before ≡ old.before
 
--- The log has these bytes more, if they are fit for a log. One that was refused stays as it is. One that is refused now lacks memory, or has
--- a bad number since they are not fit, and may have a part of them.
+-- The log has these bytes more, if they are fit for a log. One that was refused stays as it is. One that is refused now lacks memory, or
+-- has a bad number since they are not fit, and may have a part of them.
 pub record GrowsIf (AreFit : Type 0) (bytes : List ℕ) (old new : Log) : Type 0 where
   pub stays : (kind : PlayKind) → old.refused ≡ Some kind → new ≡ old
   pub text : new.refused ≡ None → AreFit × (new.text.items ≡ old.text.items ++ bytes)
